@@ -1,0 +1,50 @@
+-- The content of a message (4.2; 01, "Message packet"): a run of data fields, each FID 4 bytes, length 2, that many bytes.
+use Prim.Native.Nat.{ℕ, zero, suc, _+_, _-_, _≤_}
+use mathlib.Core.List.{List, [], _∷_}
+use mathlib.Core.Bool.{Bool, _&&_}
+use lib.ListN.{length, drop}
+use lib.Dec.{eqb}
+use Rattle.ftd.specs.Bytes.{be16Of, be32Of}
+use Rattle.ftd.specs.Runs.{Form, Run, runOf, ended}
+use Rattle.ftd.specs.declared.fields.FieldPlace.{FieldPlace}
+use Rattle.ftd.specs.declared.fields.FieldPlace.the-variants.{NoField, Field}
+
+-- ─── The form of a field ───
+
+unfoldable pub field : Form
+field = record { head = 6; follow = λ l. be16Of l 4 }
+
+-- The fields of a content, each with its FID and length.
+abbrev pub fieldsOf : List ℕ → List (List ℕ)
+fieldsOf content = runOf field content .entries
+
+-- The FID of a field, and its bytes without FID and length.
+abbrev pub fidOf : List ℕ → ℕ
+fidOf f = be32Of f 0
+
+abbrev pub bytesOf : List ℕ → List ℕ
+bytesOf f = drop 6 f
+
+-- ─── Refusal 7: the content is exactly that many fields ───
+
+abbrev pub exactly : Run → ℕ → Bool
+exactly r count = ended r && eqb (length (r .entries)) count
+
+unfoldable pub exactRun : List ℕ → ℕ → Bool
+exactRun content count = exactly (runOf field content) count
+
+-- ─── Field i, counted from 0 ───
+
+-- In a list of fields that starts at `at`: FID, and place and length of the bytes without FID and length.
+abbrev pub placeIn : ℕ → List (List ℕ) → ℕ → FieldPlace
+placeIn at [] i = NoField
+placeIn at (f ∷ fs) zero = Field (fidOf f) (at + 6) (length f - 6)
+placeIn at (f ∷ fs) (suc i) = placeIn (at + length f) fs i
+
+unfoldable pub placeOf : List ℕ → ℕ → FieldPlace
+placeOf content i = placeIn 0 (fieldsOf content) i
+
+-- The bytes lie inside the content.
+abbrev pub FieldInside : List ℕ → FieldPlace → Type 0
+FieldInside content NoField = Unit
+FieldInside content (Field fid start len) = start + len ≤ length content

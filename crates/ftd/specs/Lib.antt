@@ -1,0 +1,6 @@
+pub mod Bytes
+pub mod Refusals
+pub mod Runs
+pub mod Tags
+pub mod Fields
+pub mod Packets

@@ -1,0 +1,13 @@
+-- The paper's number of each refusal (01, Refusal table).
+use Prim.Native.Nat.{ℕ}
+use Rattle.ftd.specs.declared.refusal.Refusal.{Refusal}
+use Rattle.ftd.specs.declared.refusal.Refusal.the-variants.{LongExtension, BrokenTag, BodyLength, Version, ChainLetter, ContentLength, FieldRun}
+
+abbrev pub numberOf : Refusal → ℕ
+numberOf LongExtension = 1
+numberOf BrokenTag = 2
+numberOf BodyLength = 3
+numberOf Version = 4
+numberOf ChainLetter = 5
+numberOf ContentLength = 6
+numberOf FieldRun = 7

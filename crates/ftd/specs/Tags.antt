@@ -1,0 +1,101 @@
+-- The extension of a packet (4.1; 01, "Packet"): a run of tags, each a kind byte, a length byte and that many bytes of data.
+use Prim.Native.Nat.{ℕ, _+_, _-_, _≤_}
+use mathlib.Core.List.{List, [], _∷_}
+use mathlib.Core.Bool.{Bool, true, false, cond, not, _&&_, _||_}
+use lib.ListN.{length, getD}
+use lib.Dec.{leb, eqb}
+use Rattle.ftd.specs.Bytes.{be32Of}
+use Rattle.ftd.specs.Runs.{Form, Run, runOf, ended}
+use Rattle.ftd.specs.declared.tags.TagPlace.{TagPlace}
+use Rattle.ftd.specs.declared.tags.TagPlace.the-variants.{NoTag, Data}
+use Rattle.ftd.specs.declared.tags.TradeDate.{TradeDate}
+use Rattle.ftd.specs.declared.tags.TradeDate.the-variants.{None, At}
+
+-- ─── The form of a tag ───
+
+unfoldable pub tag : Form
+tag = record { head = 2; follow = λ l. getD l 1 0 }
+
+-- The tags of an extension, each with its two bytes of head.
+abbrev pub tagsOf : List ℕ → List (List ℕ)
+tagsOf extension = runOf tag extension .entries
+
+abbrev pub kindOf : List ℕ → ℕ
+kindOf t = getD t 0 0
+
+abbrev pub lengthOf : List ℕ → ℕ
+lengthOf t = getD t 1 0
+
+-- ─── The known tags ───
+
+pub record Known : Type 0 where
+  pub kind : ℕ
+  pub length : ℕ
+
+abbrev pub known : ℕ → ℕ → Known
+known k n = record { kind = k; length = n }
+
+-- Kinds and lengths of their data, as the paper lists them.
+unfoldable pub knownTags : List Known
+knownTags = known 0 0 ∷ known 1 4 ∷ known 2 1 ∷ known 3 1 ∷ known 4 0 ∷ known 5 4 ∷ known 6 2 ∷ []
+
+-- The length is the one that the list has for the kind; of a kind that it does not have each length is right.
+abbrev pub rightIn : List Known → ℕ → ℕ → Bool
+rightIn [] kind len = true
+rightIn (k ∷ ks) kind len = cond (eqb (k .kind) kind) (eqb (k .length) len) (rightIn ks kind len)
+
+unfoldable pub lengthRight : ℕ → ℕ → Bool
+lengthRight kind len = rightIn knownTags kind len
+
+-- ─── Refusal 2: the extension check ───
+
+abbrev pub allRight : List (List ℕ) → Bool
+allRight [] = true
+allRight (t ∷ ts) = lengthRight (kindOf t) (lengthOf t) && allRight ts
+
+-- One more where the kind is 0x05, the trade date.
+unfoldable pub countDate : ℕ → ℕ → ℕ
+countDate kind n = cond (eqb kind 5) (n + 1) n
+
+-- How often 0x05 stands among the tags, counted on from n.
+abbrev pub dates : List (List ℕ) → ℕ → ℕ
+dates [] n = n
+dates (t ∷ ts) n = dates ts (countDate (kindOf t) n)
+
+-- The tags end with the extension, the known ones have their lengths, and 0x05 does not stand twice.
+abbrev pub goodRun : Run → ℕ → Bool
+goodRun r n = ended r && (allRight (r .entries) && leb (dates (r .entries) n) 1)
+
+unfoldable pub goodTags : List ℕ → Bool
+goodTags extension = goodRun (runOf tag extension) 0
+
+-- ─── The tags that have a meaning here ───
+
+-- The place of the data of the first tag of a kind, in a list of tags that starts at `at`.
+abbrev pub placeIn : ℕ → List (List ℕ) → ℕ → TagPlace
+placeIn at [] kind = NoTag
+placeIn at (t ∷ ts) kind = cond (eqb (kindOf t) kind) (Data (at + 2) (length t - 2)) (placeIn (at + length t) ts kind)
+
+unfoldable pub tagPlace : List ℕ → ℕ → TagPlace
+tagPlace extension kind = placeIn 0 (tagsOf extension) kind
+
+-- The data lies inside the extension.
+abbrev pub TagInside : List ℕ → TagPlace → Type 0
+TagInside extension NoTag = Unit
+TagInside extension (Data start len) = start + len ≤ length extension
+
+-- The mark: tag 0x05, the trade date, as a number of four bytes; none where the extension has no such tag.
+abbrev pub dateAt : List ℕ → TagPlace → TradeDate
+dateAt extension NoTag = None
+dateAt extension (Data start len) = cond (eqb len 4) (At (be32Of extension start)) None
+
+unfoldable pub tradeDateOf : List ℕ → TradeDate
+tradeDateOf extension = dateAt extension (tagPlace extension 5)
+
+-- The keep-alive tag 0x04 is there.
+abbrev pub isThere : TagPlace → Bool
+isThere NoTag = false
+isThere (Data start len) = true
+
+unfoldable pub keepAliveOf : List ℕ → Bool
+keepAliveOf extension = isThere (tagPlace extension 4)

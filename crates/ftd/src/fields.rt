@@ -1,0 +1,72 @@
+// The content of a message: a run of data fields, each FID 4 bytes, length 2, and that many bytes (4.2).
+ghost use mathlib.Core.Path.{_≡_};
+ghost use Prim.Native.Nat.{_+_, _-_, _≤_};
+ghost use lib.ListN.{length, drop};
+ghost use Rattle.ftd.specs.Runs.{front};
+ghost use Rattle.ftd.specs.Fields.{field, exactRun, placeOf, FieldInside};
+use crate::bytes::be16;
+use crate::bytes::be32;
+use crate::bytes::size16;
+
+// A field of a content: its FID, and where its bytes lie, without FID and length.
+pub enum FieldPlace {
+    NoField,
+    Field { fid: u32, start: usize, len: usize },
+}
+
+// How many bytes the field at a place takes, its FID and length among them; 0 where none stands there whole.
+pub fn field_size(content: &[u8], at: usize) -> usize
+    ensures { λ r. ⌜ (r ≡ front field (drop at (now (content .entry)))) × (r ≤ length (now (content .entry)) - at) ⌝ }
+{
+    if content.len() < at {
+        return 0;
+    }
+    let left = content.len() - at;
+    if left < 6 {
+        return 0;
+    }
+    let n = 6 + size16(be16(content, at + 4));
+    if left < n {
+        return 0;
+    }
+    n
+}
+
+// The content is exactly that many whole fields.
+pub fn exact_run(content: &[u8], count: u16) -> bool
+    ensures { λ r. ⌜ r ≡ exactRun (now (content .entry)) count ⌝ }
+{
+    let most = size16(count);
+    let mut at: usize = 0;
+    let mut seen: usize = 0;
+    loop {
+        let n = field_size(content, at);
+        if n == 0 {
+            if at < content.len() {
+                return false;
+            }
+            return seen == most;
+        }
+        at += n;
+        seen += 1;
+    }
+}
+
+// Field i of a content, counted from 0.
+pub fn field_place(content: &[u8], i: usize) -> FieldPlace
+    ensures { λ r. ⌜ (r ≡ placeOf (now (content .entry)) i) × FieldInside (now (content .entry)) r ⌝ }
+{
+    let mut at: usize = 0;
+    let mut left = i;
+    loop {
+        let n = field_size(content, at);
+        if n == 0 {
+            return FieldPlace::NoField;
+        }
+        if left == 0 {
+            return FieldPlace::Field { fid: be32(content, at), start: at + 6, len: n - 6 };
+        }
+        at += n;
+        left -= 1;
+    }
+}

@@ -1,0 +1,6 @@
+// FTD packets (JR/T 0016-2004, 4.1 and 4.2): read from any bytes, with nothing trusted.
+pub mod bytes; // numbers in bytes
+pub mod refusal; // the refusal table
+pub mod tags; // the run of tags in a packet's extension
+pub mod fields; // the run of data fields in a message's content
+pub mod packet; // what a packet is, and its fields

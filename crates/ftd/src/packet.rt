@@ -1,0 +1,213 @@
+// Packets (4.1) and message packets (4.2): what some bytes are, by their first four and then by the rest.
+ghost use mathlib.Core.Bool.{false};
+ghost use mathlib.Core.Path.{_≡_};
+ghost use Prim.Native.Nat.{_+_, _<_, _≤_};
+ghost use lib.ListN.{length};
+ghost use Rattle.ftd.specs.Packets.{saidIn, Said, kindOf, wrongBody, isSkipped, isLetter, chainOf, chainLetter, headerOf, messageOf, wholeOf, readOf};
+use crate::bytes::be16;
+use crate::bytes::be32;
+use crate::bytes::size16;
+use crate::bytes::size8;
+use crate::fields::exact_run;
+use crate::refusal::Refusal;
+use crate::tags::good_tags;
+
+// A part of a packet: where it starts, and how many bytes it has.
+pub struct Span {
+    pub start: usize,
+    pub len: usize,
+}
+
+// The place of a packet in the chain of a message: letters S, F, C, L.
+pub enum Chain {
+    Single,
+    First,
+    Middle,
+    Last,
+}
+
+// The values of a message packet's header, and where its extension and content lie.
+pub struct Header {
+    pub extension: Span,
+    pub tid: u32,
+    pub chain: Chain,
+    pub series: u16,
+    pub number: u32,
+    pub fields: u16,
+    pub content: Span,
+}
+
+// What the bytes from the front of a slice are.
+pub enum Packet {
+    // Bytes are missing.
+    Short,
+    Link { kind: u8, extension: Span },
+    Skipped { kind: u8, extension: Span, body: Span },
+    Message(Header),
+    Refused(Refusal),
+}
+
+// As many bytes as the first four say; 0 where they are not there.
+pub fn said_length(p: &[u8]) -> usize
+    ensures { λ r. ⌜ r ≡ saidIn (now (p .entry)) ⌝ }
+{
+    if p.len() < 4 {
+        return 0;
+    }
+    4 + size8(p[1]) + size16(be16(p, 2))
+}
+
+// Refusal 3: type 0x01 with a body of 1 to 15 or above 4,096.
+fn wrong_body(kind: u8, body: usize) -> bool
+    ensures { λ r. ⌜ r ≡ wrongBody kind body ⌝ }
+{
+    if kind != 1 {
+        return false;
+    }
+    if body == 0 {
+        return false;
+    }
+    if body < 16 {
+        return true;
+    }
+    4096 < body
+}
+
+// Any type but 0x00 and 0x01, and type 0x00 with a body.
+fn is_skipped(kind: u8, body: usize) -> bool
+    ensures { λ r. ⌜ r ≡ isSkipped kind body ⌝ }
+{
+    if 1 < kind {
+        return true;
+    }
+    if kind != 0 {
+        return false;
+    }
+    0 < body
+}
+
+// A letter of the chain: S, F, C or L.
+fn is_letter(x: u8) -> bool
+    ensures { λ r. ⌜ r ≡ isLetter x ⌝ }
+{
+    if x == 83 {
+        return true;
+    }
+    if x == 70 {
+        return true;
+    }
+    if x == 67 {
+        return true;
+    }
+    x == 76
+}
+
+// The chain's place that a letter stands for.
+fn chain_of(letter: u8) -> Chain
+    ensures { λ r. ⌜ r ≡ chainOf letter ⌝ }
+{
+    if letter == 83 {
+        return Chain::Single;
+    }
+    if letter == 70 {
+        return Chain::First;
+    }
+    if letter == 67 {
+        return Chain::Middle;
+    }
+    Chain::Last
+}
+
+// The letter of a chain's place.
+pub fn letter(c: Chain) -> u8
+    ensures { λ r. ⌜ r ≡ chainLetter c ⌝ }
+{
+    match c {
+        Chain::Single => 83,
+        Chain::First => 70,
+        Chain::Middle => 67,
+        Chain::Last => 76,
+    }
+}
+
+// The values of a message packet whose body starts at `at`.
+fn header_of(p: &[u8], ext: usize, body: usize) -> Header
+    requires { ⌜ Said (now p) ext body × (4 + ext + body ≤ length (now p)) × (16 ≤ body) ⌝ }
+    ensures { λ r. ⌜ r ≡ headerOf (now (p .entry)) ⌝ }
+{
+    let at = 4 + ext;
+    Header {
+        extension: Span { start: 4, len: ext },
+        tid: be32(p, at + 1),
+        chain: chain_of(p[at + 5]),
+        series: be16(p, at + 6),
+        number: be32(p, at + 8),
+        fields: be16(p, at + 12),
+        content: Span { start: at + 16, len: body - 16 },
+    }
+}
+
+// A message packet that is there whole: refusals 4 to 7, or its values.
+fn read_message(p: &[u8], ext: usize, body: usize) -> Packet
+    requires { ⌜ Said (now p) ext body × (4 + ext + body ≤ length (now p)) × (16 ≤ body) ⌝ }
+    ensures { λ r. ⌜ r ≡ messageOf (now (p .entry)) ⌝ }
+{
+    let at = 4 + ext;
+    if p[at] != 1 {
+        return Packet::Refused(Refusal::Version);
+    }
+    if is_letter(p[at + 5]) {
+        if size16(be16(p, at + 14)) + 16 != body {
+            return Packet::Refused(Refusal::ContentLength);
+        }
+        if exact_run(&p[at + 16..at + body], be16(p, at + 12)) {
+            return Packet::Message(header_of(p, ext, body));
+        }
+        return Packet::Refused(Refusal::FieldRun);
+    }
+    Packet::Refused(Refusal::ChainLetter)
+}
+
+// A packet that is there whole: skipped, refused with 2, a link packet or a message packet.
+fn read_whole(p: &[u8], kind: u8, ext: usize, body: usize) -> Packet
+    requires { ⌜ Said (now p) ext body × (kind ≡ kindOf (now p)) × (4 + ext + body ≤ length (now p)) × (wrongBody kind body ≡ false) ⌝ }
+    ensures { λ r. ⌜ r ≡ wholeOf (now (p .entry)) ⌝ }
+{
+    let at = 4 + ext;
+    if is_skipped(kind, body) {
+        return Packet::Skipped {
+            kind: kind,
+            extension: Span { start: 4, len: ext },
+            body: Span { start: at, len: body },
+        };
+    }
+    if good_tags(&p[4..at]) {
+        if body == 0 {
+            return Packet::Link { kind: kind, extension: Span { start: 4, len: ext } };
+        }
+        return read_message(p, ext, body);
+    }
+    Packet::Refused(Refusal::BrokenTag)
+}
+
+// What the bytes from the front on are. Bytes behind the packet are not looked at.
+pub fn read(p: &[u8]) -> Packet
+    ensures { λ r. ⌜ r ≡ readOf (now (p .entry)) ⌝ }
+{
+    if p.len() < 4 {
+        return Packet::Short;
+    }
+    let kind = p[0];
+    let ext = size8(p[1]);
+    let body = size16(be16(p, 2));
+    if 127 < ext {
+        return Packet::Refused(Refusal::LongExtension);
+    }
+    if wrong_body(kind, body) {
+        return Packet::Refused(Refusal::BodyLength);
+    }
+    if p.len() < 4 + ext + body {
+        return Packet::Short;
+    }
+    read_whole(p, kind, ext, body)
+}
