@@ -1,19 +1,17 @@
 -- What each way through the reading functions decides, over plain variables. Assumes nothing.
 use Prim.Native.Nat.{ℕ, _+_, _-_, _<_, _≤_}
-use mathlib.Core.Path.{_≡_, refl, sym, ap, _∙_}
+use mathlib.Core.Path.{_≡_, refl, sym, _∙_}
 use mathlib.Core.List.{List}
-use mathlib.Core.Bool.{Bool, true, false, cond, not, _&&_, _||_}
+use mathlib.Core.Bool.{Bool, true, false, _&&_, _||_}
 use native.Mathlib.Omega.{arith}
-use borrow.Author.Tests.{lt-ltb, le-ltb, eq-eqb, ne-eqb, ltb-false, eqb-false}
+use borrow.Author.Tests.{lt-ltb, le-ltb, eq-eqb, ne-eqb, ltb-false, eqb-true, eqb-false}
 use lib.ListN.{length, getD, take, drop}
 use lib.Dec.{ltb, eqb}
 use Rattle.ftd.specs.Bytes.{be16Of, be32Of}
 use Rattle.ftd.specs.Tags.{goodTags}
 use Rattle.ftd.specs.Fields.{exactRun}
 use Rattle.ftd.specs.Packets.{Said, kindOf, bodyLength, extensionLength, extensionOf, versionOf, tidOf, letterOf, seriesOf, messageNumberOf, fieldCountOf, contentLengthOf, contentOf, wrongBody, isSkipped, restMissing, saidLength, isLetter, span, chainOf, headerOf, messageOf, wholeOf, readOf}
-use Rattle.ftd.specs.declared.refusal.Refusal.{Refusal}
 use Rattle.ftd.specs.declared.refusal.Refusal.the-variants.{LongExtension, BrokenTag, BodyLength, Version, ChainLetter, ContentLength, FieldRun}
-use Rattle.ftd.specs.declared.packet.Span.{Span}
 use Rattle.ftd.specs.declared.packet.Chain.{Chain}
 use Rattle.ftd.specs.declared.packet.Header.{Header}
 use Rattle.ftd.specs.declared.packet.Packet.{Packet}
@@ -78,27 +76,28 @@ module _ (p : List ℕ) (ext body : ℕ) (said : Said p ext body) where
       unfolding wholeOf extensionOf
       whole-message w z r m = rw (← (said .0), ← (said .1), ← a, ← s, not-skipped, ← tags-same, w, ne-eqb _ _ z) m
 
--- A packet with a body that is neither skipped nor refused with 3 has the 16 bytes of a message's header.
-pub body-least : (kind body : ℕ) (skipped : Bool) → skipped ≡ isSkipped kind body → skipped ≡ false → wrongBody kind body ≡ false → (body ≡ 0 → ⊥)
-    → 16 ≤ body
+-- A packet with a body that is neither skipped nor refused with 3 is of type 0x01, and its body has 16 to 4,096 bytes.
+pub body-bounds : (kind body : ℕ) (skipped : Bool) → skipped ≡ isSkipped kind body → skipped ≡ false → wrongBody kind body ≡ false → (body ≡ 0 → ⊥)
+    → (kind ≡ 1) × (16 ≤ body) × (body ≤ 4096)
 unfolding isSkipped wrongBody
-body-least kind body skipped s n w z =
+body-bounds kind body skipped s n w z =
     go (ltb 1 kind) refl (eqb kind 0) refl (eqb kind 1) refl (ltb body 16) refl (sym s ∙ n) (rw (ne-eqb body 0 z) at w)
   where
+    clash : true ≡ false → ⊥
+    clash x = let y : _≡_ {A = ℕ} 0 1 = cc in omega arith
+
     go : (a : Bool) → ltb 1 kind ≡ a → (b : Bool) → eqb kind 0 ≡ b → (c : Bool) → eqb kind 1 ≡ c → (d : Bool) → ltb body 16 ≡ d
-        → (a || (b && ltb 0 body)) ≡ false → (c && (true && (d || ltb 4096 body))) ≡ false → 16 ≤ body
+        → (a || (b && ltb 0 body)) ≡ false → (c && (true && (d || ltb 4096 body))) ≡ false → (kind ≡ 1) × (16 ≤ body) × (body ≤ 4096)
     go true e b f c g d h p q = absurd (clash p)
-      where
-        clash : true ≡ false → ⊥
-        clash x = let y : _≡_ {A = ℕ} 0 1 = cc in omega arith
     go false e true f c g d h p q = absurd (z (omega (arith, ltb-false 0 body p)))
     go false e false f true g true h p q = absurd (clash q)
-      where
-        clash : true ≡ false → ⊥
-        clash x = let y : _≡_ {A = ℕ} 0 1 = cc in omega arith
-    go false e false f true g false h p q = ltb-false body 16 h
+    go false e false f true g false h p q = (eqb-true kind 1 g, ltb-false body 16 h, ltb-false 4096 body q)
     go false e false f false g d h p q =
         absurd (omega (arith, ltb-false 1 kind e, eqb-false kind 0 f, eqb-false kind 1 g))
+
+pub body-least : (kind body : ℕ) (skipped : Bool) → skipped ≡ isSkipped kind body → skipped ≡ false → wrongBody kind body ≡ false → (body ≡ 0 → ⊥)
+    → 16 ≤ body
+body-least kind body skipped s n w z = body-bounds kind body skipped s n w z .1
 
 module _ (p : List ℕ) where
   pub read-head-missing : length p < 4 → Short ≡ readOf p

@@ -1,8 +1,8 @@
 -- The table of known tags, one row at a time. Assumes nothing.
 use Prim.Native.Nat.{ℕ, _+_, _<_, _≤_}
 use mathlib.Core.Path.{_≡_, refl}
-use mathlib.Core.List.{List, [], _∷_, map}
-use mathlib.Core.Bool.{Bool, true, false, cond}
+use mathlib.Core.List.{List, map}
+use mathlib.Core.Bool.{Bool, true, cond}
 use native.Mathlib.Numerals.{add-one}
 use borrow.Author.Tests.{eq-eqb, ne-eqb}
 use lib.ListN.{length, getD, drop, drop-of-length-le, List·getD-map}
@@ -26,8 +26,12 @@ row : (kind len i : ℕ) → i < 7 →
 unfolding kinds lengths
 row kind len i h =
     let k : i < length knownTags = rw seven h in
-    rw (List·getD-map (λ (r : Known). r .kind) knownTags i (known 0 0), List·getD-map (λ (r : Known). r .length) knownTags i (known 0 0),
-    add-one, drop-cons knownTags i (known 0 0))
+    rw (
+      List·getD-map (λ (r : Known). r .kind) knownTags i (known 0 0),
+      List·getD-map (λ (r : Known). r .length) knownTags i (known 0 0),
+      add-one,
+      drop-cons knownTags i (known 0 0),
+    )
 
 module _ (kind len i : ℕ) (t : Bool) (inv : rightIn (drop i knownTags) kind len ≡ t) where
   pub right-here : i < 7 → getD kinds i 0 ≡ kind → eqb (getD lengths i 0) len ≡ t

@@ -1,6 +1,9 @@
 pub mod Tests
+pub mod Lists
 pub mod Runs
 pub mod Heads
 pub mod Turns
 pub mod Known
 pub mod Decided
+pub mod Reading
+pub mod Bench

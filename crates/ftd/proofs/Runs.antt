@@ -1,14 +1,15 @@
 -- Laws of runs. Assumes nothing.
 use Prim.Native.Nat.{ℕ, zero, suc, _+_, _-_, _<_, _≤_}
 use mathlib.Core.Path.{_≡_, refl, sym, ap, _∙_}
-use mathlib.Core.List.{List, [], _∷_, _++_, append-assoc}
+use mathlib.Core.List.{List, [], _∷_, _++_, append-assoc, append-nil}
 use mathlib.Core.Bool.{Bool, true, false, cond}
 use native.Mathlib.Omega.{arith}
-use borrow.Author.Tests.{lt-leb, leb-true}
-use lib.ListN.{length, getD, take, drop, length-drop, length-take, take-append-drop}
+use borrow.Author.Tests.{lt-leb, leb-true, eqb-true}
+use lib.ListN.{length, take, drop, length-drop, length-take, take-append-drop}
 use lib.Seq.{drop-drop}
 use lib.Dec.{leb}
-use Rattle.ftd.specs.Runs.{Form, front, Run, behind, cutOff, runIn, runOf}
+use Rattle.ftd.specs.Bytes.{joined}
+use Rattle.ftd.specs.Runs.{Form, front, Run, behind, cutOff, runIn, runOf, ended}
 
 -- An entry at the front lies inside the bytes.
 pub front-inside : (F : Form) (l : List ℕ) → front F l ≤ length l
@@ -81,3 +82,28 @@ module _ (F : Form) (some : 0 < F .head) (l : List ℕ) (at n : ℕ) (e : n ≡ 
 
   pub entry-length : length (take n (drop at l)) ≡ n
   entry-length = simp (length-take, length-drop) (omega (arith, entry-inside))
+
+-- The entries, with what is left behind them, make up the bytes.
+cut-joined : (more : List ℕ → Run) → ((l : List ℕ) → joined (more l .entries) ++ more l .rest ≡ l) → (l : List ℕ) (n : ℕ)
+    → joined (cutOff more l n .entries) ++ cutOff more l n .rest ≡ l
+cut-joined more ih l zero = refl
+cut-joined more ih l (suc k) =
+    append-assoc (take (suc k) l) (joined (more (drop (suc k) l) .entries)) (more (drop (suc k) l) .rest)
+    ∙ ap (λ (r : List ℕ). take (suc k) l ++ r) (ih (drop (suc k) l))
+    ∙ take-append-drop (suc k) l
+
+in-joined : (F : Form) (most : ℕ) (l : List ℕ) → joined (runIn F most l .entries) ++ runIn F most l .rest ≡ l
+in-joined F zero l = refl
+in-joined F (suc most) l = cut-joined (runIn F most) (λ r. in-joined F most r) l (front F l)
+
+pub run-joined : (F : Form) (l : List ℕ) → joined (runOf F l .entries) ++ runOf F l .rest ≡ l
+unfolding runOf
+run-joined F l = in-joined F (length l) l
+
+-- Where nothing is left, the entries alone make them up.
+pub run-whole : (F : Form) (l : List ℕ) → ended (runOf F l) ≡ true → joined (runOf F l .entries) ≡ l
+run-whole F l e = go (runOf F l .rest) (eqb-true (length (runOf F l .rest)) 0 e) (run-joined F l)
+  where
+    go : (rest : List ℕ) → length rest ≡ 0 → joined (runOf F l .entries) ++ rest ≡ l → joined (runOf F l .entries) ≡ l
+    go [] z p = sym (append-nil (joined (runOf F l .entries))) ∙ p
+    go (x ∷ xs) z p = absurd (omega arith)

@@ -1,24 +1,24 @@
 -- One turn of each loop over a run, over plain variables. Assumes nothing.
 use Prim.Native.Nat.{ℕ, zero, suc, _+_, _-_, _<_, _≤_}
-use mathlib.Core.Path.{_≡_, refl, sym, ap, subst, _∙_}
-use mathlib.Core.List.{List, [], _∷_}
-use mathlib.Core.Bool.{Bool, true, false, cond, _&&_}
+use mathlib.Core.Path.{_≡_, refl, sym, subst, _∙_}
+use mathlib.Core.List.{List, _∷_}
+use mathlib.Core.Bool.{Bool, true, false, _&&_}
 use native.Mathlib.Nat.{add-zero}
 use native.Mathlib.Omega.{arith}
-use borrow.Author.Tests.{eq-eqb, ne-eqb, eqb-true, eqb-false}
-use lib.ListN.{length, getD, take, drop, length-drop, length-take}
-use lib.Seq.{drop-drop, getD-drop, getD-take}
+use borrow.Author.Tests.{eq-eqb, ne-eqb}
+use lib.ListN.{length, getD, take, drop, length-drop}
+use lib.Seq.{getD-drop, getD-take}
 use lib.Dec.{leb, eqb}
 use Rattle.ftd.specs.Bytes.{be32Of}
-use Rattle.ftd.specs.Runs.{Form, front, Run, behind, runOf, ended}
+use Rattle.ftd.specs.Runs.{front, Run, behind, runOf, ended}
 use Rattle.ftd.specs.Tags.{tag, lengthRight, allRight, countDate, dates, goodRun, placeIn}
-use Rattle.ftd.specs.Fields.{field, exactly}
+use Rattle.ftd.specs.Fields.{field}
 use Rattle.ftd.specs.Fields.{placeIn as fieldIn}
 use Rattle.ftd.specs.declared.tags.TagPlace.{TagPlace}
 use Rattle.ftd.specs.declared.tags.TagPlace.the-variants.{NoTag, Data}
 use Rattle.ftd.specs.declared.fields.FieldPlace.{FieldPlace}
 use Rattle.ftd.specs.declared.fields.FieldPlace.the-variants.{NoField, Field}
-use Rattle.ftd.proofs.Runs.{run-over, run-next, entry-inside, entry-head, entry-length}
+use Rattle.ftd.proofs.Runs.{run-over, run-next, entry-head, entry-length}
 
 pub and-false : (b : Bool) → (b && false) ≡ false
 and-false true = refl

@@ -1,6 +1,6 @@
 -- Bytes, parts of them, and the numbers in them (01, first paragraph: unsigned, high byte first).
 use Prim.Native.Nat.{ℕ, _+_, _*_, _<_}
-use mathlib.Core.List.{List}
+use mathlib.Core.List.{List, [], _∷_, _++_}
 use lib.ListN.{getD, take, drop}
 
 -- The number in the two bytes from a place on; bytes that are not there count as 0.
@@ -18,3 +18,8 @@ part l start len = take len (drop start l)
 -- Each element is a byte. Past the end stands 0.
 abbrev pub Bytes : List ℕ → Type 0
 Bytes l = (i : ℕ) → getD l i 0 < 256
+
+-- Lists of bytes, one behind the other.
+abbrev pub joined : List (List ℕ) → List ℕ
+joined [] = []
+joined (l ∷ ls) = l ++ joined ls

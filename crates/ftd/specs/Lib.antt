@@ -4,3 +4,5 @@ pub mod Runs
 pub mod Tags
 pub mod Fields
 pub mod Packets
+pub mod Laws
+pub mod Bench

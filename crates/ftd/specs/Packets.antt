@@ -1,14 +1,15 @@
 -- What some bytes are (4.1, 4.2; 01, "Packet" and "Message packet", rows 1 to 7 of the refusal table).
-use Prim.Native.Nat.{ℕ, _+_, _-_, _≤_, _<_}
+use Prim.Native.Nat.{ℕ, _+_, _-_, _≤_}
 use mathlib.Core.Path.{_≡_}
-use mathlib.Core.List.{List, [], _∷_}
+use mathlib.Core.List.{List, []}
 use mathlib.Core.Bool.{Bool, true, false, cond, not, _&&_, _||_}
 use lib.ListN.{length, getD}
 use lib.Dec.{ltb, leb, eqb}
 use Rattle.ftd.specs.Bytes.{be16Of, be32Of, part}
 use Rattle.ftd.specs.Tags.{goodTags}
-use Rattle.ftd.specs.Fields.{exactRun}
-use Rattle.ftd.specs.declared.refusal.Refusal.{Refusal}
+use Rattle.ftd.specs.Fields.{exactRun, fieldsOf, placeOf}
+use Rattle.ftd.specs.declared.fields.FieldPlace.{FieldPlace}
+use Rattle.ftd.specs.declared.fields.FieldPlace.the-variants.{NoField, Field}
 use Rattle.ftd.specs.declared.refusal.Refusal.the-variants.{LongExtension, BrokenTag, BodyLength, Version, ChainLetter, ContentLength, FieldRun}
 use Rattle.ftd.specs.declared.packet.Span.{Span}
 use Rattle.ftd.specs.declared.packet.Chain.{Chain}
@@ -37,7 +38,7 @@ saidLength p = 4 + extensionLength p + bodyLength p
 
 -- The same for any bytes: 0 where the four are not there.
 unfoldable pub saidIn : List ℕ → ℕ
-saidIn p = cond (ltb (length p) 4) 0 (saidLength p)
+saidIn p = cond (leb 4 (length p)) (saidLength p) 0
 
 -- The lengths of extension and body are those that the four say.
 abbrev pub Said : List ℕ → ℕ → ℕ → Type 0
@@ -151,7 +152,7 @@ headerOf p =
       series = seriesOf p;
       number = messageNumberOf p;
       fields = fieldCountOf p;
-      content = span (bodyStart p + 16) (bodyLength p - 16)
+      content = span (bodyStart p + 16) (bodyLength p - 16);
     }
 
 -- ─── Reading: the first test that holds decides ───
@@ -180,3 +181,52 @@ readOf p =
     (cond (wrongBody (kindOf p) (bodyLength p)) (Refused BodyLength)
     (cond (restMissing p) Short
     (wholeOf p))))
+
+-- Bytes are missing.
+abbrev pub isShort : Packet → Bool
+isShort Short = true
+isShort (Link kind extension) = false
+isShort (Skipped kind extension body) = false
+isShort (Message h) = false
+isShort (Refused r) = false
+
+-- ─── Field i of a packet ───
+
+-- The fields of a message packet, each with FID and length; bytes that are no message packet have none.
+abbrev pub fieldsWithin : List ℕ → Packet → List (List ℕ)
+fieldsWithin p Short = []
+fieldsWithin p (Link kind extension) = []
+fieldsWithin p (Skipped kind extension body) = []
+fieldsWithin p (Message h) = fieldsOf (part p (h .content .start) (h .content .len))
+fieldsWithin p (Refused r) = []
+
+unfoldable pub messageFields : List ℕ → List (List ℕ)
+messageFields p = fieldsWithin p (readOf p)
+
+-- A place in a part that starts at `base`, as a place in the whole.
+abbrev pub movedBy : ℕ → FieldPlace → FieldPlace
+movedBy base NoField = NoField
+movedBy base (Field fid start len) = Field fid (base + start) len
+
+abbrev pub FitsIn : ℕ → FieldPlace → Type 0
+FitsIn room NoField = Unit
+FitsIn room (Field fid start len) = start + len ≤ room
+
+-- Field i, counted from 0: FID, place in the packet and length of its bytes without FID and length; else no field.
+abbrev pub fieldWithin : List ℕ → Packet → ℕ → FieldPlace
+fieldWithin p Short i = NoField
+fieldWithin p (Link kind extension) i = NoField
+fieldWithin p (Skipped kind extension body) i = NoField
+fieldWithin p (Message h) i = movedBy (h .content .start) (placeOf (part p (h .content .start) (h .content .len)) i)
+fieldWithin p (Refused r) i = NoField
+
+unfoldable pub fieldOf : List ℕ → ℕ → FieldPlace
+fieldOf p i = fieldWithin p (readOf p) i
+
+-- The bytes of field i: that part of the packet.
+abbrev pub partAt : List ℕ → FieldPlace → List ℕ
+partAt p NoField = []
+partAt p (Field fid start len) = part p start len
+
+unfoldable pub fieldBytes : List ℕ → ℕ → List ℕ
+fieldBytes p i = partAt p (fieldOf p i)

@@ -2,7 +2,7 @@
 -- An extension is a run of tags (4.1, 01 "Packet"), a content a run of data fields (4.2, 01 "Message packet").
 use Prim.Native.Nat.{ℕ, zero, suc, _+_}
 use mathlib.Core.List.{List, [], _∷_}
-use mathlib.Core.Bool.{Bool, true, false, cond, _&&_}
+use mathlib.Core.Bool.{Bool, cond}
 use lib.ListN.{length, take, drop}
 use lib.Dec.{leb, eqb}
 

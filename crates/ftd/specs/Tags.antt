@@ -1,7 +1,7 @@
 -- The extension of a packet (4.1; 01, "Packet"): a run of tags, each a kind byte, a length byte and that many bytes of data.
 use Prim.Native.Nat.{ℕ, _+_, _-_, _≤_}
 use mathlib.Core.List.{List, [], _∷_}
-use mathlib.Core.Bool.{Bool, true, false, cond, not, _&&_, _||_}
+use mathlib.Core.Bool.{Bool, true, false, cond, _&&_}
 use lib.ListN.{length, getD}
 use lib.Dec.{leb, eqb}
 use Rattle.ftd.specs.Bytes.{be32Of}

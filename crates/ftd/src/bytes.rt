@@ -45,5 +45,8 @@ pub fn be32(s: &[u8], at: usize) -> u32
     requires { ⌜ at + 4 ≤ length (now s) ⌝ }
     ensures { λ r. ⌜ r ≡ be32Of (now (s .entry)) at ⌝ }
 {
-    wide32(s[at]) * 16777216 + wide32(s[at + 1]) * 65536 + wide32(s[at + 2]) * 256 + wide32(s[at + 3])
+    wide32(s[at]) * 16777216
+        + wide32(s[at + 1]) * 65536
+        + wide32(s[at + 2]) * 256
+        + wide32(s[at + 3])
 }

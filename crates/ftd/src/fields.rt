@@ -64,7 +64,11 @@ pub fn field_place(content: &[u8], i: usize) -> FieldPlace
             return FieldPlace::NoField;
         }
         if left == 0 {
-            return FieldPlace::Field { fid: be32(content, at), start: at + 6, len: n - 6 };
+            return FieldPlace::Field {
+                fid: be32(content, at),
+                start: at + 6,
+                len: n - 6,
+            };
         }
         at += n;
         left -= 1;

@@ -3,12 +3,17 @@ ghost use mathlib.Core.Bool.{false};
 ghost use mathlib.Core.Path.{_≡_};
 ghost use Prim.Native.Nat.{_+_, _<_, _≤_};
 ghost use lib.ListN.{length};
-ghost use Rattle.ftd.specs.Packets.{saidIn, Said, kindOf, wrongBody, isSkipped, isLetter, chainOf, chainLetter, headerOf, messageOf, wholeOf, readOf};
+ghost use Rattle.ftd.specs.Bench.{Bench};
+ghost use Rattle.ftd.specs.Fields.{FieldInside};
+ghost use Rattle.ftd.specs.Laws.{ReadLaws};
+ghost use Rattle.ftd.specs.Packets.{saidIn, Said, kindOf, wrongBody, isSkipped, isLetter, chainOf, chainLetter, headerOf, messageOf, wholeOf, readOf, FitsIn, movedBy, fieldOf, fieldBytes};
 use crate::bytes::be16;
 use crate::bytes::be32;
-use crate::bytes::size16;
 use crate::bytes::size8;
+use crate::bytes::size16;
+use crate::fields::FieldPlace;
 use crate::fields::exact_run;
+use crate::fields::field_place;
 use crate::refusal::Refusal;
 use crate::tags::good_tags;
 
@@ -41,8 +46,15 @@ pub struct Header {
 pub enum Packet {
     // Bytes are missing.
     Short,
-    Link { kind: u8, extension: Span },
-    Skipped { kind: u8, extension: Span, body: Span },
+    Link {
+        kind: u8,
+        extension: Span,
+    },
+    Skipped {
+        kind: u8,
+        extension: Span,
+        body: Span,
+    },
     Message(Header),
     Refused(Refusal),
 }
@@ -51,10 +63,10 @@ pub enum Packet {
 pub fn said_length(p: &[u8]) -> usize
     ensures { λ r. ⌜ r ≡ saidIn (now (p .entry)) ⌝ }
 {
-    if p.len() < 4 {
-        return 0;
+    if 4 <= p.len() {
+        return 4 + size8(p[1]) + size16(be16(p, 2));
     }
-    4 + size8(p[1]) + size16(be16(p, 2))
+    0
 }
 
 // Refusal 3: type 0x01 with a body of 1 to 15 or above 4,096.
@@ -143,7 +155,10 @@ fn header_of(p: &[u8], ext: usize, body: usize) -> Header
         series: be16(p, at + 6),
         number: be32(p, at + 8),
         fields: be16(p, at + 12),
-        content: Span { start: at + 16, len: body - 16 },
+        content: Span {
+            start: at + 16,
+            len: body - 16,
+        },
     }
 }
 
@@ -178,12 +193,18 @@ fn read_whole(p: &[u8], kind: u8, ext: usize, body: usize) -> Packet
         return Packet::Skipped {
             kind: kind,
             extension: Span { start: 4, len: ext },
-            body: Span { start: at, len: body },
+            body: Span {
+                start: at,
+                len: body,
+            },
         };
     }
     if good_tags(&p[4..at]) {
         if body == 0 {
-            return Packet::Link { kind: kind, extension: Span { start: 4, len: ext } };
+            return Packet::Link {
+                kind: kind,
+                extension: Span { start: 4, len: ext },
+            };
         }
         return read_message(p, ext, body);
     }
@@ -211,3 +232,63 @@ pub fn read(p: &[u8]) -> Packet
     }
     read_whole(p, kind, ext, body)
 }
+
+// A place in a part that starts at `base`, as a place in the whole.
+fn moved(base: usize, f: FieldPlace, room: usize) -> FieldPlace
+    requires { ⌜ FitsIn room f × (base + room ≤ 18446744073709551615) ⌝ }
+    ensures { λ r. ⌜ r ≡ movedBy base f ⌝ }
+{
+    match f {
+        FieldPlace::NoField => FieldPlace::NoField,
+        FieldPlace::Field { fid, start, len } => FieldPlace::Field {
+            fid: fid,
+            start: base + start,
+            len: len,
+        },
+    }
+}
+
+// Field i of a message packet, counted from 0: FID, place and length; no field from the field count on,
+// and of bytes that are no message packet.
+pub fn find_field(p: &[u8], i: usize) -> FieldPlace
+    ensures { λ r. ⌜ (r ≡ fieldOf (now (p .entry)) i) × FieldInside (now (p .entry)) r ⌝ }
+{
+    match read(p) {
+        Packet::Message(h) => {
+            let at = h.content.start;
+            let n = h.content.len;
+            moved(at, field_place(&p[at..at + n], i), n)
+        }
+        Packet::Short => FieldPlace::NoField,
+        Packet::Link {
+            kind: _,
+            extension: _,
+        } => FieldPlace::NoField,
+        Packet::Skipped {
+            kind: _,
+            extension: _,
+            body: _,
+        } => FieldPlace::NoField,
+        Packet::Refused(_) => FieldPlace::NoField,
+    }
+}
+
+// The bytes of field i, a part of the lent packet without FID and length; no bytes where there is no such field.
+pub fn field(p: &[u8], i: usize) -> &[u8]
+    ensures { λ r. ⌜ now r ≡ fieldBytes (now (p .entry)) i ⌝ }
+{
+    match find_field(p, i) {
+        FieldPlace::NoField => &p[..0],
+        FieldPlace::Field { fid: _, start, len } => &p[start..start + len],
+    }
+}
+
+// The laws of reading, as a promise.
+pub fn keeps_read_laws()
+    ensures { λ _. ⌜ ReadLaws ⌝ }
+{}
+
+// The bench examples, as a promise: the definitions answer what the paper says.
+pub fn keeps_bench()
+    ensures { λ _. ⌜ Bench ⌝ }
+{}

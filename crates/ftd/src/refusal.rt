@@ -4,12 +4,12 @@ ghost use Rattle.ftd.specs.Refusals.{numberOf};
 
 pub enum Refusal {
     LongExtension, // 1 long extension
-    BrokenTag,     // 2 broken tag
-    BodyLength,    // 3 body length
-    Version,       // 4 version
-    ChainLetter,   // 5 chain letter
+    BrokenTag, // 2 broken tag
+    BodyLength, // 3 body length
+    Version, // 4 version
+    ChainLetter, // 5 chain letter
     ContentLength, // 6 content length
-    FieldRun,      // 7 field run
+    FieldRun, // 7 field run
 }
 
 // The paper's number of a refusal.

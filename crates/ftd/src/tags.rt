@@ -9,6 +9,7 @@ use crate::bytes::size8;
 
 // The known tags: kinds, and the length of each one's data.
 const KIND: [u8; 7] = [0x00, 0x01, 0x02, 0x03, 0x04, 0x05, 0x06];
+
 const LENGTH: [u8; 7] = [0, 4, 1, 1, 0, 4, 2];
 
 // Where the data of a tag lies in the extension.
@@ -100,7 +101,10 @@ pub fn find_tag(extension: &[u8], kind: u8) -> TagPlace
             return TagPlace::NoTag;
         }
         if extension[at] == kind {
-            return TagPlace::Data { start: at + 2, len: n - 2 };
+            return TagPlace::Data {
+                start: at + 2,
+                len: n - 2,
+            };
         }
         at += n;
     }

@@ -1,81 +1,61 @@
+-- `bytes::be32` meets its contract. Assumes nothing.
+use borrow.Author.Needs.{needs}
 use Rattle.ftd.specs.Bytes.{be32Of}
 use Rattle.ftd.proofs.Tests.{tests}
-use borrow.Author.Needs.{needs}
 use Rattle.ftd.proofs.bytes.be32.Statement.{statement}
 use Rattle.ftd.proofs.bytes.be32.Tie as tie
-use Rattle.ftd.proofs.bytes.be32.Reads as reads
-use Rattle.ftd.proofs.bytes.be32.Lts as lts
-use Rattle.ftd.proofs.bytes.wide32.Reads as wide32-reads
 
--- src/bytes.rt:48:12
 shared-slice-read-wide32 : tie.Need-shared-slice-read-wide32
 shared-slice-read-wide32 c = search needs
 
--- src/bytes.rt:48:5
 wide32-requires : tie.Need-wide32-requires
 wide32-requires c κs = search needs
 
--- src/bytes.rt:48:5
 mul-result : tie.Need-mul-result
 mul-result c = search needs
 
--- src/bytes.rt:48:41
 add-wide32 : tie.Need-add-wide32
 add-wide32 c = search needs
 
--- src/bytes.rt:48:39
 shared-slice-read-wide32-2 : tie.Need-shared-slice-read-wide32-2
 shared-slice-read-wide32-2 c = search needs
 
--- src/bytes.rt:48:32
 wide32-requires-2 : tie.Need-wide32-requires-2
 wide32-requires-2 c κs = search needs
 
--- src/bytes.rt:48:32
 mul-result-2 : tie.Need-mul-result-2
 mul-result-2 c = search needs
 
--- src/bytes.rt:48:5
 add-result : tie.Need-add-result
 add-result c = search needs
 
--- src/bytes.rt:48:69
 add-wide32-2 : tie.Need-add-wide32-2
 add-wide32-2 c = search needs
 
--- src/bytes.rt:48:67
 shared-slice-read-wide32-3 : tie.Need-shared-slice-read-wide32-3
 shared-slice-read-wide32-3 c = search needs
 
--- src/bytes.rt:48:60
 wide32-requires-3 : tie.Need-wide32-requires-3
 wide32-requires-3 c κs = search needs
 
--- src/bytes.rt:48:60
 mul-result-3 : tie.Need-mul-result-3
 mul-result-3 c = search needs
 
--- src/bytes.rt:48:5
 add-result-2 : tie.Need-add-result-2
 add-result-2 c = search needs
 
--- src/bytes.rt:48:95
 add-wide32-3 : tie.Need-add-wide32-3
 add-wide32-3 c = search needs
 
--- src/bytes.rt:48:93
 shared-slice-read-wide32-4 : tie.Need-shared-slice-read-wide32-4
 shared-slice-read-wide32-4 c = search needs
 
--- src/bytes.rt:48:86
 wide32-requires-4 : tie.Need-wide32-requires-4
 wide32-requires-4 c κs = search needs
 
--- src/bytes.rt:48:5
 add-result-3 : tie.Need-add-result-3
 add-result-3 c = search needs
 
--- src/bytes.rt:44:1
 returns : tie.Need-returns
 unfolding be32Of
 returns c = search tests

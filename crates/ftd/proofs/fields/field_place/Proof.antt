@@ -1,17 +1,14 @@
-use borrow.Author.Needs.{needs}
-use Prim.Native.Nat.{_+_, _-_, _≤_}
-use mathlib.Core.Path.{_≡_, refl, sym, _∙_}
+-- `fields::field_place` meets its contract. Assumes nothing.
+use Prim.Native.Nat.{_-_, _≤_}
+use mathlib.Core.Path.{_≡_, refl}
 use native.Mathlib.Omega.{arith}
+use borrow.Author.Needs.{needs}
 use lib.ListN.{length, drop}
 use Rattle.ftd.specs.Runs.{runOf}
 use Rattle.ftd.specs.Fields.{field, placeIn, placeOf}
 use Rattle.ftd.proofs.Turns.{field-head, place-over, place-here, place-turn}
 use Rattle.ftd.proofs.fields.field_place.Statement.{statement}
 use Rattle.ftd.proofs.fields.field_place.Tie as tie
-use Rattle.ftd.proofs.fields.field_place.Reads as reads
-use Rattle.ftd.proofs.fields.field_place.Lts as lts
-use Rattle.ftd.proofs.bytes.be32.Reads as be32-reads
-use Rattle.ftd.proofs.fields.field_size.Reads as field-size-reads
 
 abbrev Inv-loop : tie.InvT-loop
 Inv-loop content i at₀ left₀ at left = (at ≤ length content) × (placeIn at (runOf field (drop at content) .entries) left ≡ placeOf content i)
@@ -19,56 +16,45 @@ Inv-loop content i at₀ left₀ at left = (at ≤ length content) × (placeIn a
 abbrev μ-loop : tie.MeasureT-loop
 μ-loop content i at₀ left₀ at left = length content - at
 
--- src/fields.rt:61:5
 loop-holds : tie.Need-loop-holds Inv-loop μ-loop
 unfolding placeOf
 loop-holds c = (search needs, refl)
 
--- src/fields.rt:62:13
 field-size-requires : tie.Need-field-size-requires Inv-loop μ-loop
 field-size-requires c κs = search needs
 
--- src/fields.rt:64:13
 returns : tie.Need-returns Inv-loop μ-loop
 returns c = (search (needs, place-over), tt)
 
--- src/fields.rt:67:45
 be32-requires : tie.Need-be32-requires Inv-loop μ-loop
 be32-requires c κs =
     let h : 6 ≤ c .before .before .field-size .result = search (needs, field-head) in
     omega arith
 
--- src/fields.rt:67:71
 add-t8 : tie.Need-add-t8 Inv-loop μ-loop
 add-t8 c =
     let h : 6 ≤ c .before .before .before .field-size .result = search (needs, field-head) in
     omega arith
 
--- src/fields.rt:67:84
 sub-t9 : tie.Need-sub-t9 Inv-loop μ-loop
 sub-t9 c =
     let h : 6 ≤ c .before .before .before .field-size .result = search (needs, field-head) in
     omega arith
 
--- src/fields.rt:67:13
 returns-2 : tie.Need-returns-2 Inv-loop μ-loop
 returns-2 c =
     let h : 6 ≤ c .before .before .before .field-size .result = search (needs, field-head) in
     (rw (c .be32 .ensures) (search (needs, place-here)), omega arith)
 
--- src/fields.rt:69:9
 add-at : tie.Need-add-at Inv-loop μ-loop
 add-at c = search needs
 
--- src/fields.rt:70:9
 sub-left : tie.Need-sub-left Inv-loop μ-loop
 sub-left c = search needs
 
--- src/fields.rt:61:5
 loop-less : tie.Need-loop-less Inv-loop μ-loop
 loop-less c = search needs
 
--- src/fields.rt:61:5
 loop-again : tie.Need-loop-again Inv-loop μ-loop
 loop-again c = (search needs, search (needs, place-turn))
 

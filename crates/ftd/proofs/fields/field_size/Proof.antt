@@ -1,53 +1,41 @@
-use mathlib.Core.Path.{sym, _∙_}
+-- `fields::field_size` meets its contract. Assumes nothing.
+use mathlib.Core.Path.{sym}
 use native.Mathlib.Omega.{arith}
-use Rattle.ftd.proofs.Heads.{field-short, field-whole}
 use borrow.Author.Needs.{needs}
+use Rattle.ftd.proofs.Heads.{field-short, field-whole}
 use Rattle.ftd.proofs.fields.field_size.Statement.{statement}
 use Rattle.ftd.proofs.fields.field_size.Tie as tie
-use Rattle.ftd.proofs.fields.field_size.Reads as reads
-use Rattle.ftd.proofs.fields.field_size.Lts as lts
-use Rattle.ftd.proofs.bytes.be16.Reads as be16-reads
-use Rattle.ftd.proofs.bytes.size16.Reads as size16-reads
 
--- src/fields.rt:22:9
 returns : tie.Need-returns
 returns c =
     let a = c .before .before .args in
     (sym (field-short (a .content .now) (a .at) (omega arith)), search needs)
 
--- src/fields.rt:24:16
 sub-left : tie.Need-sub-left
 sub-left c = search needs
 
--- src/fields.rt:26:9
 returns-2 : tie.Need-returns-2
 returns-2 c =
     let a = c .before .before .before .args in
     (sym (field-short (a .content .now) (a .at) (omega arith)), search needs)
 
--- src/fields.rt:28:38
 add-be16 : tie.Need-add-be16
 add-be16 c = search needs
 
--- src/fields.rt:28:24
 be16-requires : tie.Need-be16-requires
 be16-requires c κs = search needs
 
--- src/fields.rt:28:17
 size16-requires : tie.Need-size16-requires
 size16-requires c κs = search needs
 
--- src/fields.rt:28:13
 add-n : tie.Need-add-n
 add-n c = search needs
 
--- src/fields.rt:30:9
 returns-3 : tie.Need-returns-3
 returns-3 c =
     let a = c .before .before .before .before .before .before .args in
     (sym (field-short (a .content .now) (a .at) (omega arith)), search needs)
 
--- src/fields.rt:18:1
 returns-4 : tie.Need-returns-4
 returns-4 c =
     let a = c .before .before .before .before .before .before .args in

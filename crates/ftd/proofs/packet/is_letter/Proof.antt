@@ -1,26 +1,21 @@
+-- `packet::is_letter` meets its contract. Assumes nothing.
 use Rattle.ftd.specs.Packets.{isLetter}
 use Rattle.ftd.proofs.Tests.{tests}
 use Rattle.ftd.proofs.packet.is_letter.Statement.{statement}
 use Rattle.ftd.proofs.packet.is_letter.Tie as tie
-use Rattle.ftd.proofs.packet.is_letter.Reads as reads
-use Rattle.ftd.proofs.packet.is_letter.Lts as lts
 
--- src/packet.rt:94:9
 returns : tie.Need-returns
 unfolding isLetter
 returns c = search tests
 
--- src/packet.rt:97:9
 returns-2 : tie.Need-returns-2
 unfolding isLetter
 returns-2 c = search tests
 
--- src/packet.rt:100:9
 returns-3 : tie.Need-returns-3
 unfolding isLetter
 returns-3 c = search tests
 
--- src/packet.rt:90:1
 returns-4 : tie.Need-returns-4
 unfolding isLetter
 returns-4 c = search tests

@@ -1,21 +1,17 @@
+-- `packet::is_skipped` meets its contract. Assumes nothing.
 use Rattle.ftd.specs.Packets.{isSkipped}
 use Rattle.ftd.proofs.Tests.{tests}
 use Rattle.ftd.proofs.packet.is_skipped.Statement.{statement}
 use Rattle.ftd.proofs.packet.is_skipped.Tie as tie
-use Rattle.ftd.proofs.packet.is_skipped.Reads as reads
-use Rattle.ftd.proofs.packet.is_skipped.Lts as lts
 
--- src/packet.rt:81:9
 returns : tie.Need-returns
 unfolding isSkipped
 returns c = search tests
 
--- src/packet.rt:84:9
 returns-2 : tie.Need-returns-2
 unfolding isSkipped
 returns-2 c = search tests
 
--- src/packet.rt:77:1
 returns-3 : tie.Need-returns-3
 unfolding isSkipped
 returns-3 c = search tests

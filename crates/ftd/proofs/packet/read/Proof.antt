@@ -1,72 +1,55 @@
+-- `packet::read` meets its contract. Assumes nothing.
 use mathlib.Core.Path.{refl, sym, _∙_}
-use Rattle.ftd.proofs.Decided.{read-head-missing, read-long, read-body, read-rest-missing, read-there}
 use borrow.Author.Needs.{needs}
+use Rattle.ftd.proofs.Decided.{read-head-missing, read-long, read-body, read-rest-missing, read-there}
 use Rattle.ftd.proofs.packet.read.Statement.{statement}
 use Rattle.ftd.proofs.packet.read.Tie as tie
-use Rattle.ftd.proofs.packet.read.Reads as reads
-use Rattle.ftd.proofs.packet.read.Lts as lts
-use Rattle.ftd.proofs.bytes.be16.Reads as be16-reads
-use Rattle.ftd.proofs.bytes.size16.Reads as size16-reads
-use Rattle.ftd.proofs.bytes.size8.Reads as size8-reads
-use Rattle.ftd.proofs.packet.read_whole.Reads as read-whole-reads
-use Rattle.ftd.proofs.packet.wrong_body.Reads as wrong-body-reads
 
--- src/packet.rt:198:9
 returns : tie.Need-returns
 returns c = search (needs, read-head-missing)
 
--- src/packet.rt:200:16
 shared-slice-read-kind : tie.Need-shared-slice-read-kind
 shared-slice-read-kind c = search needs
 
--- src/packet.rt:201:21
 shared-slice-read-size8 : tie.Need-shared-slice-read-size8
 shared-slice-read-size8 c = search needs
 
--- src/packet.rt:201:9
 size8-requires : tie.Need-size8-requires
 size8-requires c κs = search needs
 
--- src/packet.rt:202:23
 be16-requires : tie.Need-be16-requires
 be16-requires c κs = search needs
 
--- src/packet.rt:202:9
 size16-requires : tie.Need-size16-requires
 size16-requires c κs = search needs
 
--- src/packet.rt:204:9
 returns-2 : tie.Need-returns-2
 returns-2 c = search (needs, read-long)
 
--- src/packet.rt:206:8
 wrong-body-requires : tie.Need-wrong-body-requires
 wrong-body-requires c κs = search needs
 
--- src/packet.rt:207:9
 returns-3 : tie.Need-returns-3
 returns-3 c = search (needs, read-body)
 
--- src/packet.rt:209:18
 add-if4 : tie.Need-add-if4
 add-if4 c = search needs
 
--- src/packet.rt:209:18
 add-if4-2 : tie.Need-add-if4-2
 add-if4-2 c = search needs
 
--- src/packet.rt:210:9
 returns-4 : tie.Need-returns-4
 returns-4 c = search (needs, read-rest-missing)
 
--- src/packet.rt:212:5
 read-whole-requires : tie.Need-read-whole-requires
 read-whole-requires c κs =
-    let h = c .before .before .before .before in
-    ((h .before .before .size8 .ensures .0, h .size16 .ensures .0 ∙ h .before .be16 .ensures), refl, c .if4 .left,
-    sym (c .before .before .wrong-body .ensures) ∙ c .before .if3 .left)
+    let h = c .before .before .before .before in (
+      (h .before .before .size8 .ensures .0, h .size16 .ensures .0 ∙ h .before .be16 .ensures),
+      refl,
+      c .if4 .left,
+      sym (c .before .before .wrong-body .ensures) ∙ c .before .if3 .left,
+    )
 
--- src/packet.rt:194:1
 returns-5 : tie.Need-returns-5
 returns-5 c = search (needs, read-there)
 

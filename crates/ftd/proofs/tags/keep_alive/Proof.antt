@@ -1,29 +1,22 @@
-use Rattle.ftd.specs.Tags.{keepAliveOf}
+-- `tags::keep_alive` meets its contract. Assumes nothing.
 use borrow.Author.Needs.{needs}
+use Rattle.ftd.specs.Tags.{keepAliveOf}
 use Rattle.ftd.proofs.tags.keep_alive.Statement.{statement}
 use Rattle.ftd.proofs.tags.keep_alive.Tie as tie
-use Rattle.ftd.proofs.tags.keep_alive.Reads as reads
-use Rattle.ftd.proofs.tags.keep_alive.Lts as lts
-use Rattle.ftd.proofs.tags.find_tag.Reads as find-tag-reads
 
--- src/tags.rt:128:11
 find-tag-requires : tie.Need-find-tag-requires
 find-tag-requires c κs = search needs
 
--- src/tags.rt:129:28
 enum-told : tie.Need-enum-told
 enum-told c = search needs
 
--- src/tags.rt:130:48
 enum-told-2 : tie.Need-enum-told-2
 enum-told-2 c = search needs
 
--- src/tags.rt:125:1
 returns : tie.Need-returns
 unfolding keepAliveOf
 returns c = rw (← (c .before .before .find-tag .ensures .0), c .enum-told .given .1)
 
--- src/tags.rt:125:1
 returns-2 : tie.Need-returns-2
 unfolding keepAliveOf
 returns-2 c = rw (← (c .before .before .find-tag .ensures .0), c .enum-told2 .given .1)

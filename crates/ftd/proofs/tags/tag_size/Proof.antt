@@ -1,52 +1,41 @@
-use mathlib.Core.Path.{sym, _∙_}
+-- `tags::tag_size` meets its contract. Assumes nothing.
+use mathlib.Core.Path.{sym}
 use native.Mathlib.Omega.{arith}
-use Rattle.ftd.proofs.Heads.{tag-short, tag-whole}
 use borrow.Author.Needs.{needs}
+use Rattle.ftd.proofs.Heads.{tag-short, tag-whole}
 use Rattle.ftd.proofs.tags.tag_size.Statement.{statement}
 use Rattle.ftd.proofs.tags.tag_size.Tie as tie
-use Rattle.ftd.proofs.tags.tag_size.Reads as reads
-use Rattle.ftd.proofs.tags.tag_size.Lts as lts
-use Rattle.ftd.proofs.bytes.size8.Reads as size8-reads
 
--- src/tags.rt:31:9
 returns : tie.Need-returns
 returns c =
     let a = c .before .before .args in
     (sym (tag-short (a .extension .now) (a .at) (omega arith)), search needs)
 
--- src/tags.rt:33:16
 sub-left : tie.Need-sub-left
 sub-left c = search needs
 
--- src/tags.rt:35:9
 returns-2 : tie.Need-returns-2
 returns-2 c =
     let a = c .before .before .before .args in
     (sym (tag-short (a .extension .now) (a .at) (omega arith)), search needs)
 
--- src/tags.rt:37:33
 add-size8 : tie.Need-add-size8
 add-size8 c = search needs
 
--- src/tags.rt:37:23
 shared-slice-read-size8 : tie.Need-shared-slice-read-size8
 shared-slice-read-size8 c = search needs
 
--- src/tags.rt:37:17
 size8-requires : tie.Need-size8-requires
 size8-requires c κs = search needs
 
--- src/tags.rt:37:13
 add-n : tie.Need-add-n
 add-n c = search needs
 
--- src/tags.rt:39:9
 returns-3 : tie.Need-returns-3
 returns-3 c =
     let a = c .before .before .before .before .before .before .args in
     (sym (tag-short (a .extension .now) (a .at) (omega arith)), search needs)
 
--- src/tags.rt:27:1
 returns-4 : tie.Need-returns-4
 returns-4 c =
     let a = c .before .before .before .before .before .before .args in

@@ -1,43 +1,33 @@
-use borrow.Author.Tests.{eq-eqb, ne-eqb}
+-- `tags::trade_date` meets its contract. Assumes nothing.
 use native.Mathlib.Omega.{arith}
-use Rattle.ftd.specs.Tags.{tradeDateOf}
+use borrow.Author.Tests.{eq-eqb, ne-eqb}
 use borrow.Author.Needs.{needs}
+use Rattle.ftd.specs.Tags.{tradeDateOf}
 use Rattle.ftd.proofs.tags.trade_date.Statement.{statement}
 use Rattle.ftd.proofs.tags.trade_date.Tie as tie
-use Rattle.ftd.proofs.tags.trade_date.Reads as reads
-use Rattle.ftd.proofs.tags.trade_date.Lts as lts
-use Rattle.ftd.proofs.bytes.be32.Reads as be32-reads
-use Rattle.ftd.proofs.tags.find_tag.Reads as find-tag-reads
 
--- src/tags.rt:113:11
 find-tag-requires : tie.Need-find-tag-requires
 find-tag-requires c κs = search needs
 
--- src/tags.rt:114:28
 enum-told : tie.Need-enum-told
 enum-told c = search needs
 
--- src/tags.rt:115:26
 enum-known-start : tie.Need-enum-known-start
 enum-known-start c = search needs
 
--- src/tags.rt:117:38
 be32-requires : tie.Need-be32-requires
 be32-requires c κs = omega (arith, rw (c .before .before .start .given .1) at (c .before .before .before .before .find-tag .ensures .1))
 
--- src/tags.rt:117:17
 returns : tie.Need-returns
 unfolding tradeDateOf
 returns c =
     let p = c .before .before .before in
     rw (← (p .before .before .find-tag .ensures .0), p .start .given .1, eq-eqb _ _ (c .before .if1 .taken), c .be32 .ensures)
 
--- src/tags.rt:110:1
 returns-2 : tie.Need-returns-2
 unfolding tradeDateOf
 returns-2 c = rw (← (c .before .before .find-tag .ensures .0), c .enum-told .given .1)
 
--- src/tags.rt:110:1
 returns-3 : tie.Need-returns-3
 unfolding tradeDateOf
 returns-3 c =

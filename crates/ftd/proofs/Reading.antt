@@ -1,0 +1,352 @@
+-- What holds of the reader's answers. Assumes nothing.
+use Prim.Native.Nat.{ℕ, zero, suc, _+_, _-_, _<_, _≤_}
+use mathlib.Core.Path.{_≡_, refl, sym, ap, _∙_}
+use mathlib.Core.List.{List, [], _∷_, _++_}
+use mathlib.Core.Bool.{Bool, true, false, cond, _&&_}
+use native.Mathlib.Omega.{arith}
+use borrow.Author.Tests.{ltb-true, ltb-false, eqb-true, eqb-false, not-true, not-false}
+use lib.ListN.{length, getD, take, drop, length-append, length-take}
+use lib.Seq.{drop-drop}
+use lib.Dec.{eqb}
+use Rattle.ftd.specs.Bytes.{be16Of, be32Of, part, joined, Bytes}
+use Rattle.ftd.specs.Runs.{runOf, ended}
+use Rattle.ftd.specs.Tags.{goodTags}
+use Rattle.ftd.specs.Fields.{field, fieldsOf, fidOf, bytesOf, exactRun, placeIn, placeOf, FieldInside}
+use Rattle.ftd.specs.declared.fields.FieldPlace.{FieldPlace}
+use Rattle.ftd.specs.declared.fields.FieldPlace.the-variants.{NoField, Field}
+use Rattle.ftd.specs.Packets.{Said, kindOf, extensionLength, bodyLength, saidLength, extensionOf, versionOf, tidOf, letterOf, seriesOf, messageNumberOf, fieldCountOf, contentLengthOf, contentOf, headMissing, restMissing, longExtension, wrongBody, isSkipped, brokenTag, isLink, wrongVersion, isLetter, wrongLetter, wrongContentLength, wrongFields, chainOf, headerOf, messageOf, wholeOf, readOf, isShort, fieldsWithin, messageFields, movedBy, FitsIn, fieldWithin, fieldOf, partAt, fieldBytes}
+use Rattle.ftd.specs.Laws.{Inside, InWidth, ReadLaws}
+use Rattle.ftd.specs.declared.refusal.Refusal.{Refusal}
+use Rattle.ftd.specs.declared.refusal.Refusal.the-variants.{LongExtension, BrokenTag, BodyLength, Version, ChainLetter, ContentLength, FieldRun}
+use Rattle.ftd.specs.declared.packet.Header.{Header}
+use Rattle.ftd.specs.declared.packet.Packet.{Packet}
+use Rattle.ftd.specs.declared.packet.Packet.the-variants.{Short, Link, Skipped, Message, Refused}
+use Rattle.ftd.proofs.Lists.{byte-append, be16-append, be32-append, part-append, be16-width, be32-width, part-part, drop-part, joined-part, joined-inside}
+use Rattle.ftd.proofs.Runs.{run-whole}
+use Rattle.ftd.proofs.Decided.{header-made, version-wrong, letter-wrong, length-wrong, fields-wrong, message-good, whole-skipped, whole-broken, whole-link, whole-message, body-bounds, body-least, read-long, read-body, read-there}
+
+-- A test decides between two answers: both cases are shown.
+pub by-test : {A : Type 0} (P : A → Type 0) (b : Bool) {x y : A} → (b ≡ true → P x) → (b ≡ false → P y) → P (cond b x y)
+by-test P true f g = f refl
+by-test P false f g = g refl
+
+-- ─── Each place lies inside the packet ───
+
+pub inside : (p : List ℕ) → Inside p (readOf p)
+unfolding readOf restMissing wholeOf messageOf headerOf saidLength
+inside p =
+    by-test (Inside p) (headMissing p) (λ a. tt) (λ a.
+    by-test (Inside p) (longExtension p) (λ b. tt) (λ b.
+    by-test (Inside p) (wrongBody (kindOf p) (bodyLength p)) (λ c. tt) (λ c.
+    by-test (Inside p) (restMissing p) (λ d. tt) (λ d.
+    let there : 4 + extensionLength p + bodyLength p ≤ length p = ltb-false (length p) (4 + extensionLength p + bodyLength p) d in
+    by-test (Inside p) (isSkipped (kindOf p) (bodyLength p)) (λ e. (refl, refl, there)) (λ e.
+    by-test (Inside p) (brokenTag p) (λ f. tt) (λ f.
+    by-test (Inside p) (isLink p) (λ g. (omega (arith, eqb-true (bodyLength p) 0 g), there)) (λ g.
+    let least : 16 ≤ bodyLength p = body-least (kindOf p) (bodyLength p) _ refl e c (eqb-false (bodyLength p) 0 g) in
+    by-test (Inside p) (wrongVersion p) (λ h. tt) (λ h.
+    by-test (Inside p) (wrongLetter p) (λ i. tt) (λ i.
+    by-test (Inside p) (wrongContentLength p) (λ j. tt) (λ j.
+    by-test (Inside p) (wrongFields p) (λ k. tt) (λ k. (omega arith, omega arith, there))))))))))))
+
+-- ─── What a message packet has passed ───
+
+pub record Accepted (p : List ℕ) (h : Header) : Type 0 where
+  pub four : 4 ≤ length p
+  pub extension : extensionLength p ≤ 127
+  pub there : saidLength p ≤ length p
+  pub kind : kindOf p ≡ 1
+  pub least : 16 ≤ bodyLength p
+  pub most : bodyLength p ≤ 4096
+  pub tags : goodTags (extensionOf p) ≡ true
+  pub version : versionOf p ≡ 1
+  pub letter : isLetter (letterOf p) ≡ true
+  pub size : contentLengthOf p + 16 ≡ bodyLength p
+  pub fields : exactRun (contentOf p) (fieldCountOf p) ≡ true
+  pub header : h ≡ headerOf p
+
+short-or : (h : Header) → Short ≡ Message h → ⊥
+short-or h e = let z : _≡_ {A = ℕ} 0 1 = cc in omega arith
+
+refused-or : (r : Refusal) (h : Header) → Refused r ≡ Message h → ⊥
+refused-or r h e = let z : _≡_ {A = ℕ} 0 1 = cc in omega arith
+
+pub accepted : (p : List ℕ) (h : Header) → readOf p ≡ Message h → Accepted p h
+unfolding readOf restMissing wholeOf messageOf
+accepted p h =
+    by-test P (headMissing p) (λ a e. absurd (short-or h e)) (λ a.
+    by-test P (longExtension p) (λ b e. absurd (refused-or LongExtension h e)) (λ b.
+    by-test P (wrongBody (kindOf p) (bodyLength p)) (λ c e. absurd (refused-or BodyLength h e)) (λ c.
+    by-test P (restMissing p) (λ d e. absurd (short-or h e)) (λ d.
+    by-test P (isSkipped (kindOf p) (bodyLength p)) (λ s e. let z : _≡_ {A = ℕ} 0 1 = cc in absurd (omega arith)) (λ s.
+    by-test P (brokenTag p) (λ f e. absurd (refused-or BrokenTag h e)) (λ f.
+    by-test P (isLink p) (λ g e. let z : _≡_ {A = ℕ} 0 1 = cc in absurd (omega arith)) (λ g.
+    by-test P (wrongVersion p) (λ v e. absurd (refused-or Version h e)) (λ v.
+    by-test P (wrongLetter p) (λ l e. absurd (refused-or ChainLetter h e)) (λ l.
+    by-test P (wrongContentLength p) (λ k e. absurd (refused-or ContentLength h e)) (λ k.
+    by-test P (wrongFields p) (λ r e. absurd (refused-or FieldRun h e)) (λ r e.
+    let bounds = body-bounds (kindOf p) (bodyLength p) _ refl s c (eqb-false (bodyLength p) 0 g) in
+    record {
+      four = ltb-false (length p) 4 a;
+      extension = ltb-false 127 (extensionLength p) b;
+      there = ltb-false (length p) (saidLength p) d;
+      kind = bounds .0;
+      least = bounds .1;
+      most = bounds .2;
+      tags = not-false (goodTags (extensionOf p)) f;
+      version = eqb-true (versionOf p) 1 (not-false (eqb (versionOf p) 1) v);
+      letter = not-false (isLetter (letterOf p)) l;
+      size = eqb-true (contentLengthOf p + 16) (bodyLength p) (not-false (eqb (contentLengthOf p + 16) (bodyLength p)) k);
+      fields = not-false (exactRun (contentOf p) (fieldCountOf p)) r;
+      header = cc;
+    })))))))))))
+  where
+    P : Packet → Type 0
+    P x = x ≡ Message h → Accepted p h
+
+-- ─── Bytes behind a packet are not looked at ───
+
+module _ (p q : List ℕ) (four : 4 ≤ length p) where
+  kind-same : kindOf p ≡ kindOf (p ++ q)
+  kind-same = sym (byte-append p q 0 (omega arith))
+
+  said-same : Said (p ++ q) (extensionLength p) (bodyLength p)
+  said-same = (sym (byte-append p q 1 (omega arith)), sym (be16-append p q 2 (omega arith)))
+
+  module _ (there : 4 + extensionLength p + bodyLength p ≤ length p) (least : 16 ≤ bodyLength p) where
+    byte-same : (i : ℕ) → i < 16 → getD p (4 + extensionLength p + i) 0 ≡ getD (p ++ q) (4 + extensionLength p + i) 0
+    byte-same i h = sym (byte-append p q (4 + extensionLength p + i) (omega arith))
+
+    two-same : (i : ℕ) → i + 2 ≤ 16 → be16Of p (4 + extensionLength p + i) ≡ be16Of (p ++ q) (4 + extensionLength p + i)
+    two-same i h = sym (be16-append p q (4 + extensionLength p + i) (omega arith))
+
+    four-same : (i : ℕ) → i + 4 ≤ 16 → be32Of p (4 + extensionLength p + i) ≡ be32Of (p ++ q) (4 + extensionLength p + i)
+    four-same i h = sym (be32-append p q (4 + extensionLength p + i) (omega arith))
+
+    version-same : versionOf p ≡ getD (p ++ q) (4 + extensionLength p) 0
+    unfolding versionOf
+    version-same = sym (byte-append p q (4 + extensionLength p) (omega arith))
+
+    content-same : contentOf p ≡ take (4 + extensionLength p + bodyLength p - (4 + extensionLength p + 16)) (drop (4 + extensionLength p + 16) (p ++ q))
+    unfolding contentOf
+    content-same =
+        let d : 4 + extensionLength p + bodyLength p - (4 + extensionLength p + 16) ≡ bodyLength p - 16 = omega arith in
+        rw (d, part-append p q (4 + extensionLength p + 16) (bodyLength p - 16) (omega arith))
+
+    header-same : headerOf p ≡ headerOf (p ++ q)
+    unfolding headerOf tidOf letterOf seriesOf messageNumberOf fieldCountOf
+    header-same =
+        header-made (p ++ q) (extensionLength p) (bodyLength p) said-same _ _ _ _ _ (four-same 1 (omega arith)) (ap chainOf (byte-same 5 (omega arith)))
+        (two-same 6 (omega arith)) (four-same 8 (omega arith)) (two-same 12 (omega arith))
+
+    message-same : messageOf p ≡ messageOf (p ++ q)
+    unfolding messageOf letterOf contentLengthOf fieldCountOf
+    message-same =
+        let l = p ++ q in
+        by-test (λ x. x ≡ messageOf l) (wrongVersion p)
+        (λ v. version-wrong l _ _ said-same (λ e. eqb-false (versionOf p) 1 (not-true _ v) (version-same ∙ e))) (λ v.
+        let one : getD l (4 + extensionLength p) 0 ≡ 1 = sym version-same ∙ eqb-true (versionOf p) 1 (not-false _ v) in
+        let letter : isLetter (letterOf p) ≡ isLetter (getD l (4 + extensionLength p + 5) 0) = ap isLetter (byte-same 5 (omega arith)) in
+        by-test (λ x. x ≡ messageOf l) (wrongLetter p)
+        (λ w. letter-wrong l _ _ said-same one _ letter (not-true _ w)) (λ w.
+        let size = two-same 14 (omega arith) in
+        by-test (λ x. x ≡ messageOf l) (wrongContentLength p)
+        (λ k. length-wrong l _ _ said-same one _ letter (not-false _ w) _ _ size refl (eqb-false _ (bodyLength p) (not-true _ k))) (λ k.
+        let fits = eqb-true (contentLengthOf p + 16) (bodyLength p) (not-false _ k) in
+        let count = two-same 12 (omega arith) in
+        by-test (λ x. x ≡ messageOf l) (wrongFields p)
+        (λ r. fields-wrong l _ _ said-same one _ letter (not-false _ w) _ _ size refl fits _ count _ (ap (λ (c : List ℕ). exactRun c (fieldCountOf p)) content-same) (not-true _ r))
+        (λ r. message-good l _ _ said-same one _ letter (not-false _ w) _ _ size refl fits _ count _ (ap (λ (c : List ℕ). exactRun c (fieldCountOf p)) content-same) (not-false _ r) _ header-same))))
+
+  tags-same : 4 + extensionLength p ≤ length p → goodTags (extensionOf p) ≡ goodTags (take (4 + extensionLength p - 4) (drop 4 (p ++ q)))
+  unfolding extensionOf
+  tags-same h =
+      let d : 4 + extensionLength p - 4 ≡ extensionLength p = omega arith in
+      rw (d, part-append p q 4 (extensionLength p) h)
+
+  whole-same : 4 + extensionLength p + bodyLength p ≤ length p → wrongBody (kindOf p) (bodyLength p) ≡ false → wholeOf p ≡ wholeOf (p ++ q)
+  unfolding wholeOf
+  whole-same there right =
+      let l = p ++ q in
+      let tags = tags-same (omega arith) in
+      by-test (λ x. x ≡ wholeOf l) (isSkipped (kindOf p) (bodyLength p))
+      (λ s. whole-skipped l _ _ said-same _ kind-same _ refl s) (λ s.
+      by-test (λ x. x ≡ wholeOf l) (brokenTag p)
+      (λ f. whole-broken l _ _ said-same _ kind-same _ refl s _ tags (not-true _ f)) (λ f.
+      by-test (λ x. x ≡ wholeOf l) (isLink p)
+      (λ g. whole-link l _ _ said-same _ kind-same _ refl s _ tags (not-false _ f) (eqb-true (bodyLength p) 0 g)) (λ g.
+      let some = eqb-false (bodyLength p) 0 g in
+      whole-message l _ _ said-same _ kind-same _ refl s _ tags (not-false _ f) some _
+      (message-same there (body-least (kindOf p) (bodyLength p) _ refl s right some)))))
+
+pub stays : (p q : List ℕ) → isShort (readOf p) ≡ false → readOf (p ++ q) ≡ readOf p
+unfolding readOf restMissing saidLength
+stays p q =
+    by-test P (headMissing p) (λ a e. absurd (missing e)) (λ a.
+    let four : 4 ≤ length p = ltb-false (length p) 4 a in
+    let long : 4 ≤ length (p ++ q) = rw length-append (omega arith) in
+    let said = said-same p q four in
+    by-test P (longExtension p) (λ b e. sym (read-long l long _ (said .0) (ltb-true 127 (extensionLength p) b))) (λ b.
+    let fits : extensionLength p ≤ 127 = ltb-false 127 (extensionLength p) b in
+    by-test P (wrongBody (kindOf p) (bodyLength p))
+    (λ c e. sym (read-body l long _ (said .0) fits _ _ _ (kind-same p q four) (said .1) refl _ refl c)) (λ c.
+    by-test P (restMissing p) (λ d e. absurd (missing e)) (λ d e.
+    let there : 4 + extensionLength p + bodyLength p ≤ length p = ltb-false (length p) (4 + extensionLength p + bodyLength p) d in
+    let more : 4 + extensionLength p + bodyLength p ≤ length (p ++ q) = rw length-append (omega arith) in
+    sym (read-there l long _ (said .0) fits _ _ _ (kind-same p q four) (said .1) refl _ refl c more _ (whole-same p q four there c))))))
+  where
+    l : List ℕ
+    l = p ++ q
+
+    P : Packet → Type 0
+    P x = isShort x ≡ false → readOf (p ++ q) ≡ x
+
+    missing : true ≡ false → ⊥
+    missing e = let z : _≡_ {A = ℕ} 0 1 = cc in omega arith
+
+-- ─── A value of the header fits its width ───
+
+pub widths : (p : List ℕ) (h : Header) → Bytes p → readOf p ≡ Message h → InWidth h
+unfolding headerOf tidOf seriesOf messageNumberOf fieldCountOf
+widths p h b e =
+    rw (accepted p h e .header)
+    (record { tid = be32-width p b _; series = be16-width p b _; number = be32-width p b _; fields = be16-width p b _ })
+
+-- ─── The fields of a message packet ───
+
+and-parts : (a b : Bool) → (a && b) ≡ true → (a ≡ true) × (b ≡ true)
+and-parts true true e = (refl, refl)
+and-parts true false e = (refl, e)
+and-parts false b e = let z : _≡_ {A = ℕ} 0 1 = cc in absurd (omega arith)
+
+module _ (p : List ℕ) (h : Header) (e : readOf p ≡ Message h) where
+  content-is : part p (h .content .start) (h .content .len) ≡ contentOf p
+  unfolding headerOf contentOf
+  content-is = rw (accepted p h e .header)
+
+  fields-are : messageFields p ≡ fieldsOf (contentOf p)
+  unfolding messageFields
+  fields-are = rw (e, content-is)
+
+  run-is : (ended (runOf field (contentOf p)) ≡ true) × (eqb (length (fieldsOf (contentOf p))) (fieldCountOf p) ≡ true)
+  unfolding exactRun
+  run-is = and-parts _ _ (accepted p h e .fields)
+
+  pub whole : joined (messageFields p) ≡ part p (h .content .start) (h .content .len)
+  whole = rw (fields-are, content-is) (run-whole field (contentOf p) (run-is .0))
+
+  pub count : length (messageFields p) ≡ h .fields
+  unfolding headerOf
+  count = rw (fields-are, accepted p h e .header) (eqb-true _ _ (run-is .1))
+
+-- Field i of a list of fields that starts at a place.
+place-some : (base : ℕ) (fs : List (List ℕ)) (i : ℕ) → i < length fs
+    → placeIn base fs i ≡ Field (fidOf (getD fs i [])) (base + length (joined (take i fs)) + 6) (length (getD fs i []) - 6)
+place-some base [] i h = absurd (omega arith)
+place-some base (f ∷ fs) zero h = ap (λ (n : ℕ). Field (fidOf f) (n + 6) (length f - 6)) (omega arith)
+place-some base (f ∷ fs) (suc i) h =
+    let k : base + length (f ++ joined (take i fs)) + 6 ≡ base + length f + length (joined (take i fs)) + 6 = rw length-append (omega arith) in
+    rw k (place-some (base + length f) fs i (omega arith))
+
+place-none : (base : ℕ) (fs : List (List ℕ)) (i : ℕ) → length fs ≤ i → placeIn base fs i ≡ NoField
+place-none base [] i h = refl
+place-none base (f ∷ fs) zero h = absurd (omega arith)
+place-none base (f ∷ fs) (suc i) h = place-none (base + length f) fs i (omega arith)
+
+-- What is said of field i of a packet that has that many fields.
+abbrev Found : List ℕ → List ℕ → FieldPlace → Type 0
+Found p f place = (start : ℕ) × (place ≡ Field (fidOf f) start (length f - 6)) × (partAt p place ≡ bytesOf f)
+
+module _ (p : List ℕ) (i : ℕ) where
+  in-message : (h : Header) → readOf p ≡ Message h → i < length (fieldsWithin p (Message h))
+      → Found p (getD (fieldsWithin p (Message h)) i []) (fieldWithin p (Message h) i)
+  unfolding placeOf messageFields
+  in-message h e k =
+      let c : List ℕ = part p (h .content .start) (h .content .len) in
+      let fs : List (List ℕ) = fieldsOf c in
+      let f : List ℕ = getD fs i [] in
+      let a : ℕ = length (joined (take i fs)) in
+      let w : joined fs ≡ c = rw e at (whole p h e) in
+      let room : length c ≤ h .content .len = rw length-take (omega arith) in
+      let fits : a + length f ≤ h .content .len = omega (arith, rw w at (joined-inside fs i k)) in
+      let here : part p (h .content .start + a) (length f) ≡ f =
+      sym (part-part p (h .content .start) (h .content .len) a (length f) fits) ∙ (rw w at (joined-part fs i k)) in
+      let place = place-some 0 fs i k in
+      let d : h .content .start + (0 + a + 6) ≡ h .content .start + a + 6 = omega arith in (
+        h .content .start + (0 + a + 6),
+        ap (movedBy (h .content .start)) place,
+        ap (λ (x : FieldPlace). partAt p (movedBy (h .content .start) x)) place
+            ∙ ap (λ (n : ℕ). part p n (length f - 6)) d
+            ∙ ap (take (length f - 6)) (sym (drop-drop 6 (h .content .start + a) p))
+            ∙ sym (drop-part 6 (length f) (drop (h .content .start + a) p))
+            ∙ ap (drop 6) here,
+      )
+
+  pub some : i < length (messageFields p) → (start : ℕ) × (fieldOf p i ≡ Field (fidOf (getD (messageFields p) i [])) start (length (getD (messageFields p) i []) - 6))
+      × (fieldBytes p i ≡ bytesOf (getD (messageFields p) i []))
+  unfolding messageFields fieldOf fieldBytes
+  some = go (readOf p) refl
+    where
+      go : (x : Packet) → readOf p ≡ x → i < length (fieldsWithin p x) → Found p (getD (fieldsWithin p x) i []) (fieldWithin p x i)
+      go Short e k = absurd (omega arith)
+      go (Link kind extension) e k = absurd (omega arith)
+      go (Skipped kind extension body) e k = absurd (omega arith)
+      go (Message h) e k = in-message h e k
+      go (Refused r) e k = absurd (omega arith)
+
+  pub none : length (messageFields p) ≤ i → (fieldOf p i ≡ NoField) × (fieldBytes p i ≡ [])
+  unfolding messageFields fieldOf fieldBytes placeOf
+  none = go (readOf p)
+    where
+      go : (x : Packet) → length (fieldsWithin p x) ≤ i → (fieldWithin p x i ≡ NoField) × (partAt p (fieldWithin p x i) ≡ [])
+      go Short k = (refl, refl)
+      go (Link kind extension) k = (refl, refl)
+      go (Skipped kind extension body) k = (refl, refl)
+      go (Message h) k = (rw e, rw e)
+        where
+          e : placeIn 0 (fieldsOf (part p (h .content .start) (h .content .len))) i ≡ NoField
+          e = place-none 0 (fieldsOf (part p (h .content .start) (h .content .len))) i k
+      go (Refused r) k = (refl, refl)
+
+-- ─── What `find_field` answers ───
+
+-- A message's content lies inside the packet.
+pub content-inside : (p : List ℕ) (h : Header) → readOf p ≡ Message h → h .content .start + h .content .len ≤ length p
+content-inside p h e = let i = rw e at (inside p) in omega (arith, i .1, i .2)
+
+module _ (p : List ℕ) (h : Header) (g : FieldPlace) where
+  content : List ℕ
+  content = take (h .content .start + h .content .len - h .content .start) (drop (h .content .start) p)
+
+  as-part : content ≡ part p (h .content .start) (h .content .len)
+  unfolding content
+  as-part =
+      let d : h .content .start + h .content .len - h .content .start ≡ h .content .len = omega arith in
+      rw d
+
+  content-room : length content ≤ h .content .len
+  content-room = rw (as-part, length-take) (omega arith)
+
+  pub place-fits : FieldInside (take (h .content .start + h .content .len - h .content .start) (drop (h .content .start) p)) g → FitsIn (h .content .len) g
+  unfolding content
+  place-fits = go g
+    where
+      go : (x : FieldPlace) → FieldInside content x → FitsIn (h .content .len) x
+      go NoField k = tt
+      go (Field fid start len) k = omega (arith, content-room)
+
+  pub field-found : (i : ℕ) (r : FieldPlace) → readOf p ≡ Message h
+      → g ≡ placeOf (take (h .content .start + h .content .len - h .content .start) (drop (h .content .start) p)) i
+      → FieldInside (take (h .content .start + h .content .len - h .content .start) (drop (h .content .start) p)) g
+      → r ≡ movedBy (h .content .start) g → (r ≡ fieldOf p i) × FieldInside p r
+  unfolding content fieldOf
+  field-found i r e q k m = (m ∙ ap (movedBy (h .content .start)) (rw as-part at q) ∙ rw e, rw m (go g k))
+    where
+      go : (x : FieldPlace) → FieldInside content x → FieldInside p (movedBy (h .content .start) x)
+      go NoField k = tt
+      go (Field fid start len) k = omega (arith, content-room, content-inside p h e)
+
+-- ─── All of it ───
+
+pub read-laws : ReadLaws
+read-laws = record { stays = stays; inside = inside; widths = widths; whole = whole; count = count; some = some; none = none }

@@ -1,0 +1,91 @@
+-- The bench examples (01, "Bench examples") as rows of one table. What a definition answers and what the paper says stand
+-- side by side as lists of numbers, so that examples of every kind fit one table.
+use Prim.Native.Nat.{ℕ}
+use mathlib.Core.List.{List, [], _∷_}
+use mathlib.Core.Bool.{Bool, true, false, _&&_}
+use lib.Dec.{eqb, T}
+use Rattle.ftd.specs.Refusals.{numberOf}
+use Rattle.ftd.specs.Packets.{chainLetter, readOf}
+use Rattle.ftd.specs.declared.packet.Packet.{Packet}
+use Rattle.ftd.specs.declared.packet.Packet.the-variants.{Short, Link, Skipped, Message, Refused}
+
+-- ─── Answers in numbers ───
+
+-- Each answer of the reader: which one it is (0 short, 1 link, 2 skipped, 3 message, 4 refused), and its values.
+abbrev pub answerOf : Packet → List ℕ
+answerOf Short = 0 ∷ []
+answerOf (Link kind extension) = 1 ∷ kind ∷ extension .start ∷ extension .len ∷ []
+answerOf (Skipped kind extension body) = 2 ∷ kind ∷ extension .start ∷ extension .len ∷ body .start ∷ body .len ∷ []
+answerOf (Message h) =
+    3 ∷ h .extension .start ∷ h .extension .len ∷ h .tid ∷ chainLetter (h .chain) ∷ h .series ∷ h .number ∷ h .fields
+    ∷ h .content .start ∷ h .content .len ∷ []
+answerOf (Refused r) = 4 ∷ numberOf r ∷ []
+
+abbrev pub short : List ℕ
+short = 0 ∷ []
+
+abbrev pub refused : ℕ → List ℕ
+refused n = 4 ∷ n ∷ []
+
+-- ─── The table ───
+
+-- An example's number in the paper, what the definitions answer, and what the paper says.
+pub record Row : Type 0 where
+  pub example : ℕ
+  pub answer : List ℕ
+  pub paper : List ℕ
+
+abbrev pub row : ℕ → List ℕ → List ℕ → Row
+row n a b = record { example = n; answer = a; paper = b }
+
+-- A row whose bytes are read.
+abbrev pub reads : ℕ → List ℕ → List ℕ → Row
+reads n bytes b = row n (answerOf (readOf bytes)) b
+
+-- The 20-byte packet of the lister's example, by version, chain letter, field count and content length.
+abbrev pub packet : ℕ → ℕ → ℕ → ℕ → List ℕ
+packet version letter fields len =
+    1 ∷ 0 ∷ 0 ∷ 16 ∷ version ∷ 0 ∷ 0 ∷ 32 ∷ 4 ∷ letter ∷ 0 ∷ 1 ∷ 0 ∷ 0 ∷ 0 ∷ 1 ∷ 0 ∷ fields ∷ 0 ∷ len ∷ []
+
+unfoldable pub bench : List Row
+bench =
+    -- P1 no bytes
+    reads 1 [] short
+    -- P2 00 02 00 00 04 00: link
+    ∷ reads 2 (0 ∷ 2 ∷ 0 ∷ 0 ∷ 4 ∷ 0 ∷ []) (1 ∷ 0 ∷ 4 ∷ 2 ∷ [])
+    -- P3 its first five
+    ∷ reads 3 (0 ∷ 2 ∷ 0 ∷ 0 ∷ 4 ∷ []) short
+    -- P4 01 80 00 00: 1; 01 7F 00 00: short
+    ∷ reads 4 (1 ∷ 128 ∷ 0 ∷ 0 ∷ []) (refused 1)
+    ∷ reads 4 (1 ∷ 127 ∷ 0 ∷ 0 ∷ []) short
+    -- P5 00 02 00 00 04 01: 2
+    ∷ reads 5 (0 ∷ 2 ∷ 0 ∷ 0 ∷ 4 ∷ 1 ∷ []) (refused 2)
+    -- P6 body length 15: 3; 16: short; 4,096: short; 4,097: 3
+    ∷ reads 6 (1 ∷ 0 ∷ 0 ∷ 15 ∷ []) (refused 3)
+    ∷ reads 6 (1 ∷ 0 ∷ 0 ∷ 16 ∷ []) short
+    ∷ reads 6 (1 ∷ 0 ∷ 16 ∷ 0 ∷ []) short
+    ∷ reads 6 (1 ∷ 0 ∷ 16 ∷ 1 ∷ []) (refused 3)
+    -- P7 the 20-byte packet: TID 0x2004, S, series 1, number 1, no field, no content
+    ∷ reads 7 (packet 1 83 0 0) (3 ∷ 4 ∷ 0 ∷ 8196 ∷ 83 ∷ 1 ∷ 1 ∷ 0 ∷ 20 ∷ 0 ∷ [])
+    -- P8 in it version 2: 4; chain 's': 5; content length 1: 6; field count 1: 7
+    ∷ reads 8 (packet 2 83 0 0) (refused 4)
+    ∷ reads 8 (packet 1 115 0 0) (refused 5)
+    ∷ reads 8 (packet 1 83 0 1) (refused 6)
+    ∷ reads 8 (packet 1 83 1 0) (refused 7)
+    ∷ []
+
+-- ─── The test ───
+
+abbrev pub same : List ℕ → List ℕ → Bool
+same [] [] = true
+same [] (y ∷ ys) = false
+same (x ∷ xs) [] = false
+same (x ∷ xs) (y ∷ ys) = eqb x y && same xs ys
+
+abbrev pub holds : List Row → Bool
+holds [] = true
+holds (r ∷ rs) = same (r .answer) (r .paper) && holds rs
+
+-- Every row's answer is the paper's.
+abbrev pub Bench : Type 0
+Bench = T (holds bench)
