@@ -3,9 +3,9 @@ use Rattle.ftd.specs.Bytes.{be16Of, be32Of}
 use Rattle.ftd.specs.Runs.{front, runOf}
 use Rattle.ftd.specs.Tags.{tag, lengthRight, knownTags, countDate, goodTags}
 use Rattle.ftd.specs.Fields.{field, exactRun}
-use Rattle.ftd.specs.Packets.{saidLength, extensionOf, versionOf, tidOf, letterOf, seriesOf, messageNumberOf, fieldCountOf, contentLengthOf, contentOf, restMissing, wrongBody, isSkipped, isLetter, chainOf, headerOf, messageOf, wholeOf, readOf}
+use Rattle.ftd.specs.Packets.{saidLength, extensionOf, versionOf, tidOf, letterOf, seriesOf, messageNumberOf, fieldCountOf, contentLengthOf, contentOf, restMissing, wrongBody, isSkipped, isLetter, chainOf, headerOf, acceptedOf, messageOf, wholeOf, readOf}
 use Rattle.ftd.specs.Bench.{bench, Bench}
 
 pub bench-holds : Bench
-unfolding bench be16Of be32Of front runOf tag lengthRight knownTags countDate goodTags field exactRun saidLength extensionOf versionOf tidOf letterOf seriesOf messageNumberOf fieldCountOf contentLengthOf contentOf restMissing wrongBody isSkipped isLetter chainOf headerOf messageOf wholeOf readOf
+unfolding bench be16Of be32Of front runOf tag lengthRight knownTags countDate goodTags field exactRun saidLength extensionOf versionOf tidOf letterOf seriesOf messageNumberOf fieldCountOf contentLengthOf contentOf restMissing wrongBody isSkipped isLetter chainOf headerOf acceptedOf messageOf wholeOf readOf
 bench-holds = tt

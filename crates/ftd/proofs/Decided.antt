@@ -10,19 +10,23 @@ use lib.Dec.{ltb, eqb}
 use Rattle.ftd.specs.Bytes.{be16Of, be32Of}
 use Rattle.ftd.specs.Tags.{goodTags}
 use Rattle.ftd.specs.Fields.{exactRun}
-use Rattle.ftd.specs.Packets.{Said, kindOf, bodyLength, extensionLength, extensionOf, versionOf, tidOf, letterOf, seriesOf, messageNumberOf, fieldCountOf, contentLengthOf, contentOf, wrongBody, isSkipped, restMissing, saidLength, isLetter, span, chainOf, headerOf, messageOf, wholeOf, readOf}
+use Rattle.ftd.specs.Packets.{Said, kindOf, bodyLength, extensionLength, extensionOf, versionOf, tidOf, letterOf, seriesOf, messageNumberOf, fieldCountOf, contentLengthOf, contentOf, wrongBody, isSkipped, restMissing, saidLength, isLetter, span, chainOf, headerOf, acceptedOf, messageOf, wholeOf, readOf}
 use Rattle.ftd.specs.declared.refusal.Refusal.the-variants.{LongExtension, BrokenTag, BodyLength, Version, ChainLetter, ContentLength, FieldRun}
 use Rattle.ftd.specs.declared.packet.Chain.{Chain}
 use Rattle.ftd.specs.declared.packet.Header.{Header}
 use Rattle.ftd.specs.declared.packet.Packet.{Packet}
 use Rattle.ftd.specs.declared.packet.Packet.the-variants.{Short, Link, Skipped, Message, Refused}
 
+pub header-made : (p : List ℕ) (ext : ℕ) → ext ≡ extensionLength p → (tid : ℕ) (chain : Chain) (series number fields : ℕ) → tid ≡ be32Of p (4 + ext + 1)
+    → chain ≡ chainOf (getD p (4 + ext + 5) 0) → series ≡ be16Of p (4 + ext + 6) → number ≡ be32Of p (4 + ext + 8) → fields ≡ be16Of p (4 + ext + 12)
+    → record { tid = tid; chain = chain; series = series; number = number; fields = fields } ≡ headerOf p
+unfolding headerOf tidOf letterOf seriesOf messageNumberOf fieldCountOf
+header-made p ext x tid chain series number fields a b c d e = rw (← x, a, b, c, d, e)
+
 module _ (p : List ℕ) (ext body : ℕ) (said : Said p ext body) where
-  pub header-made : (tid : ℕ) (chain : Chain) (series number fields : ℕ) → tid ≡ be32Of p (4 + ext + 1) → chain ≡ chainOf (getD p (4 + ext + 5) 0)
-      → series ≡ be16Of p (4 + ext + 6) → number ≡ be32Of p (4 + ext + 8) → fields ≡ be16Of p (4 + ext + 12)
-      → record { extension = span 4 ext; tid = tid; chain = chain; series = series; number = number; fields = fields; content = span (4 + ext + 16) (body - 16) } ≡ headerOf p
-  unfolding headerOf tidOf letterOf seriesOf messageNumberOf fieldCountOf
-  header-made tid chain series number fields a b c d e = rw (← (said .0), ← (said .1), a, b, c, d, e)
+  pub accepted-made : (h : Header) → h ≡ headerOf p → Message h (span 4 ext) (span (4 + ext + 16) (body - 16)) ≡ acceptedOf p
+  unfolding acceptedOf
+  accepted-made h e = rw (← (said .0), ← (said .1), e)
 
   pub version-wrong : (getD p (4 + ext) 0 ≡ 1 → ⊥) → Refused Version ≡ messageOf p
   unfolding messageOf versionOf
@@ -49,9 +53,10 @@ module _ (p : List ℕ) (ext body : ℕ) (said : Said p ext body) where
         unfolding messageOf versionOf letterOf contentLengthOf contentOf fieldCountOf
         fields-wrong w = rw (← (said .0), ← (said .1), eq-eqb _ _ v, ← l, right, ← q, ← r, eq-eqb _ _ e, ← same, w)
 
-        pub message-good : whole ≡ true → (h : Header) → h ≡ headerOf p → Message h ≡ messageOf p
+        pub message-good : whole ≡ true → (answer : Packet) → answer ≡ acceptedOf p → answer ≡ messageOf p
         unfolding messageOf versionOf letterOf contentLengthOf contentOf fieldCountOf
-        message-good w h g = rw (← (said .0), ← (said .1), eq-eqb _ _ v, ← l, right, ← q, ← r, eq-eqb _ _ e, ← same, w, g)
+        message-good w answer g =
+            rw (← (said .0), ← (said .1), eq-eqb _ _ v, ← l, right, ← q, ← r, eq-eqb _ _ e, ← same, w) g
 
   module _ (kind : ℕ) (a : kind ≡ kindOf p) (skipped : Bool) (s : skipped ≡ isSkipped kind body) where
     pub whole-skipped : skipped ≡ true → Skipped kind (span 4 ext) (span (4 + ext) body) ≡ wholeOf p

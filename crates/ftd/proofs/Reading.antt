@@ -14,11 +14,12 @@ use Rattle.ftd.specs.Tags.{goodTags}
 use Rattle.ftd.specs.Fields.{field, fieldsOf, fidOf, bytesOf, exactRun, placeIn, placeOf, FieldInside}
 use Rattle.ftd.specs.declared.fields.FieldPlace.{FieldPlace}
 use Rattle.ftd.specs.declared.fields.FieldPlace.the-variants.{NoField, Field}
-use Rattle.ftd.specs.Packets.{Said, kindOf, extensionLength, bodyLength, saidLength, extensionOf, versionOf, tidOf, letterOf, seriesOf, messageNumberOf, fieldCountOf, contentLengthOf, contentOf, headMissing, restMissing, longExtension, wrongBody, isSkipped, brokenTag, isLink, wrongVersion, isLetter, wrongLetter, wrongContentLength, wrongFields, chainOf, headerOf, messageOf, wholeOf, readOf, isShort, fieldsWithin, messageFields, movedBy, FitsIn, fieldWithin, fieldOf, partAt, fieldBytes}
+use Rattle.ftd.specs.Packets.{Said, kindOf, extensionLength, bodyLength, saidLength, extensionOf, versionOf, tidOf, letterOf, seriesOf, messageNumberOf, fieldCountOf, contentLengthOf, contentOf, headMissing, restMissing, longExtension, wrongBody, isSkipped, brokenTag, isLink, wrongVersion, isLetter, wrongLetter, wrongContentLength, wrongFields, chainOf, extensionSpan, contentSpan, headerOf, acceptedOf, messageOf, wholeOf, readOf, isShort, fieldsWithin, messageFields, movedBy, FitsIn, fieldWithin, fieldOf, partAt, fieldBytes}
 use Rattle.ftd.specs.Laws.{Inside, InWidth, ReadLaws}
 use Rattle.ftd.specs.declared.refusal.Refusal.{Refusal}
 use Rattle.ftd.specs.declared.refusal.Refusal.the-variants.{LongExtension, BrokenTag, BodyLength, Version, ChainLetter, ContentLength, FieldRun}
 use Rattle.ftd.specs.declared.packet.Header.{Header}
+use Rattle.ftd.specs.declared.packet.Span.{Span}
 use Rattle.ftd.specs.declared.packet.Packet.{Packet}
 use Rattle.ftd.specs.declared.packet.Packet.the-variants.{Short, Link, Skipped, Message, Refused}
 use Rattle.ftd.proofs.Lists.{byte-append, be16-append, be32-append, part-append, be16-width, be32-width, part-part, drop-part, joined-part, joined-inside}
@@ -33,7 +34,7 @@ by-test P false f g = g refl
 -- ─── Each place lies inside the packet ───
 
 pub inside : (p : List ℕ) → Inside p (readOf p)
-unfolding readOf restMissing wholeOf messageOf headerOf saidLength
+unfolding readOf restMissing wholeOf messageOf acceptedOf saidLength
 inside p =
     by-test (Inside p) (headMissing p) (λ a. tt) (λ a.
     by-test (Inside p) (longExtension p) (λ b. tt) (λ b.
@@ -51,7 +52,7 @@ inside p =
 
 -- ─── What a message packet has passed ───
 
-pub record Accepted (p : List ℕ) (h : Header) : Type 0 where
+pub record Accepted (p : List ℕ) (h : Header) (e c : Span) : Type 0 where
   pub four : 4 ≤ length p
   pub extension : extensionLength p ≤ 127
   pub there : saidLength p ≤ length p
@@ -64,27 +65,29 @@ pub record Accepted (p : List ℕ) (h : Header) : Type 0 where
   pub size : contentLengthOf p + 16 ≡ bodyLength p
   pub fields : exactRun (contentOf p) (fieldCountOf p) ≡ true
   pub header : h ≡ headerOf p
+  pub extent : e ≡ extensionSpan p
+  pub content : c ≡ contentSpan p
 
-short-or : (h : Header) → Short ≡ Message h → ⊥
-short-or h e = let z : _≡_ {A = ℕ} 0 1 = cc in omega arith
+short-or : (h : Header) (x y : Span) → Short ≡ Message h x y → ⊥
+short-or h x y e = let z : _≡_ {A = ℕ} 0 1 = cc in omega arith
 
-refused-or : (r : Refusal) (h : Header) → Refused r ≡ Message h → ⊥
-refused-or r h e = let z : _≡_ {A = ℕ} 0 1 = cc in omega arith
+refused-or : (r : Refusal) (h : Header) (x y : Span) → Refused r ≡ Message h x y → ⊥
+refused-or r h x y e = let z : _≡_ {A = ℕ} 0 1 = cc in omega arith
 
-pub accepted : (p : List ℕ) (h : Header) → readOf p ≡ Message h → Accepted p h
-unfolding readOf restMissing wholeOf messageOf
-accepted p h =
-    by-test P (headMissing p) (λ a e. absurd (short-or h e)) (λ a.
-    by-test P (longExtension p) (λ b e. absurd (refused-or LongExtension h e)) (λ b.
-    by-test P (wrongBody (kindOf p) (bodyLength p)) (λ c e. absurd (refused-or BodyLength h e)) (λ c.
-    by-test P (restMissing p) (λ d e. absurd (short-or h e)) (λ d.
+pub accepted : (p : List ℕ) (h : Header) (x y : Span) → readOf p ≡ Message h x y → Accepted p h x y
+unfolding readOf restMissing wholeOf messageOf acceptedOf
+accepted p h x y =
+    by-test P (headMissing p) (λ a e. absurd (short-or h x y e)) (λ a.
+    by-test P (longExtension p) (λ b e. absurd (refused-or LongExtension h x y e)) (λ b.
+    by-test P (wrongBody (kindOf p) (bodyLength p)) (λ c e. absurd (refused-or BodyLength h x y e)) (λ c.
+    by-test P (restMissing p) (λ d e. absurd (short-or h x y e)) (λ d.
     by-test P (isSkipped (kindOf p) (bodyLength p)) (λ s e. let z : _≡_ {A = ℕ} 0 1 = cc in absurd (omega arith)) (λ s.
-    by-test P (brokenTag p) (λ f e. absurd (refused-or BrokenTag h e)) (λ f.
+    by-test P (brokenTag p) (λ f e. absurd (refused-or BrokenTag h x y e)) (λ f.
     by-test P (isLink p) (λ g e. let z : _≡_ {A = ℕ} 0 1 = cc in absurd (omega arith)) (λ g.
-    by-test P (wrongVersion p) (λ v e. absurd (refused-or Version h e)) (λ v.
-    by-test P (wrongLetter p) (λ l e. absurd (refused-or ChainLetter h e)) (λ l.
-    by-test P (wrongContentLength p) (λ k e. absurd (refused-or ContentLength h e)) (λ k.
-    by-test P (wrongFields p) (λ r e. absurd (refused-or FieldRun h e)) (λ r e.
+    by-test P (wrongVersion p) (λ v e. absurd (refused-or Version h x y e)) (λ v.
+    by-test P (wrongLetter p) (λ l e. absurd (refused-or ChainLetter h x y e)) (λ l.
+    by-test P (wrongContentLength p) (λ k e. absurd (refused-or ContentLength h x y e)) (λ k.
+    by-test P (wrongFields p) (λ r e. absurd (refused-or FieldRun h x y e)) (λ r e.
     let bounds = body-bounds (kindOf p) (bodyLength p) _ refl s c (eqb-false (bodyLength p) 0 g) in
     record {
       four = ltb-false (length p) 4 a;
@@ -99,10 +102,12 @@ accepted p h =
       size = eqb-true (contentLengthOf p + 16) (bodyLength p) (not-false (eqb (contentLengthOf p + 16) (bodyLength p)) k);
       fields = not-false (exactRun (contentOf p) (fieldCountOf p)) r;
       header = cc;
+      extent = cc;
+      content = cc;
     })))))))))))
   where
     P : Packet → Type 0
-    P x = x ≡ Message h → Accepted p h
+    P z = z ≡ Message h x y → Accepted p h x y
 
 -- ─── Bytes behind a packet are not looked at ───
 
@@ -136,8 +141,12 @@ module _ (p q : List ℕ) (four : 4 ≤ length p) where
     header-same : headerOf p ≡ headerOf (p ++ q)
     unfolding headerOf tidOf letterOf seriesOf messageNumberOf fieldCountOf
     header-same =
-        header-made (p ++ q) (extensionLength p) (bodyLength p) said-same _ _ _ _ _ (four-same 1 (omega arith)) (ap chainOf (byte-same 5 (omega arith)))
+        header-made (p ++ q) (extensionLength p) (said-same .0) _ _ _ _ _ (four-same 1 (omega arith)) (ap chainOf (byte-same 5 (omega arith)))
         (two-same 6 (omega arith)) (four-same 8 (omega arith)) (two-same 12 (omega arith))
+
+    accepted-same : acceptedOf p ≡ acceptedOf (p ++ q)
+    unfolding acceptedOf
+    accepted-same = rw (← (said-same .0), ← (said-same .1), ← header-same)
 
     message-same : messageOf p ≡ messageOf (p ++ q)
     unfolding messageOf letterOf contentLengthOf fieldCountOf
@@ -156,7 +165,7 @@ module _ (p q : List ℕ) (four : 4 ≤ length p) where
         let count = two-same 12 (omega arith) in
         by-test (λ x. x ≡ messageOf l) (wrongFields p)
         (λ r. fields-wrong l _ _ said-same one _ letter (not-false _ w) _ _ size refl fits _ count _ (ap (λ (c : List ℕ). exactRun c (fieldCountOf p)) content-same) (not-true _ r))
-        (λ r. message-good l _ _ said-same one _ letter (not-false _ w) _ _ size refl fits _ count _ (ap (λ (c : List ℕ). exactRun c (fieldCountOf p)) content-same) (not-false _ r) _ header-same))))
+        (λ r. message-good l _ _ said-same one _ letter (not-false _ w) _ _ size refl fits _ count _ (ap (λ (c : List ℕ). exactRun c (fieldCountOf p)) content-same) (not-false _ r) _ accepted-same))))
 
   tags-same : 4 + extensionLength p ≤ length p → goodTags (extensionOf p) ≡ goodTags (take (4 + extensionLength p - 4) (drop 4 (p ++ q)))
   unfolding extensionOf
@@ -206,10 +215,10 @@ stays p q =
 
 -- ─── A value of the header fits its width ───
 
-pub widths : (p : List ℕ) (h : Header) → Bytes p → readOf p ≡ Message h → InWidth h
+pub widths : (p : List ℕ) (h : Header) (x y : Span) → Bytes p → readOf p ≡ Message h x y → InWidth h
 unfolding headerOf tidOf seriesOf messageNumberOf fieldCountOf
-widths p h b e =
-    rw (accepted p h e .header)
+widths p h x y b e =
+    rw (accepted p h x y e .header)
     (record { tid = be32-width p b _; series = be16-width p b _; number = be32-width p b _; fields = be16-width p b _ })
 
 -- ─── The fields of a message packet ───
@@ -219,10 +228,10 @@ and-parts true true e = (refl, refl)
 and-parts true false e = (refl, e)
 and-parts false b e = let z : _≡_ {A = ℕ} 0 1 = cc in absurd (omega arith)
 
-module _ (p : List ℕ) (h : Header) (e : readOf p ≡ Message h) where
-  content-is : part p (h .content .start) (h .content .len) ≡ contentOf p
-  unfolding headerOf contentOf
-  content-is = rw (accepted p h e .header)
+module _ (p : List ℕ) (h : Header) (x y : Span) (e : readOf p ≡ Message h x y) where
+  content-is : part p (y .start) (y .len) ≡ contentOf p
+  unfolding contentOf
+  content-is = rw (accepted p h x y e .content)
 
   fields-are : messageFields p ≡ fieldsOf (contentOf p)
   unfolding messageFields
@@ -230,14 +239,14 @@ module _ (p : List ℕ) (h : Header) (e : readOf p ≡ Message h) where
 
   run-is : (ended (runOf field (contentOf p)) ≡ true) × (eqb (length (fieldsOf (contentOf p))) (fieldCountOf p) ≡ true)
   unfolding exactRun
-  run-is = and-parts _ _ (accepted p h e .fields)
+  run-is = and-parts _ _ (accepted p h x y e .fields)
 
-  pub whole : joined (messageFields p) ≡ part p (h .content .start) (h .content .len)
+  pub whole : joined (messageFields p) ≡ part p (y .start) (y .len)
   whole = rw (fields-are, content-is) (run-whole field (contentOf p) (run-is .0))
 
   pub count : length (messageFields p) ≡ h .fields
   unfolding headerOf
-  count = rw (fields-are, accepted p h e .header) (eqb-true _ _ (run-is .1))
+  count = rw (fields-are, accepted p h x y e .header) (eqb-true _ _ (run-is .1))
 
 -- Field i of a list of fields that starts at a place.
 place-some : (base : ℕ) (fs : List (List ℕ)) (i : ℕ) → i < length fs
@@ -258,27 +267,27 @@ abbrev Found : List ℕ → List ℕ → FieldPlace → Type 0
 Found p f place = (start : ℕ) × (place ≡ Field (fidOf f) start (length f - 6)) × (partAt p place ≡ bytesOf f)
 
 module _ (p : List ℕ) (i : ℕ) where
-  in-message : (h : Header) → readOf p ≡ Message h → i < length (fieldsWithin p (Message h))
-      → Found p (getD (fieldsWithin p (Message h)) i []) (fieldWithin p (Message h) i)
+  in-message : (h : Header) (x y : Span) → readOf p ≡ Message h x y → i < length (fieldsWithin p (Message h x y))
+      → Found p (getD (fieldsWithin p (Message h x y)) i []) (fieldWithin p (Message h x y) i)
   unfolding placeOf messageFields
-  in-message h e k =
-      let c : List ℕ = part p (h .content .start) (h .content .len) in
+  in-message h x y e k =
+      let c : List ℕ = part p (y .start) (y .len) in
       let fs : List (List ℕ) = fieldsOf c in
       let f : List ℕ = getD fs i [] in
       let a : ℕ = length (joined (take i fs)) in
-      let w : joined fs ≡ c = rw e at (whole p h e) in
-      let room : length c ≤ h .content .len = rw length-take (omega arith) in
-      let fits : a + length f ≤ h .content .len = omega (arith, rw w at (joined-inside fs i k)) in
-      let here : part p (h .content .start + a) (length f) ≡ f =
-      sym (part-part p (h .content .start) (h .content .len) a (length f) fits) ∙ (rw w at (joined-part fs i k)) in
+      let w : joined fs ≡ c = rw e at (whole p h x y e) in
+      let room : length c ≤ y .len = rw length-take (omega arith) in
+      let fits : a + length f ≤ y .len = omega (arith, rw w at (joined-inside fs i k)) in
+      let here : part p (y .start + a) (length f) ≡ f =
+      sym (part-part p (y .start) (y .len) a (length f) fits) ∙ (rw w at (joined-part fs i k)) in
       let place = place-some 0 fs i k in
-      let d : h .content .start + (0 + a + 6) ≡ h .content .start + a + 6 = omega arith in (
-        h .content .start + (0 + a + 6),
-        ap (movedBy (h .content .start)) place,
-        ap (λ (x : FieldPlace). partAt p (movedBy (h .content .start) x)) place
+      let d : y .start + (0 + a + 6) ≡ y .start + a + 6 = omega arith in (
+        y .start + (0 + a + 6),
+        ap (movedBy (y .start)) place,
+        ap (λ (x : FieldPlace). partAt p (movedBy (y .start) x)) place
             ∙ ap (λ (n : ℕ). part p n (length f - 6)) d
-            ∙ ap (take (length f - 6)) (sym (drop-drop 6 (h .content .start + a) p))
-            ∙ sym (drop-part 6 (length f) (drop (h .content .start + a) p))
+            ∙ ap (take (length f - 6)) (sym (drop-drop 6 (y .start + a) p))
+            ∙ sym (drop-part 6 (length f) (drop (y .start + a) p))
             ∙ ap (drop 6) here,
       )
 
@@ -291,7 +300,7 @@ module _ (p : List ℕ) (i : ℕ) where
       go Short e k = absurd (omega arith)
       go (Link kind extension) e k = absurd (omega arith)
       go (Skipped kind extension body) e k = absurd (omega arith)
-      go (Message h) e k = in-message h e k
+      go (Message h x y) e k = in-message h x y e k
       go (Refused r) e k = absurd (omega arith)
 
   pub none : length (messageFields p) ≤ i → (fieldOf p i ≡ NoField) × (fieldBytes p i ≡ [])
@@ -302,49 +311,49 @@ module _ (p : List ℕ) (i : ℕ) where
       go Short k = (refl, refl)
       go (Link kind extension) k = (refl, refl)
       go (Skipped kind extension body) k = (refl, refl)
-      go (Message h) k = (rw e, rw e)
+      go (Message h x y) k = (rw e, rw e)
         where
-          e : placeIn 0 (fieldsOf (part p (h .content .start) (h .content .len))) i ≡ NoField
-          e = place-none 0 (fieldsOf (part p (h .content .start) (h .content .len))) i k
+          e : placeIn 0 (fieldsOf (part p (y .start) (y .len))) i ≡ NoField
+          e = place-none 0 (fieldsOf (part p (y .start) (y .len))) i k
       go (Refused r) k = (refl, refl)
 
 -- ─── What `find_field` answers ───
 
 -- A message's content lies inside the packet.
-pub content-inside : (p : List ℕ) (h : Header) → readOf p ≡ Message h → h .content .start + h .content .len ≤ length p
-content-inside p h e = let i = rw e at (inside p) in omega (arith, i .1, i .2)
+pub content-inside : (p : List ℕ) (h : Header) (x y : Span) → readOf p ≡ Message h x y → y .start + y .len ≤ length p
+content-inside p h x y e = let i = rw e at (inside p) in omega (arith, i .1, i .2)
 
-module _ (p : List ℕ) (h : Header) (g : FieldPlace) where
+module _ (p : List ℕ) (y : Span) (g : FieldPlace) where
   content : List ℕ
-  content = take (h .content .start + h .content .len - h .content .start) (drop (h .content .start) p)
+  content = take (y .start + y .len - y .start) (drop (y .start) p)
 
-  as-part : content ≡ part p (h .content .start) (h .content .len)
+  as-part : content ≡ part p (y .start) (y .len)
   unfolding content
   as-part =
-      let d : h .content .start + h .content .len - h .content .start ≡ h .content .len = omega arith in
+      let d : y .start + y .len - y .start ≡ y .len = omega arith in
       rw d
 
-  content-room : length content ≤ h .content .len
+  content-room : length content ≤ y .len
   content-room = rw (as-part, length-take) (omega arith)
 
-  pub place-fits : FieldInside (take (h .content .start + h .content .len - h .content .start) (drop (h .content .start) p)) g → FitsIn (h .content .len) g
+  pub place-fits : FieldInside (take (y .start + y .len - y .start) (drop (y .start) p)) g → FitsIn (y .len) g
   unfolding content
   place-fits = go g
     where
-      go : (x : FieldPlace) → FieldInside content x → FitsIn (h .content .len) x
+      go : (x : FieldPlace) → FieldInside content x → FitsIn (y .len) x
       go NoField k = tt
       go (Field fid start len) k = omega (arith, content-room)
 
-  pub field-found : (i : ℕ) (r : FieldPlace) → readOf p ≡ Message h
-      → g ≡ placeOf (take (h .content .start + h .content .len - h .content .start) (drop (h .content .start) p)) i
-      → FieldInside (take (h .content .start + h .content .len - h .content .start) (drop (h .content .start) p)) g
-      → r ≡ movedBy (h .content .start) g → (r ≡ fieldOf p i) × FieldInside p r
+  pub field-found : (h : Header) (x : Span) (i : ℕ) (r : FieldPlace) → readOf p ≡ Message h x y
+      → g ≡ placeOf (take (y .start + y .len - y .start) (drop (y .start) p)) i
+      → FieldInside (take (y .start + y .len - y .start) (drop (y .start) p)) g
+      → r ≡ movedBy (y .start) g → (r ≡ fieldOf p i) × FieldInside p r
   unfolding content fieldOf
-  field-found i r e q k m = (m ∙ ap (movedBy (h .content .start)) (rw as-part at q) ∙ rw e, rw m (go g k))
+  field-found h x i r e q k m = (m ∙ ap (movedBy (y .start)) (rw as-part at q) ∙ rw e, rw m (go g k))
     where
-      go : (x : FieldPlace) → FieldInside content x → FieldInside p (movedBy (h .content .start) x)
+      go : (x : FieldPlace) → FieldInside content x → FieldInside p (movedBy (y .start) x)
       go NoField k = tt
-      go (Field fid start len) k = omega (arith, content-room, content-inside p h e)
+      go (Field fid start len) k = omega (arith, content-room, content-inside p h x y e)
 
 -- ─── All of it ───
 

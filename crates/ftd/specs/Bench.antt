@@ -16,9 +16,9 @@ abbrev pub answerOf : Packet → List ℕ
 answerOf Short = 0 ∷ []
 answerOf (Link kind extension) = 1 ∷ kind ∷ extension .start ∷ extension .len ∷ []
 answerOf (Skipped kind extension body) = 2 ∷ kind ∷ extension .start ∷ extension .len ∷ body .start ∷ body .len ∷ []
-answerOf (Message h) =
-    3 ∷ h .extension .start ∷ h .extension .len ∷ h .tid ∷ chainLetter (h .chain) ∷ h .series ∷ h .number ∷ h .fields
-    ∷ h .content .start ∷ h .content .len ∷ []
+answerOf (Message h extension content) =
+    3 ∷ extension .start ∷ extension .len ∷ h .tid ∷ chainLetter (h .chain) ∷ h .series ∷ h .number ∷ h .fields
+    ∷ content .start ∷ content .len ∷ []
 answerOf (Refused r) = 4 ∷ numberOf r ∷ []
 
 abbrev pub short : List ℕ

@@ -22,8 +22,8 @@ abbrev pub Inside : List ℕ → Packet → Type 0
 Inside p Short = Unit
 Inside p (Link kind extension) = EndsAt extension (saidLength p) × (saidLength p ≤ length p)
 Inside p (Skipped kind extension body) = EndsAt extension (body .start) × EndsAt body (saidLength p) × (saidLength p ≤ length p)
-Inside p (Message h) =
-    EndsAt (h .extension) (h .content .start - 16) × EndsAt (h .content) (saidLength p) × (saidLength p ≤ length p)
+Inside p (Message h extension content) =
+    EndsAt extension (content .start - 16) × EndsAt content (saidLength p) × (saidLength p ≤ length p)
 Inside p (Refused r) = Unit
 
 -- Each value of a header fits the width that it has on the line.
@@ -39,10 +39,10 @@ pub record ReadLaws : Type 0 where
   -- Each place lies inside the packet.
   pub inside : (p : List ℕ) → Inside p (readOf p)
   -- A value of the header fits its width.
-  pub widths : (p : List ℕ) (h : Header) → Bytes p → readOf p ≡ Message h → InWidth h
+  pub widths : (p : List ℕ) (h : Header) (e c : Span) → Bytes p → readOf p ≡ Message h e c → InWidth h
   -- The fields with their heads make up the content exactly, and there are as many as the header says.
-  pub whole : (p : List ℕ) (h : Header) → readOf p ≡ Message h → joined (messageFields p) ≡ part p (h .content .start) (h .content .len)
-  pub count : (p : List ℕ) (h : Header) → readOf p ≡ Message h → length (messageFields p) ≡ h .fields
+  pub whole : (p : List ℕ) (h : Header) (e c : Span) → readOf p ≡ Message h e c → joined (messageFields p) ≡ part p (c .start) (c .len)
+  pub count : (p : List ℕ) (h : Header) (e c : Span) → readOf p ≡ Message h e c → length (messageFields p) ≡ h .fields
   -- Field i is field i of these: its FID, and its bytes without FID and length; from their count on there is none.
   pub some : (p : List ℕ) (i : ℕ) → i < length (messageFields p) →
       (start : ℕ) × (fieldOf p i ≡ Field (fidOf (getD (messageFields p) i [])) start (length (getD (messageFields p) i []) - 6))

@@ -143,17 +143,23 @@ span start len = record { start = start; len = len }
 abbrev pub extensionSpan : List ℕ → Span
 extensionSpan p = span 4 (extensionLength p)
 
+-- Where the content lies.
+abbrev pub contentSpan : List ℕ → Span
+contentSpan p = span (bodyStart p + 16) (bodyLength p - 16)
+
 unfoldable pub headerOf : List ℕ → Header
 headerOf p =
     record {
-      extension = extensionSpan p;
       tid = tidOf p;
       chain = chainOf (letterOf p);
       series = seriesOf p;
       number = messageNumberOf p;
       fields = fieldCountOf p;
-      content = span (bodyStart p + 16) (bodyLength p - 16);
     }
+
+-- A message packet with nothing wrong: its values and places.
+unfoldable pub acceptedOf : List ℕ → Packet
+acceptedOf p = Message (headerOf p) (extensionSpan p) (contentSpan p)
 
 -- ─── Reading: the first test that holds decides ───
 
@@ -164,7 +170,7 @@ messageOf p =
     (cond (wrongLetter p) (Refused ChainLetter)
     (cond (wrongContentLength p) (Refused ContentLength)
     (cond (wrongFields p) (Refused FieldRun)
-    (Message (headerOf p)))))
+    (acceptedOf p))))
 
 -- A packet that is there whole.
 unfoldable pub wholeOf : List ℕ → Packet
@@ -187,7 +193,7 @@ abbrev pub isShort : Packet → Bool
 isShort Short = true
 isShort (Link kind extension) = false
 isShort (Skipped kind extension body) = false
-isShort (Message h) = false
+isShort (Message h extension content) = false
 isShort (Refused r) = false
 
 -- ─── Field i of a packet ───
@@ -197,7 +203,7 @@ abbrev pub fieldsWithin : List ℕ → Packet → List (List ℕ)
 fieldsWithin p Short = []
 fieldsWithin p (Link kind extension) = []
 fieldsWithin p (Skipped kind extension body) = []
-fieldsWithin p (Message h) = fieldsOf (part p (h .content .start) (h .content .len))
+fieldsWithin p (Message h extension content) = fieldsOf (part p (content .start) (content .len))
 fieldsWithin p (Refused r) = []
 
 unfoldable pub messageFields : List ℕ → List (List ℕ)
@@ -217,7 +223,7 @@ abbrev pub fieldWithin : List ℕ → Packet → ℕ → FieldPlace
 fieldWithin p Short i = NoField
 fieldWithin p (Link kind extension) i = NoField
 fieldWithin p (Skipped kind extension body) i = NoField
-fieldWithin p (Message h) i = movedBy (h .content .start) (placeOf (part p (h .content .start) (h .content .len)) i)
+fieldWithin p (Message h extension content) i = movedBy (content .start) (placeOf (part p (content .start) (content .len)) i)
 fieldWithin p (Refused r) i = NoField
 
 unfoldable pub fieldOf : List ℕ → ℕ → FieldPlace

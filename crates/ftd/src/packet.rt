@@ -6,7 +6,7 @@ ghost use lib.ListN.{length};
 ghost use Rattle.ftd.specs.Bench.{Bench};
 ghost use Rattle.ftd.specs.Fields.{FieldInside};
 ghost use Rattle.ftd.specs.Laws.{ReadLaws};
-ghost use Rattle.ftd.specs.Packets.{saidIn, Said, kindOf, wrongBody, isSkipped, isLetter, chainOf, chainLetter, headerOf, messageOf, wholeOf, readOf, FitsIn, movedBy, fieldOf, fieldBytes};
+ghost use Rattle.ftd.specs.Packets.{saidIn, Said, kindOf, extensionLength, wrongBody, isSkipped, isLetter, chainOf, chainLetter, headerOf, acceptedOf, messageOf, wholeOf, readOf, FitsIn, movedBy, fieldOf, fieldBytes};
 use crate::bytes::be16;
 use crate::bytes::be32;
 use crate::bytes::size8;
@@ -31,15 +31,13 @@ pub enum Chain {
     Last,
 }
 
-// The values of a message packet's header, and where its extension and content lie.
+// The values of a message packet's header; its version is 1.
 pub struct Header {
-    pub extension: Span,
     pub tid: u32,
     pub chain: Chain,
     pub series: u16,
     pub number: u32,
     pub fields: u16,
-    pub content: Span,
 }
 
 // What the bytes from the front of a slice are.
@@ -55,7 +53,11 @@ pub enum Packet {
         extension: Span,
         body: Span,
     },
-    Message(Header),
+    Message {
+        header: Header,
+        extension: Span,
+        content: Span,
+    },
     Refused(Refusal),
 }
 
@@ -142,21 +144,31 @@ pub fn letter(c: Chain) -> u8
     }
 }
 
-// The values of a message packet whose body starts at `at`.
-fn header_of(p: &[u8], ext: usize, body: usize) -> Header
-    requires { ⌜ Said (now p) ext body × (4 + ext + body ≤ length (now p)) × (16 ≤ body) ⌝ }
+// The values of the header in a body that starts behind an extension of `ext` bytes.
+fn header_of(p: &[u8], ext: usize) -> Header
+    requires { ⌜ (ext ≡ extensionLength (now p)) × (4 + ext + 16 ≤ length (now p)) ⌝ }
     ensures { λ r. ⌜ r ≡ headerOf (now (p .entry)) ⌝ }
 {
     let at = 4 + ext;
     Header {
-        extension: Span { start: 4, len: ext },
         tid: be32(p, at + 1),
         chain: chain_of(p[at + 5]),
         series: be16(p, at + 6),
         number: be32(p, at + 8),
         fields: be16(p, at + 12),
+    }
+}
+
+// A message packet with nothing wrong: its values and places.
+fn accept(p: &[u8], ext: usize, body: usize) -> Packet
+    requires { ⌜ Said (now p) ext body × (4 + ext + body ≤ length (now p)) × (16 ≤ body) ⌝ }
+    ensures { λ r. ⌜ r ≡ acceptedOf (now (p .entry)) ⌝ }
+{
+    Packet::Message {
+        header: header_of(p, ext),
+        extension: Span { start: 4, len: ext },
         content: Span {
-            start: at + 16,
+            start: 4 + ext + 16,
             len: body - 16,
         },
     }
@@ -176,7 +188,7 @@ fn read_message(p: &[u8], ext: usize, body: usize) -> Packet
             return Packet::Refused(Refusal::ContentLength);
         }
         if exact_run(&p[at + 16..at + body], be16(p, at + 12)) {
-            return Packet::Message(header_of(p, ext, body));
+            return accept(p, ext, body);
         }
         return Packet::Refused(Refusal::FieldRun);
     }
@@ -254,9 +266,13 @@ pub fn find_field(p: &[u8], i: usize) -> FieldPlace
     ensures { λ r. ⌜ (r ≡ fieldOf (now (p .entry)) i) × FieldInside (now (p .entry)) r ⌝ }
 {
     match read(p) {
-        Packet::Message(h) => {
-            let at = h.content.start;
-            let n = h.content.len;
+        Packet::Message {
+            header: _,
+            extension: _,
+            content,
+        } => {
+            let at = content.start;
+            let n = content.len;
             moved(at, field_place(&p[at..at + n], i), n)
         }
         Packet::Short => FieldPlace::NoField,
