@@ -1,8 +1,9 @@
-// Numbers in bytes: unsigned, high byte first. Shared by the crates above, which know the bounds.
+// Numbers in bytes, read and put: unsigned, high byte first. Shared by the crates above, which know the bounds.
+ghost use mathlib.Core.List.{[], _∷_};
 ghost use mathlib.Core.Path.{_≡_};
 ghost use Prim.Native.Nat.{_+_, _<_, _≤_};
 ghost use lib.ListN.{length};
-ghost use Rattle.ftd.specs.Bytes.{be16Of, be32Of};
+ghost use Rattle.ftd.specs.Bytes.{be16Of, be32Of, put, bytes16, bytes32};
 
 // A byte as a number of sixteen bits.
 pub fn wide16(x: u8) -> u16
@@ -49,4 +50,44 @@ pub fn be32(s: &[u8], at: usize) -> u32
         + wide32(s[at + 1]) * 65536
         + wide32(s[at + 2]) * 256
         + wide32(s[at + 3])
+}
+
+// A byte is put at a place.
+pub fn put8(out: &mut [u8], at: usize, x: u8)
+    requires { ⌜ at < length (now out) ⌝ }
+    ensures { λ _. ⌜ now (out .exit) ≡ put (now (out .entry)) at (x ∷ []) ⌝ }
+{
+    out[at] = x;
+}
+
+// A number is put into the two bytes from a place on.
+pub fn put16(out: &mut [u8], at: usize, x: u16)
+    requires { ⌜ at + 2 ≤ length (now out) ⌝ }
+    ensures { λ _. ⌜ now (out .exit) ≡ put (now (out .entry)) at (bytes16 x) ⌝ }
+{
+    out[at] = (x / 256) as u8;
+    out[at + 1] = (x % 256) as u8;
+}
+
+// A number is put into the four bytes from a place on.
+pub fn put32(out: &mut [u8], at: usize, x: u32)
+    requires { ⌜ at + 4 ≤ length (now out) ⌝ }
+    ensures { λ _. ⌜ now (out .exit) ≡ put (now (out .entry)) at (bytes32 x) ⌝ }
+{
+    out[at] = (x / 16777216) as u8;
+    out[at + 1] = (x / 65536 % 256) as u8;
+    out[at + 2] = (x / 256 % 256) as u8;
+    out[at + 3] = (x % 256) as u8;
+}
+
+// Bytes are copied to a place.
+pub fn copy_at(out: &mut [u8], at: usize, src: &[u8])
+    requires { ⌜ at + length (now src) ≤ length (now out) ⌝ }
+    ensures { λ _. ⌜ now (out .exit) ≡ put (now (out .entry)) at (now (src .entry)) ⌝ }
+{
+    let mut i: usize = 0;
+    while i < src.len() {
+        out[at + i] = src[i];
+        i += 1;
+    }
 }
