@@ -7,4 +7,7 @@ pub mod Turns
 pub mod Known
 pub mod Decided
 pub mod Reading
+pub mod Written
+pub mod Numbers
+pub mod RoundTrip
 pub mod Bench

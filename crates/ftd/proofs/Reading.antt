@@ -14,7 +14,7 @@ use Rattle.ftd.specs.Tags.{goodTags}
 use Rattle.ftd.specs.Fields.{field, fieldsOf, fidOf, bytesOf, exactRun, placeIn, placeOf, FieldInside}
 use Rattle.ftd.specs.declared.fields.FieldPlace.{FieldPlace}
 use Rattle.ftd.specs.declared.fields.FieldPlace.the-variants.{NoField, Field}
-use Rattle.ftd.specs.Packets.{Said, kindOf, extensionLength, bodyLength, saidLength, extensionOf, versionOf, tidOf, letterOf, seriesOf, messageNumberOf, fieldCountOf, contentLengthOf, contentOf, headMissing, restMissing, longExtension, wrongBody, isSkipped, brokenTag, isLink, wrongVersion, isLetter, wrongLetter, wrongContentLength, wrongFields, chainOf, extensionSpan, contentSpan, headerOf, acceptedOf, messageOf, wholeOf, readOf, isShort, fieldsWithin, messageFields, movedBy, FitsIn, fieldWithin, fieldOf, partAt, fieldBytes}
+use Rattle.ftd.specs.Packets.{Said, kindOf, extensionLength, bodyLength, saidLength, extensionOf, versionOf, tidOf, letterOf, seriesOf, messageNumberOf, fieldCountOf, contentLengthOf, contentOf, headMissing, restMissing, longExtension, wrongBody, isSkipped, brokenTag, isLink, wrongVersion, isLetter, wrongLetter, wrongContentLength, wrongFields, chainOf, span, bodyStart, extensionSpan, contentSpan, headerOf, acceptedOf, messageOf, wholeOf, readOf, isShort, fieldsWithin, messageFields, movedBy, FitsIn, fieldWithin, fieldOf, partAt, fieldBytes}
 use Rattle.ftd.specs.Laws.{Inside, InWidth, ReadLaws}
 use Rattle.ftd.specs.declared.refusal.Refusal.{Refusal}
 use Rattle.ftd.specs.declared.refusal.Refusal.the-variants.{LongExtension, BrokenTag, BodyLength, Version, ChainLetter, ContentLength, FieldRun}
@@ -31,31 +31,17 @@ pub by-test : {A : Type 0} (P : A → Type 0) (b : Bool) {x y : A} → (b ≡ tr
 by-test P true f g = f refl
 by-test P false f g = g refl
 
--- ─── Each place lies inside the packet ───
+-- ─── What each answer stands for ───
 
-pub inside : (p : List ℕ) → Inside p (readOf p)
-unfolding readOf restMissing wholeOf messageOf acceptedOf saidLength
-inside p =
-    by-test (Inside p) (headMissing p) (λ a. tt) (λ a.
-    by-test (Inside p) (longExtension p) (λ b. tt) (λ b.
-    by-test (Inside p) (wrongBody (kindOf p) (bodyLength p)) (λ c. tt) (λ c.
-    by-test (Inside p) (restMissing p) (λ d. tt) (λ d.
-    let there : 4 + extensionLength p + bodyLength p ≤ length p = ltb-false (length p) (4 + extensionLength p + bodyLength p) d in
-    by-test (Inside p) (isSkipped (kindOf p) (bodyLength p)) (λ e. (refl, refl, there)) (λ e.
-    by-test (Inside p) (brokenTag p) (λ f. tt) (λ f.
-    by-test (Inside p) (isLink p) (λ g. (omega (arith, eqb-true (bodyLength p) 0 g), there)) (λ g.
-    let least : 16 ≤ bodyLength p = body-least (kindOf p) (bodyLength p) _ refl e c (eqb-false (bodyLength p) 0 g) in
-    by-test (Inside p) (wrongVersion p) (λ h. tt) (λ h.
-    by-test (Inside p) (wrongLetter p) (λ i. tt) (λ i.
-    by-test (Inside p) (wrongContentLength p) (λ j. tt) (λ j.
-    by-test (Inside p) (wrongFields p) (λ k. tt) (λ k. (omega arith, omega arith, there))))))))))))
-
--- ─── What a message packet has passed ───
-
-pub record Accepted (p : List ℕ) (h : Header) (e c : Span) : Type 0 where
+-- A packet that the four bytes do not refuse and that is there whole.
+pub record There (p : List ℕ) : Type 0 where
   pub four : 4 ≤ length p
   pub extension : extensionLength p ≤ 127
+  pub right : wrongBody (kindOf p) (bodyLength p) ≡ false
   pub there : saidLength p ≤ length p
+
+-- A message packet with nothing wrong.
+pub record Right (p : List ℕ) : Type 0 where
   pub kind : kindOf p ≡ 1
   pub least : 16 ≤ bodyLength p
   pub most : bodyLength p ≤ 4096
@@ -64,35 +50,35 @@ pub record Accepted (p : List ℕ) (h : Header) (e c : Span) : Type 0 where
   pub letter : isLetter (letterOf p) ≡ true
   pub size : contentLengthOf p + 16 ≡ bodyLength p
   pub fields : exactRun (contentOf p) (fieldCountOf p) ≡ true
-  pub header : h ≡ headerOf p
-  pub extent : e ≡ extensionSpan p
-  pub content : c ≡ contentSpan p
 
-short-or : (h : Header) (x y : Span) → Short ≡ Message h x y → ⊥
-short-or h x y e = let z : _≡_ {A = ℕ} 0 1 = cc in omega arith
-
-refused-or : (r : Refusal) (h : Header) (x y : Span) → Refused r ≡ Message h x y → ⊥
-refused-or r h x y e = let z : _≡_ {A = ℕ} 0 1 = cc in omega arith
-
-pub accepted : (p : List ℕ) (h : Header) (x y : Span) → readOf p ≡ Message h x y → Accepted p h x y
-unfolding readOf restMissing wholeOf messageOf acceptedOf
-accepted p h x y =
-    by-test P (headMissing p) (λ a e. absurd (short-or h x y e)) (λ a.
-    by-test P (longExtension p) (λ b e. absurd (refused-or LongExtension h x y e)) (λ b.
-    by-test P (wrongBody (kindOf p) (bodyLength p)) (λ c e. absurd (refused-or BodyLength h x y e)) (λ c.
-    by-test P (restMissing p) (λ d e. absurd (short-or h x y e)) (λ d.
-    by-test P (isSkipped (kindOf p) (bodyLength p)) (λ s e. let z : _≡_ {A = ℕ} 0 1 = cc in absurd (omega arith)) (λ s.
-    by-test P (brokenTag p) (λ f e. absurd (refused-or BrokenTag h x y e)) (λ f.
-    by-test P (isLink p) (λ g e. let z : _≡_ {A = ℕ} 0 1 = cc in absurd (omega arith)) (λ g.
-    by-test P (wrongVersion p) (λ v e. absurd (refused-or Version h x y e)) (λ v.
-    by-test P (wrongLetter p) (λ l e. absurd (refused-or ChainLetter h x y e)) (λ l.
-    by-test P (wrongContentLength p) (λ k e. absurd (refused-or ContentLength h x y e)) (λ k.
-    by-test P (wrongFields p) (λ r e. absurd (refused-or FieldRun h x y e)) (λ r e.
-    let bounds = body-bounds (kindOf p) (bodyLength p) _ refl s c (eqb-false (bodyLength p) 0 g) in
+-- What holds of each answer, with what has led to it, holds of the reader's.
+pub read-cases : (p : List ℕ) (Q : Packet → Type 0) → Q Short → ((r : Refusal) → Q (Refused r))
+    → (There p → isSkipped (kindOf p) (bodyLength p) ≡ true → Q (Skipped (kindOf p) (extensionSpan p) (span (bodyStart p) (bodyLength p))))
+    → (There p → isSkipped (kindOf p) (bodyLength p) ≡ false → goodTags (extensionOf p) ≡ true → bodyLength p ≡ 0 → Q (Link (kindOf p) (extensionSpan p)))
+    → (There p → Right p → Q (acceptedOf p)) → Q (readOf p)
+unfolding readOf restMissing wholeOf messageOf
+read-cases p Q short refused skipped link message =
+    by-test Q (headMissing p) (λ a. short) (λ a.
+    by-test Q (longExtension p) (λ b. refused LongExtension) (λ b.
+    by-test Q (wrongBody (kindOf p) (bodyLength p)) (λ c. refused BodyLength) (λ c.
+    by-test Q (restMissing p) (λ d. short) (λ d.
+    let w : There p =
     record {
       four = ltb-false (length p) 4 a;
       extension = ltb-false 127 (extensionLength p) b;
+      right = c;
       there = ltb-false (length p) (saidLength p) d;
+    } in
+    by-test Q (isSkipped (kindOf p) (bodyLength p)) (λ s. skipped w s) (λ s.
+    by-test Q (brokenTag p) (λ f. refused BrokenTag) (λ f.
+    by-test Q (isLink p) (λ g. link w s (not-false (goodTags (extensionOf p)) f) (eqb-true (bodyLength p) 0 g)) (λ g.
+    let bounds = body-bounds (kindOf p) (bodyLength p) _ refl s c (eqb-false (bodyLength p) 0 g) in
+    by-test Q (wrongVersion p) (λ v. refused Version) (λ v.
+    by-test Q (wrongLetter p) (λ l. refused ChainLetter) (λ l.
+    by-test Q (wrongContentLength p) (λ k. refused ContentLength) (λ k.
+    by-test Q (wrongFields p) (λ r. refused FieldRun) (λ r.
+    message w
+    (record {
       kind = bounds .0;
       least = bounds .1;
       most = bounds .2;
@@ -101,13 +87,69 @@ accepted p h x y =
       letter = not-false (isLetter (letterOf p)) l;
       size = eqb-true (contentLengthOf p + 16) (bodyLength p) (not-false (eqb (contentLengthOf p + 16) (bodyLength p)) k);
       fields = not-false (exactRun (contentOf p) (fieldCountOf p)) r;
-      header = cc;
-      extent = cc;
-      content = cc;
-    })))))))))))
-  where
-    P : Packet → Type 0
-    P z = z ≡ Message h x y → Accepted p h x y
+    }))))))))))))
+
+-- ─── Each place lies inside the packet ───
+
+pub inside : (p : List ℕ) → Inside p (readOf p)
+unfolding acceptedOf saidLength
+inside p =
+    read-cases p (Inside p) tt (λ r. tt) (λ w s. (refl, refl, w .there)) (λ w s g z. (omega arith, w .there))
+    (λ w r. (omega arith, omega (arith, r .least), w .there))
+
+-- ─── What was read, by its kind ───
+
+pub record Accepted (p : List ℕ) (h : Header) (e c : Span) : Type 0 where
+  pub whole : There p
+  pub right : Right p
+  pub header : h ≡ headerOf p
+  pub extent : e ≡ extensionSpan p
+  pub content : c ≡ contentSpan p
+
+-- Answers of two kinds differ.
+abbrev which : Packet → ℕ
+which Short = 0
+which (Link kind extension) = 1
+which (Skipped kind extension body) = 2
+which (Message h extension content) = 3
+which (Refused r) = 4
+
+pub accepted : (p : List ℕ) (h : Header) (x y : Span) → readOf p ≡ Message h x y → Accepted p h x y
+unfolding acceptedOf
+accepted p h x y =
+    read-cases p (λ z. z ≡ Message h x y → Accepted p h x y) (λ e. absurd (omega (arith, ap which e))) (λ r e. absurd (omega (arith, ap which e)))
+    (λ w s e. absurd (omega (arith, ap which e))) (λ w s g z e. absurd (omega (arith, ap which e)))
+    (λ w r e. record { whole = w; right = r; header = cc; extent = cc; content = cc })
+
+pub record Linked (p : List ℕ) (kind : ℕ) (e : Span) : Type 0 where
+  pub whole : There p
+  pub plain : isSkipped (kindOf p) (bodyLength p) ≡ false
+  pub tags : goodTags (extensionOf p) ≡ true
+  pub body : bodyLength p ≡ 0
+  pub type : kind ≡ kindOf p
+  pub extent : e ≡ extensionSpan p
+
+pub linked : (p : List ℕ) (kind : ℕ) (x : Span) → readOf p ≡ Link kind x → Linked p kind x
+unfolding acceptedOf
+linked p kind x =
+    read-cases p (λ z. z ≡ Link kind x → Linked p kind x) (λ e. absurd (omega (arith, ap which e))) (λ r e. absurd (omega (arith, ap which e)))
+    (λ w s e. absurd (omega (arith, ap which e)))
+    (λ w s g z e. record { whole = w; plain = s; tags = g; body = z; type = cc; extent = cc })
+    (λ w r e. absurd (omega (arith, ap which e)))
+
+pub record Passed (p : List ℕ) (kind : ℕ) (e b : Span) : Type 0 where
+  pub whole : There p
+  pub skipped : isSkipped (kindOf p) (bodyLength p) ≡ true
+  pub type : kind ≡ kindOf p
+  pub extent : e ≡ extensionSpan p
+  pub body : b ≡ span (bodyStart p) (bodyLength p)
+
+pub passed : (p : List ℕ) (kind : ℕ) (x y : Span) → readOf p ≡ Skipped kind x y → Passed p kind x y
+unfolding acceptedOf
+passed p kind x y =
+    read-cases p (λ z. z ≡ Skipped kind x y → Passed p kind x y) (λ e. absurd (omega (arith, ap which e))) (λ r e. absurd (omega (arith, ap which e)))
+    (λ w s e. record { whole = w; skipped = s; type = cc; extent = cc; body = cc })
+    (λ w s g z e. absurd (omega (arith, ap which e))) (λ w r e. absurd (omega (arith, ap which e)))
 
 -- ─── Bytes behind a packet are not looked at ───
 
@@ -239,7 +281,7 @@ module _ (p : List ℕ) (h : Header) (x y : Span) (e : readOf p ≡ Message h x 
 
   run-is : (ended (runOf field (contentOf p)) ≡ true) × (eqb (length (fieldsOf (contentOf p))) (fieldCountOf p) ≡ true)
   unfolding exactRun
-  run-is = and-parts _ _ (accepted p h x y e .fields)
+  run-is = and-parts _ _ (accepted p h x y e .right .fields)
 
   pub whole : joined (messageFields p) ≡ part p (y .start) (y .len)
   whole = rw (fields-are, content-is) (run-whole field (contentOf p) (run-is .0))

@@ -6,3 +6,5 @@ pub mod Fields
 pub mod Packets
 pub mod Laws
 pub mod Bench
+pub mod Writing
+pub mod WriteLaws

@@ -4,3 +4,4 @@ pub mod refusal; // the refusal table
 pub mod tags; // the run of tags in a packet's extension
 pub mod fields; // the run of data fields in a message's content
 pub mod packet; // what a packet is, and its fields
+pub mod write; // packets written

@@ -10,6 +10,7 @@ pub enum Refusal {
     ChainLetter, // 5 chain letter
     ContentLength, // 6 content length
     FieldRun, // 7 field run
+    TooSmall, // 18 too small
 }
 
 // The paper's number of a refusal.
@@ -24,5 +25,6 @@ pub fn number(r: Refusal) -> u8
         Refusal::ChainLetter => 5,
         Refusal::ContentLength => 6,
         Refusal::FieldRun => 7,
+        Refusal::TooSmall => 18,
     }
 }
