@@ -10,4 +10,8 @@ pub mod Reading
 pub mod Written
 pub mod Numbers
 pub mod RoundTrip
+pub mod Shapes
+pub mod Cuts
+pub mod Filled
+pub mod Chained
 pub mod Bench

@@ -1,10 +1,10 @@
 -- The laws of `put`: a run of stores is one put, a put keeps the length, and a put right behind a put is one put. Assumes nothing.
 use Prim.Native.Nat.{ℕ, _+_, _-_, _<_, _≤_}
 use mathlib.Core.Path.{_≡_, refl, sym, ap, _∙_}
-use mathlib.Core.List.{List, [], _∷_, _++_, append-assoc}
+use mathlib.Core.List.{List, [], _∷_, _++_, append-assoc, append-nil}
 use native.Mathlib.Omega.{arith}
-use native.Mathlib.Nat.{zero-add, add-assoc, le-refl}
-use lib.ListN.{length, take, drop, set, getD, length-append, length-take, length-drop}
+use native.Mathlib.Nat.{zero-add, add-assoc, add-zero}
+use lib.ListN.{length, take, drop, set, getD, length-append, length-take, length-drop, take-append-drop}
 use lib.Seq.{sets, sets-eq, paste, take-length, length-take-le, take-at, drop-at, drop-append-add, drop-drop}
 use Rattle.ftd.specs.Bytes.{put}
 
@@ -36,3 +36,7 @@ put-put l at vs ws h =
     rw (take-at p (drop (at + length vs) l) (at + length vs) e)
     (rw (← e) (rw (drop-append-add p (drop (length p) l) (length ws), drop-drop, length-append)
     (simp (append-assoc, length-append, length-take-le, add-assoc))))
+
+pub put-nil : (l : List ℕ) (at : ℕ) → put l at [] ≡ l
+unfolding put
+put-nil l at = rw (append-nil, add-zero) (take-append-drop at l)

@@ -37,7 +37,7 @@ entry-byte l at n i h = rw (getD-take {A = ℕ} n (drop at l) i 0 h, getD-drop)
 
 -- ─── Tags ───
 
-some-tag : 0 < tag .head
+pub some-tag : 0 < tag .head
 unfolding tag
 some-tag = omega arith
 
@@ -92,7 +92,7 @@ module _ (l : List ℕ) (at n : ℕ) (e : n ≡ front tag (drop at l)) where
 
 -- ─── Fields ───
 
-some-field : 0 < field .head
+pub some-field : 0 < field .head
 unfolding field
 some-field = omega arith
 

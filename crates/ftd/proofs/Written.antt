@@ -12,6 +12,8 @@ use Rattle.ftd.specs.Packets.{chainLetter}
 use Rattle.ftd.specs.Writing.{frameHead, packetBytes, headerBytes, messageBytes, isPlain, Verdict, fine, refuse, other, answerOf, outputOf}
 use Rattle.ftd.specs.declared.refusal.Refusal.{Refusal}
 use Rattle.ftd.specs.declared.refusal.Refusal.the-variants.{TooSmall}
+use Rattle.ftd.specs.Chains.{extensionBytes, tagsFor}
+use Rattle.ftd.specs.declared.tags.TradeDate.the-variants.{At}
 use Rattle.ftd.specs.declared.write.Written.{Written}
 use Rattle.ftd.specs.declared.write.Written.the-variants.{Bytes, Refused}
 use Rattle.ftd.specs.declared.packet.Header.{Header}
@@ -104,9 +106,12 @@ module _ (v : Verdict) (bytes out : List ℕ) where
     unfolding answerOf outputOf
     by-room h = rw (e, long, lt-ltb (length out) n h) (refl, refl)
 
-    pub by-writing : (o : List ℕ) → n ≤ length out → o ≡ put out 0 bytes → (Bytes n ≡ answerOf v bytes out) × (o ≡ outputOf v bytes out)
+    pub by-filling : (o : List ℕ) → n ≤ length out → o ≡ bytes ++ drop n out → (Bytes n ≡ answerOf v bytes out) × (o ≡ outputOf v bytes out)
     unfolding answerOf outputOf
-    by-writing o h p = (rw (e, long, le-ltb (length out) n h), p ∙ put-zero out bytes ∙ rw (e, long, le-ltb (length out) n h))
+    by-filling o h p = (rw (e, long, le-ltb (length out) n h), p ∙ rw (e, long, le-ltb (length out) n h))
+
+    pub by-writing : (o : List ℕ) → n ≤ length out → o ≡ put out 0 bytes → (Bytes n ≡ answerOf v bytes out) × (o ≡ outputOf v bytes out)
+    by-writing o h p = by-filling o h (p ∙ put-zero out bytes ∙ rw long)
 
 -- A body that may be written has a length of two bytes.
 pub plain-body : (kind body : ℕ) (plain : Bool) → plain ≡ isPlain kind body → plain ≡ true → body < 65536
@@ -116,3 +121,9 @@ plain-body kind body plain e t = go (ltb 65535 body) refl (sym e ∙ t)
     go : (b : Bool) → ltb 65535 body ≡ b → (not b && (not (eqb kind 1) || eqb body 0)) ≡ true → body < 65536
     go true q f = let z : _≡_ {A = ℕ} 0 1 = cc in absurd (omega arith)
     go false q f = omega (arith, ltb-false 65535 body q)
+
+-- The trade date as the only tag.
+pub date-put : (l o1 o2 o3 : List ℕ) (to d : ℕ) → to ≤ length l → o1 ≡ put l to (5 ∷ []) → o2 ≡ put o1 (to + 1) (4 ∷ []) → o3 ≡ put o2 (to + 2) (bytes32 d)
+    → o3 ≡ put l to (extensionBytes (tagsFor (At d)))
+date-put l o1 o2 o3 to d h b1 b2 b3 =
+    then l o2 o3 to (to + 2) (5 ∷ 4 ∷ []) (bytes32 d) h refl (then l o1 o2 to (to + 1) (5 ∷ []) (4 ∷ []) h refl b1 b2) b3

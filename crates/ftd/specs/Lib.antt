@@ -8,3 +8,4 @@ pub mod Laws
 pub mod Bench
 pub mod Writing
 pub mod WriteLaws
+pub mod Chains

@@ -5,3 +5,4 @@ pub mod tags; // the run of tags in a packet's extension
 pub mod fields; // the run of data fields in a message's content
 pub mod packet; // what a packet is, and its fields
 pub mod write; // packets written
+pub mod chain; // a message cut into packets and written

@@ -88,7 +88,7 @@ fn wrong_body(kind: u8, body: usize) -> bool
 }
 
 // Any type but 0x00 and 0x01, and type 0x00 with a body.
-pub fn is_skipped(kind: u8, body: usize) -> bool
+pub(crate) fn is_skipped(kind: u8, body: usize) -> bool
     ensures { λ r. ⌜ r ≡ isSkipped kind body ⌝ }
 {
     if 1 < kind {

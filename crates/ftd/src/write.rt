@@ -31,7 +31,7 @@ pub enum Written {
 }
 
 // The first four bytes of a packet.
-fn put_frame(out: &mut [u8], to: usize, kind: u8, ext: usize, body: usize)
+pub(crate) fn put_frame(out: &mut [u8], to: usize, kind: u8, ext: usize, body: usize)
     requires { ⌜ (to + 4 ≤ length (now out)) × (ext < 256) × (body < 65536) ⌝ }
     ensures { λ _. ⌜ now (out .exit) ≡ put (now (out .entry)) to (frameHead kind ext body) ⌝ }
 {
@@ -41,7 +41,7 @@ fn put_frame(out: &mut [u8], to: usize, kind: u8, ext: usize, body: usize)
 }
 
 // The header of a message.
-fn put_header(out: &mut [u8], to: usize, h: Header, size: usize)
+pub(crate) fn put_header(out: &mut [u8], to: usize, h: Header, size: usize)
     requires { ⌜ (to + 16 ≤ length (now out)) × (size < 65536) ⌝ }
     ensures { λ _. ⌜ now (out .exit) ≡ put (now (out .entry)) to (headerBytes h size) ⌝ }
 {

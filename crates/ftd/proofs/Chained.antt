@@ -1,0 +1,117 @@
+-- The pieces of a content and the packets of a message, one at a time. Assumes nothing.
+use Prim.Native.Nat.{ℕ, suc, _+_, _-_, _<_, _≤_}
+use mathlib.Core.Path.{_≡_, refl, sym, ap, _∙_}
+use mathlib.Core.List.{List, [], _∷_, _++_}
+use mathlib.Core.Bool.{Bool, true, false, cond, _&&_}
+use native.Mathlib.Omega.{arith}
+use borrow.Author.Tests.{leb-true}
+use lib.ListN.{length, take, drop, length-drop, length-take, length-append, drop-of-length-le}
+use lib.Dec.{leb}
+use Rattle.ftd.specs.Bytes.{part, joined}
+use Rattle.ftd.specs.Runs.{Run, runOf, ended}
+use Rattle.ftd.specs.Fields.{field, fieldsOf}
+use Rattle.ftd.specs.Chains.{allSmall, shapely, Piece, none, with, pack, shaped, piecesOf, othersOf, pieceAt, NextPiece, tagsFor, extensionBytes, chainAt, headerFor, packetFor, isNil, framed, packetsOf, sizeOf}
+use Rattle.ftd.specs.declared.packet.Chain.{Chain}
+use Rattle.ftd.specs.declared.chain.Cut.{Cut}
+use Rattle.ftd.specs.declared.chain.Message.{Message}
+use Rattle.ftd.specs.declared.chain.Size.{Size}
+use Rattle.ftd.proofs.Runs.{run-whole}
+use Rattle.ftd.proofs.Reading.{by-test}
+use Rattle.ftd.proofs.Written.{length-message}
+
+-- There is always a piece.
+packs-some : (p : Piece) (fs : List (List ℕ)) → isNil (pack p fs) ≡ false
+packs-some p [] = refl
+packs-some p (f ∷ fs) =
+    by-test (λ (ps : List Piece). isNil ps ≡ false) (leb (length (p .bytes) + length f) 4080) (λ b. packs-some (with p f) fs) (λ b. refl)
+
+pub pieces-some : (l : List ℕ) → isNil (piecesOf l) ≡ false
+unfolding piecesOf
+pieces-some l = packs-some none (fieldsOf l)
+
+and-left : (a b : Bool) → (a && b) ≡ true → a ≡ true
+and-left true b e = refl
+and-left false b e = e
+
+-- The pieces behind a piece: those of what is left, or none at the end.
+module _ (l : List ℕ) (end : ℕ) (s : shapely (runOf field (drop end l)) ≡ true) where
+  whole-left : joined (fieldsOf (drop end l)) ≡ drop end l
+  whole-left = run-whole field (drop end l) (and-left _ _ s)
+
+  pub others-more : end < length l → othersOf (fieldsOf (drop end l)) ≡ piecesOf (drop end l)
+  unfolding piecesOf
+  others-more h = go (fieldsOf (drop end l)) (ap length whole-left)
+    where
+      go : (fs : List (List ℕ)) → length (joined fs) ≡ length (drop end l) → othersOf fs ≡ pack none fs
+      go [] e = absurd (omega (arith, rw length-drop at e))
+      go (f ∷ fs) e = refl
+
+  pub others-none : length l ≤ end → othersOf (fieldsOf (drop end l)) ≡ []
+  unfolding runOf
+  others-none h = rw (drop-of-length-le l h)
+
+-- The first piece of what is left, and what follows it.
+module _ (l : List ℕ) (at : ℕ) (c : Cut) (next : NextPiece l at c) where
+  piece-length : length (part l at (c .end - at)) ≡ c .end - at
+  piece-length = simp (length-take, length-drop) (omega (arith, next .low, next .high))
+
+  more : c .end < length l → piecesOf (drop at l) ≡ pieceAt l at c ∷ piecesOf (drop (c .end) l)
+  more h = next .pieces ∙ ap (λ (ps : List Piece). pieceAt l at c ∷ ps) (others-more l (c .end) (next .left) h)
+
+  last : c .end ≡ length l → piecesOf (drop at l) ≡ pieceAt l at c ∷ []
+  last h = next .pieces ∙ ap (λ (ps : List Piece). pieceAt l at c ∷ ps) (others-none l (c .end) (next .left) (omega arith))
+
+  pub count-more : c .end < length l → length (piecesOf (drop at l)) ≡ 1 + length (piecesOf (drop (c .end) l))
+  count-more h = rw (more h) (omega arith)
+
+  pub count-last : c .end ≡ length l → length (piecesOf (drop at l)) ≡ 1
+  count-last h = rw (last h)
+
+  pub size-more : (ext : ℕ) → c .end < length l → sizeOf ext (piecesOf (drop at l)) ≡ 4 + ext + (16 + (c .end - at)) + sizeOf ext (piecesOf (drop (c .end) l))
+  size-more ext h = rw (more h, piece-length)
+
+  pub size-last : (ext : ℕ) → c .end ≡ length l → sizeOf ext (piecesOf (drop at l)) ≡ 4 + ext + (16 + (c .end - at))
+  size-last ext h = rw (last h, piece-length) (omega arith)
+
+  module _ (m : Message) (first : Bool) where
+    pub frame-more : c .end < length l
+        → framed m first (piecesOf (drop at l)) ≡ packetFor m (chainAt first false) (pieceAt l at c) ∷ framed m false (piecesOf (drop (c .end) l))
+    frame-more h = rw (more h, pieces-some (drop (c .end) l))
+
+    pub frame-last : c .end ≡ length l → framed m first (piecesOf (drop at l)) ≡ packetFor m (chainAt first true) (pieceAt l at c) ∷ []
+    frame-last h = rw (last h)
+
+  pub piece-packet : (m : Message) (x : Chain) (to : ℕ)
+      → to + length (packetFor m x (pieceAt l at c)) ≡ to + (4 + length (extensionBytes (tagsFor (m .date))) + (16 + (c .end - at)))
+  unfolding packetFor
+  piece-packet m x to = rw (length-message, piece-length)
+
+-- The packets of pieces: as many, and of the size counted.
+pub framed-count : (m : Message) (first : Bool) (ps : List Piece) → length (framed m first ps) ≡ length ps
+framed-count m first [] = refl
+framed-count m first (p ∷ ps) = ap suc (framed-count m false ps)
+
+pub framed-size : (m : Message) (first : Bool) (ps : List Piece) → length (joined (framed m first ps)) ≡ sizeOf (length (extensionBytes (tagsFor (m .date)))) ps
+unfolding packetFor
+framed-size m first [] = refl
+framed-size m first (p ∷ ps) = rw (length-append, length-message, framed-size m false ps)
+
+-- ─── What the public functions decide ───
+
+pub shaped-facts : (content : List ℕ) (limit : ℕ) (r : Bool) → r ≡ shaped content limit → r ≡ true → (length content ≤ limit) × (shapely (runOf field content) ≡ true)
+unfolding shaped
+shaped-facts content limit r e t = go (leb (length content) limit) refl (sym e ∙ t)
+  where
+    go : (b : Bool) → leb (length content) limit ≡ b → (b && shapely (runOf field content)) ≡ true → (length content ≤ limit) × (shapely (runOf field content) ≡ true)
+    go true p q = (leb-true (length content) limit p, q)
+    go false p q = let y : _≡_ {A = ℕ} 0 1 = cc in absurd (omega arith)
+
+module _ (m : Message) (content : List ℕ) (tags : ℕ) (e : tags ≡ length (extensionBytes (tagsFor (m .date)))) where
+  pub chain-long : length (joined (packetsOf m content)) ≡ sizeOf tags (piecesOf content)
+  unfolding packetsOf
+  chain-long = rw e (framed-size m true (piecesOf content))
+
+  pub size-is : (s : Size) → s .packets ≡ length (piecesOf content) → s .bytes ≡ sizeOf tags (piecesOf content)
+      → s ≡ record { packets = length (packetsOf m content); bytes = length (joined (packetsOf m content)) }
+  unfolding packetsOf
+  size-is s p q = rw (framed-count m true (piecesOf content), chain-long, ← p, ← q)

@@ -1,0 +1,61 @@
+use Prim.Native.Nat.{_%_}
+use native.Mathlib.Omega.{arith}
+use mathlib.Core.Path.{_≡_}
+use Rattle.ftd.specs.Chains.{packetFor, headerFor}
+use borrow.Author.Needs.{needs}
+use Rattle.ftd.proofs.chain.put_piece.Statement.{statement}
+use Rattle.ftd.proofs.chain.put_piece.Tie as tie
+use Rattle.ftd.proofs.chain.put_piece.Reads as reads
+use Rattle.ftd.proofs.chain.put_piece.Lts as lts
+use Rattle.ftd.proofs.chain.chain_at.Reads as chain-at-reads
+use Rattle.ftd.proofs.chain.put_tagged.Reads as put-tagged-reads
+
+-- src/chain.rt:160:16
+chain-at-requires : tie.Need-chain-at-requires
+chain-at-requires c κs = search needs
+
+-- src/chain.rt:163:17
+cast-t14 : tie.Need-cast-t14
+cast-t14 c = search needs
+
+-- src/chain.rt:165:34
+sub-put-tagged : tie.Need-sub-put-tagged
+sub-put-tagged c = search needs
+
+-- src/chain.rt:165:34
+part-put-tagged-start : tie.Need-part-put-tagged-start
+part-put-tagged-start c = search needs
+
+-- src/chain.rt:165:34
+part-put-tagged-end : tie.Need-part-put-tagged-end
+part-put-tagged-end c = search needs
+
+-- src/chain.rt:165:5
+put-tagged-requires : tie.Need-put-tagged-requires
+put-tagged-requires c κs = search needs
+
+-- src/chain.rt:143:1
+same-length : tie.Need-same-length
+same-length c = search needs
+
+-- src/chain.rt:143:1
+returns : tie.Need-returns
+unfolding packetFor headerFor
+returns c =
+    let n = c .before .before .before .before .before .before in
+    let s = n .before .before .before in
+    let k : s .args .c .count % 65536 ≡ s .args .c .count = omega (arith, s .pre .0 .few, s .pre .0 .small) in
+    rw (k, n .chain-at .ensures) at (c .before .before .put-tagged .ensures)
+
+pub put-piece-spec : {M : Type 1} → statement M
+put-piece-spec =
+    tie.close
+    (tie.spec
+    chain-at-requires
+    cast-t14
+    sub-put-tagged
+    part-put-tagged-start
+    part-put-tagged-end
+    put-tagged-requires
+    same-length
+    returns)

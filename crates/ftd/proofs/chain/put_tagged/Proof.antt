@@ -1,0 +1,98 @@
+use lib.ListN.{length}
+use Prim.Native.Nat.{_≤_}
+use Rattle.ftd.proofs.Written.{message-put}
+use native.Mathlib.Omega.{arith}
+use borrow.Author.Needs.{needs}
+use Rattle.ftd.proofs.chain.put_tagged.Statement.{statement}
+use Rattle.ftd.proofs.chain.put_tagged.Tie as tie
+use Rattle.ftd.proofs.chain.put_tagged.Reads as reads
+use Rattle.ftd.proofs.chain.put_tagged.Lts as lts
+use Rattle.ftd.proofs.bytes.copy_at.Reads as copy-at-reads
+use Rattle.ftd.proofs.chain.put_tags.Reads as put-tags-reads
+use Rattle.ftd.proofs.chain.tags_len.Reads as tags-len-reads
+use Rattle.ftd.proofs.write.put_frame.Reads as put-frame-reads
+use Rattle.ftd.proofs.write.put_header.Reads as put-header-reads
+
+-- src/chain.rt:88:9
+tags-len-requires : tie.Need-tags-len-requires
+tags-len-requires c κs = search needs
+
+-- src/chain.rt:89:30
+add-put-frame : tie.Need-add-put-frame
+add-put-frame c = search needs
+
+-- src/chain.rt:89:5
+put-frame-requires : tie.Need-put-frame-requires
+put-frame-requires c κs = search needs
+
+-- src/chain.rt:90:19
+add-put-tags : tie.Need-add-put-tags
+add-put-tags c = search needs
+
+-- src/chain.rt:90:5
+put-tags-requires : tie.Need-put-tags-requires
+put-tags-requires c κs = search needs
+
+-- src/chain.rt:91:21
+add-put-header : tie.Need-add-put-header
+add-put-header c = search needs
+
+-- src/chain.rt:91:21
+add-put-header-2 : tie.Need-add-put-header-2
+add-put-header-2 c = search needs
+
+-- src/chain.rt:91:5
+put-header-requires : tie.Need-put-header-requires
+put-header-requires c κs = search needs
+
+-- src/chain.rt:92:18
+add-copy-at : tie.Need-add-copy-at
+add-copy-at c = search needs
+
+-- src/chain.rt:92:18
+add-copy-at-2 : tie.Need-add-copy-at-2
+add-copy-at-2 c = search needs
+
+-- src/chain.rt:92:18
+add-copy-at-3 : tie.Need-add-copy-at-3
+add-copy-at-3 c = search needs
+
+-- src/chain.rt:92:5
+copy-at-requires : tie.Need-copy-at-requires
+copy-at-requires c κs = search needs
+
+-- src/chain.rt:84:1
+same-length : tie.Need-same-length
+same-length c = search needs
+
+-- src/chain.rt:84:1
+returns : tie.Need-returns
+returns c =
+    let p4 = c .before .before in
+    let p3 = p4 .before .before .before .before in
+    let p2 = p3 .before .before .before .before in
+    let p1 = p2 .before .before .before .before in
+    let n = p1 .before .before in
+    let s = n .before .before .before in
+    let room : s .args .to ≤ length (s .args .out .now) = omega (arith, s .pre .0) in
+    message-put _ _ _ _ _ _ (s .args .h) _ _ room (rw (n .tags-len .ensures .0) at (p1 .put-frame .ensures)) (p2 .put-tags .ensures)
+    (rw (n .tags-len .ensures .0) at (p3 .put-header .ensures)) (rw (n .tags-len .ensures .0) at (p4 .copy-at .ensures))
+
+pub put-tagged-spec : {M : Type 1} → statement M
+put-tagged-spec =
+    tie.close
+    (tie.spec
+    tags-len-requires
+    add-put-frame
+    put-frame-requires
+    add-put-tags
+    put-tags-requires
+    add-put-header
+    add-put-header-2
+    put-header-requires
+    add-copy-at
+    add-copy-at-2
+    add-copy-at-3
+    copy-at-requires
+    same-length
+    returns)

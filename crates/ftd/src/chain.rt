@@ -1,0 +1,245 @@
+// A message cut into packets of whole fields, and written straight into the output.
+ghost use mathlib.Core.Bool.{true};
+ghost use mathlib.Core.List.{_++_};
+ghost use mathlib.Core.Path.{_≡_};
+ghost use Prim.Native.Nat.{_+_, _-_, _<_, _≤_};
+ghost use lib.ListN.{length, drop};
+ghost use Rattle.ftd.specs.Bytes.{put, joined};
+ghost use Rattle.ftd.specs.Runs.{runOf};
+ghost use Rattle.ftd.specs.Fields.{field};
+ghost use Rattle.ftd.specs.Writing.{messageBytes, answerOf, outputOf};
+ghost use Rattle.ftd.specs.Chains.{shapely, shaped, NextPiece, pieceAt, piecesOf, sizeOf, tagsFor, extensionBytes, chainAt, packetFor, packetsOf, sizeAnswer, chainVerdict};
+use crate::bytes::copy_at;
+use crate::bytes::put8;
+use crate::bytes::put32;
+use crate::fields::field_size;
+use crate::packet::Chain;
+use crate::packet::Header;
+use crate::refusal::Refusal;
+use crate::tags::TradeDate;
+use crate::write::Written;
+use crate::write::put_frame;
+use crate::write::put_header;
+
+// What all packets of a message bear: the mark, if any, TID, series and number.
+pub struct Message {
+    pub date: TradeDate,
+    pub tid: u32,
+    pub series: u16,
+    pub number: u32,
+}
+
+// How many packets a message takes, and how many bytes.
+pub struct Size {
+    pub packets: usize,
+    pub bytes: usize,
+}
+
+pub enum ChainSize {
+    Takes(Size),
+    Refused(Refusal),
+}
+
+// Where a piece of a content ends, and how many fields it has.
+pub struct Cut {
+    pub end: usize,
+    pub count: usize,
+}
+
+// Whole fields of at most 4,074 bytes each, at most `limit` in all (refusal 7 for content that is given).
+pub fn is_shaped(content: &[u8], limit: usize) -> bool
+    ensures { λ r. ⌜ r ≡ shaped (now (content .entry)) limit ⌝ }
+{
+    if limit < content.len() {
+        return false;
+    }
+    let mut at: usize = 0;
+    loop {
+        let n = field_size(content, at);
+        if n == 0 {
+            return content.len() <= at;
+        }
+        if 4080 < n {
+            return false;
+        }
+        at += n;
+    }
+}
+
+// The bytes that the tags of an end take.
+fn tags_len(date: TradeDate) -> usize
+    ensures { λ r. ⌜ (r ≡ length (extensionBytes (tagsFor date))) × (r ≤ 6) ⌝ }
+{
+    match date {
+        TradeDate::None => 0,
+        TradeDate::At(_) => 6,
+    }
+}
+
+// The tags that an end writes.
+fn put_tags(out: &mut [u8], to: usize, date: TradeDate)
+    requires { ⌜ to + length (extensionBytes (tagsFor date)) ≤ length (now out) ⌝ }
+    ensures { λ _. ⌜ now (out .exit) ≡ put (now (out .entry)) to (extensionBytes (tagsFor date)) ⌝ }
+{
+    match date {
+        TradeDate::None => {}
+        TradeDate::At(d) => {
+            put8(out, to, 0x05);
+            put8(out, to + 1, 4);
+            put32(out, to + 2, d);
+        }
+    }
+}
+
+// A message packet with the tags of an end, at a place of the output.
+fn put_tagged(out: &mut [u8], to: usize, h: Header, date: TradeDate, content: &[u8])
+    requires { ⌜ (to + (4 + length (extensionBytes (tagsFor date)) + (16 + length (now content))) ≤ length (now out)) × (length (now content) ≤ 4080) ⌝ }
+    ensures { λ _. ⌜ now (out .exit) ≡ put (now (out .entry)) to (messageBytes h (extensionBytes (tagsFor date)) (now (content .entry))) ⌝ }
+{
+    let n = tags_len(date);
+    put_frame(out, to, 1, n, 16 + content.len());
+    put_tags(out, to + 4, date);
+    put_header(out, to + 4 + n, h, content.len());
+    copy_at(out, to + 4 + n + 16, content);
+}
+
+// The chain's place of a packet: S alone, or F, C .., L.
+fn chain_at(first: bool, last: bool) -> Chain
+    ensures { λ r. ⌜ r ≡ chainAt first last ⌝ }
+{
+    if first {
+        if last {
+            return Chain::Single;
+        }
+        return Chain::First;
+    }
+    if last {
+        return Chain::Last;
+    }
+    Chain::Middle
+}
+
+// The next piece from a place in the content: as many whole fields as 4,080 bytes hold.
+pub(crate) fn next_piece(content: &[u8], at: usize) -> Cut
+    requires { ⌜ (at ≤ length (now content)) × (shapely (runOf field (drop at (now content))) ≡ true) ⌝ }
+    ensures { λ r. ⌜ NextPiece (now (content .entry)) at r ⌝ }
+{
+    let mut end = at;
+    let mut count: usize = 0;
+    loop {
+        let n = field_size(content, end);
+        if n == 0 {
+            return Cut {
+                end: end,
+                count: count,
+            };
+        }
+        if 4080 < end + n - at {
+            return Cut {
+                end: end,
+                count: count,
+            };
+        }
+        end += n;
+        count += 1;
+    }
+}
+
+// A piece of the content as a packet, at a place of the output.
+fn put_piece(
+    out: &mut [u8],
+    to: usize,
+    m: Message,
+    first: bool,
+    last: bool,
+    content: &[u8],
+    at: usize,
+    c: Cut,
+)
+    requires { ⌜ NextPiece (now content) at c × (to + (4 + length (extensionBytes (tagsFor (m .date))) + (16 + (c .end - at))) ≤ length (now out)) ⌝ }
+    ensures { λ _. ⌜ now (out .exit) ≡ put (now (out .entry)) to (packetFor m (chainAt first last) (pieceAt (now (content .entry)) at c)) ⌝ }
+{
+    let date = m.date;
+    let end = c.end;
+    let h = Header {
+        tid: m.tid,
+        chain: chain_at(first, last),
+        series: m.series,
+        number: m.number,
+        fields: (c.count % 65536) as u16,
+    };
+    put_tagged(out, to, h, date, &content[at..end]);
+}
+
+// How many packets a message takes, and how many bytes in all, with tags of so many bytes.
+fn measure(content: &[u8], tags: usize) -> Size
+    requires { ⌜ (length (now content) ≤ 32768) × (shapely (runOf field (now content)) ≡ true) × (tags ≤ 6) ⌝ }
+    ensures { λ r. ⌜ (r .packets ≡ length (piecesOf (now (content .entry)))) × (r .bytes ≡ sizeOf tags (piecesOf (now (content .entry)))) ⌝ }
+{
+    let mut at: usize = 0;
+    let mut packets: usize = 0;
+    let mut bytes: usize = 0;
+    loop {
+        let c = next_piece(content, at);
+        let end = c.end;
+        packets += 1;
+        bytes = bytes + (4 + tags + (16 + (end - at)));
+        if end == content.len() {
+            return Size {
+                packets: packets,
+                bytes: bytes,
+            };
+        }
+        at = end;
+    }
+}
+
+// All packets, from the start of the output on, in one pass.
+fn put_chain(out: &mut [u8], m: Message, content: &[u8], tags: usize) -> usize
+    requires { ⌜ (length (now content) ≤ 32768) × (shapely (runOf field (now content)) ≡ true) × (tags ≡ length (extensionBytes (tagsFor (m .date)))) × (tags ≤ 6) × (sizeOf tags (piecesOf (now content)) ≤ length (now out)) ⌝ }
+    ensures { λ r. ⌜ (r ≡ sizeOf tags (piecesOf (now (content .entry)))) × (now (out .exit) ≡ joined (packetsOf m (now (content .entry))) ++ drop (sizeOf tags (piecesOf (now (content .entry)))) (now (out .entry))) ⌝ }
+{
+    let mut at: usize = 0;
+    let mut to: usize = 0;
+    let mut first = true;
+    loop {
+        let c = next_piece(content, at);
+        let end = c.end;
+        let next = to + (4 + tags + (16 + (end - at)));
+        if end == content.len() {
+            put_piece(out, to, m, first, true, content, at, c);
+            return next;
+        }
+        put_piece(out, to, m, first, false, content, at, c);
+        to = next;
+        at = end;
+        first = false;
+    }
+}
+
+// What a whole message takes; refused with 7 where its content is not whole fields that fit.
+pub fn chain_size(m: Message, content: &[u8]) -> ChainSize
+    ensures { λ r. ⌜ r ≡ sizeAnswer m (now (content .entry)) ⌝ }
+{
+    let date = m.date;
+    if is_shaped(content, 32768) {
+        return ChainSize::Takes(measure(content, tags_len(date)));
+    }
+    ChainSize::Refused(Refusal::FieldRun)
+}
+
+// All packets of a message, one behind the other.
+pub fn write_chain(m: Message, content: &[u8], out: &mut [u8]) -> Written
+    ensures { λ r. ⌜ (r ≡ answerOf (chainVerdict (now (content .entry))) (joined (packetsOf m (now (content .entry)))) (now (out .entry))) × (now (out .exit) ≡ outputOf (chainVerdict (now (content .entry))) (joined (packetsOf m (now (content .entry)))) (now (out .entry))) ⌝ }
+{
+    let date = m.date;
+    if is_shaped(content, 32768) {
+        let tags = tags_len(date);
+        let s = measure(content, tags);
+        if out.len() < s.bytes {
+            return Written::Refused(Refusal::TooSmall);
+        }
+        return Written::Bytes(put_chain(out, m, content, tags));
+    }
+    Written::Refused(Refusal::FieldRun)
+}
