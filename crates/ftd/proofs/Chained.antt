@@ -1,12 +1,13 @@
 -- The pieces of a content and the packets of a message, one at a time. Assumes nothing.
-use Prim.Native.Nat.{ℕ, suc, _+_, _-_, _<_, _≤_}
+use Prim.Native.Nat.{ℕ, zero, suc, _+_, _-_, _<_, _≤_}
 use mathlib.Core.Path.{_≡_, refl, sym, ap, _∙_}
 use mathlib.Core.List.{List, [], _∷_, _++_}
 use mathlib.Core.Bool.{Bool, true, false, cond, _&&_}
 use native.Mathlib.Omega.{arith}
-use borrow.Author.Tests.{leb-true}
-use lib.ListN.{length, take, drop, length-drop, length-take, length-append, drop-of-length-le}
-use lib.Dec.{leb}
+use borrow.Author.Tests.{leb-true, eqb-true, eqb-false}
+use lib.ListN.{length, getD, take, drop, length-drop, length-take, length-append, drop-of-length-le}
+use lib.Seq.{drop-drop}
+use lib.Dec.{leb, eqb, eqb·suc-zero}
 use Rattle.ftd.specs.Bytes.{part, joined}
 use Rattle.ftd.specs.Runs.{Run, runOf, ended}
 use Rattle.ftd.specs.Fields.{field, fieldsOf}
@@ -115,3 +116,70 @@ module _ (m : Message) (content : List ℕ) (tags : ℕ) (e : tags ≡ length (e
       → s ≡ record { packets = length (packetsOf m content); bytes = length (joined (packetsOf m content)) }
   unfolding packetsOf
   size-is s p q = rw (framed-count m true (piecesOf content), chain-long, ← p, ← q)
+
+-- ─── A piece and a packet by place ───
+
+module _ (content : List ℕ) (i at left : ℕ) (c : Cut) (next : NextPiece content at c) (few : left ≤ i) (inv : drop (i - left) (piecesOf content) ≡ piecesOf (drop at content)) where
+  pub piece-here : left ≡ 0 → drop i (piecesOf content) ≡ piecesOf (drop at content)
+  piece-here z =
+      let e : i - left ≡ i = omega arith in
+      rw e at inv
+
+  pub piece-none : (left ≡ 0 → ⊥) → c .end ≡ length content → length (piecesOf content) ≤ i
+  piece-none z h =
+      let k : length (piecesOf content) - (i - left) ≡ 1 = sym (length-drop (i - left) (piecesOf content)) ∙ ap length inv ∙ count-last content at c next h in
+      omega (arith, positive left z)
+    where
+      positive : (n : ℕ) → (n ≡ 0 → ⊥) → 0 < n
+      positive n z = omega arith
+
+  pub piece-turn : (left ≡ 0 → ⊥) → (c .end ≡ length content → ⊥) → drop (i - (left - 1)) (piecesOf content) ≡ piecesOf (drop (c .end) content)
+  piece-turn z h =
+      let e : i - (left - 1) ≡ i - left + 1 = omega arith in
+      ap (λ (n : ℕ). drop n (piecesOf content)) e
+      ∙ sym (drop-drop 1 (i - left) (piecesOf content))
+      ∙ ap (drop 1) (inv ∙ more content at c next (omega (arith, next .high)))
+
+framed-drop : (m : Message) (i : ℕ) (first : Bool) (ps : List Piece) → drop i (framed m first ps) ≡ framed m (first && eqb i 0) (drop i ps)
+framed-drop m zero true ps = refl
+framed-drop m zero false ps = refl
+framed-drop m (suc i) first [] = refl
+framed-drop m (suc i) first (p ∷ ps) = framed-drop m i false ps ∙ ap (λ (b : Bool). framed m b (drop i ps)) (sym (later first))
+  where
+    later : (b : Bool) → (b && eqb (suc i) 0) ≡ false
+    later true = eqb·suc-zero i
+    later false = refl
+
+head-of : (ls : List (List ℕ)) (i : ℕ) (x : List ℕ) (xs : List (List ℕ)) → drop i ls ≡ x ∷ xs → (getD ls i [] ≡ x) × (i < length ls)
+head-of [] zero x xs e = let y = ap length e in absurd (omega arith)
+head-of [] (suc i) x xs e = let y = ap length e in absurd (omega arith)
+head-of (l ∷ ls) zero x xs e = (cc, omega arith)
+head-of (l ∷ ls) (suc i) x xs e = let h = head-of ls i x xs e in (h .0, omega (arith, h .1))
+
+-- Packet i of a message, from piece i of its content.
+pub packet-here : (m : Message) (content : List ℕ) (i at : ℕ) (c : Cut) → NextPiece content at c → drop i (piecesOf content) ≡ piecesOf (drop at content)
+    → (getD (packetsOf m content) i [] ≡ packetFor m (chainAt (eqb i 0) (eqb (c .end) (length content))) (pieceAt content at c)) × (i < length (packetsOf m content))
+unfolding packetsOf
+packet-here m content i at c next e = go (eqb (c .end) (length content)) refl
+  where
+    go : (b : Bool) → eqb (c .end) (length content) ≡ b
+        → (getD (framed m true (piecesOf content)) i [] ≡ packetFor m (chainAt (eqb i 0) b) (pieceAt content at c)) × (i < length (framed m true (piecesOf content)))
+    go true q =
+        head-of (framed m true (piecesOf content)) i _ _
+        (framed-drop m i true (piecesOf content) ∙ ap (framed m (eqb i 0)) e ∙ frame-last content at c next m (eqb i 0) (eqb-true (c .end) (length content) q))
+    go false q =
+        head-of (framed m true (piecesOf content)) i _ _
+        (framed-drop m i true (piecesOf content) ∙ ap (framed m (eqb i 0)) e
+        ∙ frame-more content at c next m (eqb i 0) (below (c .end) (length content) (next .high) (eqb-false (c .end) (length content) q)))
+      where
+        below : (a b : ℕ) → a ≤ b → (a ≡ b → ⊥) → a < b
+        below a b h k = omega arith
+
+pub packet-none : (m : Message) (content : List ℕ) (i : ℕ) → length (piecesOf content) ≤ i → length (packetsOf m content) ≤ i
+unfolding packetsOf
+packet-none m content i h = rw (framed-count m true (piecesOf content)) h
+
+pub packet-size : (m : Message) (content : List ℕ) (i at : ℕ) (c : Cut) → NextPiece content at c → drop i (piecesOf content) ≡ piecesOf (drop at content)
+    → (tags : ℕ) → tags ≡ length (extensionBytes (tagsFor (m .date))) → length (getD (packetsOf m content) i []) ≡ 4 + tags + (16 + (c .end - at))
+packet-size m content i at c next e tags t =
+    rw (packet-here m content i at c next e .0, t) (omega (arith, piece-packet content at c next m (chainAt (eqb i 0) (eqb (c .end) (length content))) 0))

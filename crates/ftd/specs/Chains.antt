@@ -19,6 +19,9 @@ use Rattle.ftd.specs.declared.packet.Header.{Header}
 use Rattle.ftd.specs.declared.write.Written.{Written}
 use Rattle.ftd.specs.declared.write.Written.the-variants.{NoPacket}
 use Rattle.ftd.specs.declared.chain.Cut.{Cut}
+use Rattle.ftd.specs.declared.chain.PiecePlace.{PiecePlace}
+use Rattle.ftd.specs.declared.chain.PiecePlace.the-variants.{NoPiece}
+use Rattle.ftd.specs.declared.chain.PiecePlace.the-variants.{At as Found}
 use Rattle.ftd.specs.declared.chain.Message.{Message}
 use Rattle.ftd.specs.declared.chain.Size.{Size}
 use Rattle.ftd.specs.declared.chain.ChainSize.{ChainSize}
@@ -80,6 +83,11 @@ pub record NextPiece (content : List ℕ) (at : ℕ) (c : Cut) : Type 0 where
   pub few : c .count ≤ c .end - at
   pub left : shapely (runOf field (drop (c .end) content)) ≡ true
   pub on : c .end < length content → at < c .end
+
+-- Piece i of a content starts at a place and is the first piece from there on; or there are no more than i.
+abbrev pub FoundPiece : List ℕ → ℕ → PiecePlace → Type 0
+FoundPiece content i NoPiece = length (piecesOf content) ≤ i
+FoundPiece content i (Found at c) = NextPiece content at c × (drop i (piecesOf content) ≡ piecesOf (drop at content))
 
 -- ─── The tags that an end writes ───
 

@@ -1,14 +1,14 @@
 // A message cut into packets of whole fields, and written straight into the output.
 ghost use mathlib.Core.Bool.{true};
-ghost use mathlib.Core.List.{_++_};
+ghost use mathlib.Core.List.{[], _++_};
 ghost use mathlib.Core.Path.{_≡_};
 ghost use Prim.Native.Nat.{_+_, _-_, _<_, _≤_};
-ghost use lib.ListN.{length, drop};
+ghost use lib.ListN.{length, getD, drop};
 ghost use Rattle.ftd.specs.Bytes.{put, joined};
 ghost use Rattle.ftd.specs.Runs.{runOf};
 ghost use Rattle.ftd.specs.Fields.{field};
 ghost use Rattle.ftd.specs.Writing.{messageBytes, answerOf, outputOf};
-ghost use Rattle.ftd.specs.Chains.{shapely, shaped, NextPiece, pieceAt, piecesOf, sizeOf, tagsFor, extensionBytes, chainAt, packetFor, packetsOf, sizeAnswer, chainVerdict};
+ghost use Rattle.ftd.specs.Chains.{shapely, shaped, NextPiece, FoundPiece, pieceAt, piecesOf, sizeOf, tagsFor, extensionBytes, chainAt, packetFor, packetsOf, sizeAnswer, chainVerdict, placeVerdict};
 use crate::bytes::copy_at;
 use crate::bytes::put8;
 use crate::bytes::put32;
@@ -38,6 +38,12 @@ pub struct Size {
 pub enum ChainSize {
     Takes(Size),
     Refused(Refusal),
+}
+
+// A piece of a content by its place among the pieces: where it starts, and its cut.
+pub enum PiecePlace {
+    NoPiece,
+    At { at: usize, cut: Cut },
 }
 
 // Where a piece of a content ends, and how many fields it has.
@@ -240,6 +246,51 @@ pub fn write_chain(m: Message, content: &[u8], out: &mut [u8]) -> Written
             return Written::Refused(Refusal::TooSmall);
         }
         return Written::Bytes(put_chain(out, m, content, tags));
+    }
+    Written::Refused(Refusal::FieldRun)
+}
+
+// Piece i of a content, counted from 0.
+fn find_piece(content: &[u8], i: usize) -> PiecePlace
+    requires { ⌜ shapely (runOf field (now content)) ≡ true ⌝ }
+    ensures { λ r. ⌜ FoundPiece (now (content .entry)) i r ⌝ }
+{
+    let mut at: usize = 0;
+    let mut left = i;
+    loop {
+        let c = next_piece(content, at);
+        if left == 0 {
+            return PiecePlace::At { at: at, cut: c };
+        }
+        let end = c.end;
+        if end == content.len() {
+            return PiecePlace::NoPiece;
+        }
+        at = end;
+        left -= 1;
+    }
+}
+
+// Packet i of a message, counted from 0.
+pub fn write_packet(m: Message, content: &[u8], i: usize, out: &mut [u8]) -> Written
+    ensures { λ r. ⌜ (r ≡ answerOf (placeVerdict m (now (content .entry)) i) (getD (packetsOf m (now (content .entry))) i []) (now (out .entry))) × (now (out .exit) ≡ outputOf (placeVerdict m (now (content .entry)) i) (getD (packetsOf m (now (content .entry))) i []) (now (out .entry))) ⌝ }
+{
+    let date = m.date;
+    if is_shaped(content, 32768) {
+        match find_piece(content, i) {
+            PiecePlace::NoPiece => {
+                return Written::NoPacket;
+            }
+            PiecePlace::At { at, cut } => {
+                let end = cut.end;
+                let n = 4 + tags_len(date) + (16 + (end - at));
+                if out.len() < n {
+                    return Written::Refused(Refusal::TooSmall);
+                }
+                put_piece(out, 0, m, i == 0, end == content.len(), content, at, cut);
+                return Written::Bytes(n);
+            }
+        }
     }
     Written::Refused(Refusal::FieldRun)
 }

@@ -1,0 +1,68 @@
+use borrow.Author.Needs.{needs}
+use Prim.Native.Nat.{_+_, _-_, _<_, _≤_}
+use mathlib.Core.Path.{_≡_, refl}
+use mathlib.Core.Bool.{true}
+use native.Mathlib.Nat.{sub-self}
+use native.Mathlib.Omega.{arith}
+use lib.ListN.{length, drop}
+use Rattle.ftd.specs.Chains.{shapely, piecesOf}
+use Rattle.ftd.specs.Runs.{runOf}
+use Rattle.ftd.specs.Fields.{field}
+use Rattle.ftd.proofs.Chained.{piece-here, piece-none, piece-turn}
+use Rattle.ftd.proofs.chain.find_piece.Statement.{statement}
+use Rattle.ftd.proofs.chain.find_piece.Tie as tie
+use Rattle.ftd.proofs.chain.find_piece.Reads as reads
+use Rattle.ftd.proofs.chain.find_piece.Lts as lts
+use Rattle.ftd.proofs.chain.next_piece.Reads as next-piece-reads
+
+abbrev Inv-loop : tie.InvT-loop
+Inv-loop content i at₀ left₀ at left =
+    (at ≤ length content) × (left ≤ i) × (shapely (runOf field (drop at content)) ≡ true) × (drop (i - left) (piecesOf content) ≡ piecesOf (drop at content))
+
+abbrev μ-loop : tie.MeasureT-loop
+μ-loop content i at₀ left₀ at left = length content - at
+
+-- src/chain.rt:260:5
+loop-holds : tie.Need-loop-holds Inv-loop μ-loop
+loop-holds c = (search needs, search needs, search needs, rw sub-self)
+
+-- src/chain.rt:261:13
+next-piece-requires : tie.Need-next-piece-requires Inv-loop μ-loop
+next-piece-requires c κs = search needs
+
+-- src/chain.rt:263:13
+returns : tie.Need-returns Inv-loop μ-loop
+returns c = (search needs, search (needs, piece-here))
+
+-- src/chain.rt:267:13
+returns-2 : tie.Need-returns-2 Inv-loop μ-loop
+returns-2 c = search (needs, piece-none)
+
+-- src/chain.rt:270:9
+sub-left : tie.Need-sub-left Inv-loop μ-loop
+sub-left c = search needs
+
+-- src/chain.rt:260:5
+loop-less : tie.Need-loop-less Inv-loop μ-loop
+loop-less c =
+    let n = c .before .before .next-piece in
+    let h : n .result .end < length (c .before .before .before .before .before .args .content .now) = omega arith in
+    omega (arith, n .ensures .on h)
+
+-- src/chain.rt:260:5
+loop-again : tie.Need-loop-again Inv-loop μ-loop
+loop-again c = (search needs, search needs, search needs, search (needs, piece-turn))
+
+pub find-piece-spec : {M : Type 1} → statement M
+find-piece-spec =
+    tie.close
+    (tie.spec
+    Inv-loop
+    μ-loop
+    loop-holds
+    next-piece-requires
+    returns
+    returns-2
+    sub-left
+    loop-less
+    loop-again)
