@@ -4,8 +4,10 @@ use Rattle.ftd.specs.Runs.{front, runOf}
 use Rattle.ftd.specs.Tags.{tag, lengthRight, knownTags, countDate, goodTags}
 use Rattle.ftd.specs.Fields.{field, exactRun}
 use Rattle.ftd.specs.Packets.{saidLength, extensionOf, versionOf, tidOf, letterOf, seriesOf, messageNumberOf, fieldCountOf, contentLengthOf, contentOf, restMissing, wrongBody, isSkipped, isLetter, chainOf, headerOf, acceptedOf, messageOf, wholeOf, readOf}
+use Rattle.ftd.specs.Writing.{packetBytes, headerBytes, messageBytes}
+use Rattle.ftd.specs.Chains.{piecesOf, headerFor, packetFor, packetsOf}
 use Rattle.ftd.specs.Bench.{bench, Bench}
 
 pub bench-holds : Bench
-unfolding bench be16Of be32Of front runOf tag lengthRight knownTags countDate goodTags field exactRun saidLength extensionOf versionOf tidOf letterOf seriesOf messageNumberOf fieldCountOf contentLengthOf contentOf restMissing wrongBody isSkipped isLetter chainOf headerOf acceptedOf messageOf wholeOf readOf
+unfolding bench packetBytes headerBytes messageBytes piecesOf headerFor packetFor packetsOf be16Of be32Of front runOf tag lengthRight knownTags countDate goodTags field exactRun saidLength extensionOf versionOf tidOf letterOf seriesOf messageNumberOf fieldCountOf contentLengthOf contentOf restMissing wrongBody isSkipped isLetter chainOf headerOf acceptedOf messageOf wholeOf readOf
 bench-holds = tt

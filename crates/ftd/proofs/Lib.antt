@@ -14,4 +14,6 @@ pub mod Shapes
 pub mod Cuts
 pub mod Filled
 pub mod Chained
+pub mod Joined
+pub mod Chains
 pub mod Bench

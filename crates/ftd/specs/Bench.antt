@@ -1,11 +1,16 @@
 -- The bench examples (01, "Bench examples") as rows of one table. What a definition answers and what the paper says stand
 -- side by side as lists of numbers, so that examples of every kind fit one table.
 use Prim.Native.Nat.{ℕ}
-use mathlib.Core.List.{List, [], _∷_}
+use mathlib.Core.List.{List, [], _∷_, _++_, map}
 use mathlib.Core.Bool.{Bool, true, false, _&&_}
+use lib.ListN.{replicate}
 use lib.Dec.{eqb, T}
+use Rattle.ftd.specs.Bytes.{bytes16, bytes32}
 use Rattle.ftd.specs.Refusals.{numberOf}
-use Rattle.ftd.specs.Packets.{chainLetter, readOf}
+use Rattle.ftd.specs.Packets.{letterOf, chainLetter, readOf}
+use Rattle.ftd.specs.Chains.{packetsOf}
+use Rattle.ftd.specs.declared.chain.Message.{Message as Outgoing}
+use Rattle.ftd.specs.declared.tags.TradeDate.the-variants.{None}
 use Rattle.ftd.specs.declared.packet.Packet.{Packet}
 use Rattle.ftd.specs.declared.packet.Packet.the-variants.{Short, Link, Skipped, Message, Refused}
 
@@ -47,6 +52,13 @@ abbrev pub packet : ℕ → ℕ → ℕ → ℕ → List ℕ
 packet version letter fields len =
     1 ∷ 0 ∷ 0 ∷ 16 ∷ version ∷ 0 ∷ 0 ∷ 32 ∷ 4 ∷ letter ∷ 0 ∷ 1 ∷ 0 ∷ 0 ∷ 0 ∷ 1 ∷ 0 ∷ fields ∷ 0 ∷ len ∷ []
 
+-- A field of n bytes with FID 1, and the chain letters of the packets of a content.
+abbrev pub dataField : ℕ → List ℕ
+dataField n = bytes32 1 ++ (bytes16 n ++ replicate n 32)
+
+abbrev pub lettersOf : List ℕ → List ℕ
+lettersOf content = map (λ (p : List ℕ). letterOf p) (packetsOf (record { date = None; tid = 8196; series = 1; number = 1 }) content)
+
 unfoldable pub bench : List Row
 bench =
     -- P1 no bytes
@@ -72,6 +84,9 @@ bench =
     ∷ reads 8 (packet 1 115 0 0) (refused 5)
     ∷ reads 8 (packet 1 83 0 1) (refused 6)
     ∷ reads 8 (packet 1 83 1 0) (refused 7)
+    -- P12 fields of 2,034 and 2,034 bytes: S; 2,034 and 2,035: F, L
+    ∷ row 12 (lettersOf (dataField 2034 ++ dataField 2034)) (83 ∷ [])
+    ∷ row 12 (lettersOf (dataField 2034 ++ dataField 2035)) (70 ∷ 76 ∷ [])
     ∷ []
 
 -- ─── The test ───

@@ -5,7 +5,8 @@ pub mod Tags
 pub mod Fields
 pub mod Packets
 pub mod Laws
-pub mod Bench
 pub mod Writing
 pub mod WriteLaws
 pub mod Chains
+pub mod ChainLaws
+pub mod Bench

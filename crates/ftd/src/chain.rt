@@ -8,6 +8,7 @@ ghost use Rattle.ftd.specs.Bytes.{put, joined};
 ghost use Rattle.ftd.specs.Runs.{runOf};
 ghost use Rattle.ftd.specs.Fields.{field};
 ghost use Rattle.ftd.specs.Writing.{messageBytes, answerOf, outputOf};
+ghost use Rattle.ftd.specs.ChainLaws.{ChainLaws};
 ghost use Rattle.ftd.specs.Chains.{shapely, shaped, NextPiece, FoundPiece, pieceAt, piecesOf, sizeOf, tagsFor, extensionBytes, chainAt, packetFor, packetsOf, sizeAnswer, chainVerdict, placeVerdict};
 use crate::bytes::copy_at;
 use crate::bytes::put8;
@@ -294,3 +295,8 @@ pub fn write_packet(m: Message, content: &[u8], i: usize, out: &mut [u8]) -> Wri
     }
     Written::Refused(Refusal::FieldRun)
 }
+
+// The laws of a message's packets, as a promise.
+pub fn keeps_chain_laws()
+    ensures { λ _. ⌜ ChainLaws ⌝ }
+{}

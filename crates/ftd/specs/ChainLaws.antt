@@ -1,0 +1,53 @@
+-- What holds of the packets of a message (01, "Message packet", demand 2): nothing is lost, no field is split, each packet is read
+-- back as what was meant, and the packets are found again in what was written by their first four bytes.
+use Prim.Native.Nat.{ℕ, _+_, _≤_, _<_}
+use mathlib.Core.Path.{_≡_}
+use mathlib.Core.List.{List, [], _∷_, _++_, map}
+use mathlib.Core.Bool.{Bool, true, false}
+use lib.ListN.{length, getD}
+use lib.Dec.{eqb}
+use Rattle.ftd.specs.Bytes.{part, joined}
+use Rattle.ftd.specs.Runs.{Form, Run, runOf}
+use Rattle.ftd.specs.Tags.{tradeDateOf}
+use Rattle.ftd.specs.Fields.{exactRun}
+use Rattle.ftd.specs.Packets.{extensionLength, bodyLength, span, readOf}
+use Rattle.ftd.specs.Chains.{shaped, Piece, none, piecesOf, tagsFor, extensionBytes, chainAt, headerFor, packetsOf}
+use Rattle.ftd.specs.declared.chain.Message.{Message}
+use Rattle.ftd.specs.declared.packet.Chain.{Chain}
+use Rattle.ftd.specs.declared.packet.Packet.{Packet}
+use Rattle.ftd.specs.declared.packet.Packet.the-variants.{Message as Accepted}
+
+-- Bytes cut by the packets' first four bytes.
+unfoldable pub packet : Form
+packet = record { head = 4; follow = λ l. extensionLength l + bodyLength l }
+
+-- Piece i of a content, and packet i of a message.
+abbrev pub pieceOf : List ℕ → ℕ → Piece
+pieceOf content i = getD (piecesOf content) i none
+
+abbrev pub packetOf : Message → List ℕ → ℕ → List ℕ
+packetOf m content i = getD (packetsOf m content) i []
+
+-- The letters by place: S alone, or F, C .., L.
+abbrev pub letterAt : Message → List ℕ → ℕ → Chain
+letterAt m content i = chainAt (eqb i 0) (eqb (i + 1) (length (packetsOf m content)))
+
+pub record ChainLaws : Type 0 where
+  -- The pieces' bytes joined are the content.
+  pub pieces-joined : (content : List ℕ) (limit : ℕ) → shaped content limit ≡ true → joined (map (λ (p : Piece). p .bytes) (piecesOf content)) ≡ content
+  -- Each piece is so many whole fields, of at most 4,080 bytes together.
+  pub piece-whole : (content : List ℕ) (limit i : ℕ) → shaped content limit ≡ true → i < length (piecesOf content)
+      → (length (pieceOf content i .bytes) ≤ 4080) × (exactRun (pieceOf content i .bytes) (pieceOf content i .count) ≡ true)
+  -- There are as many packets as pieces, one at least.
+  pub as-many : (m : Message) (content : List ℕ) → (length (packetsOf m content) ≡ length (piecesOf content)) × (0 < length (packetsOf m content))
+  -- Each packet, with anything behind it, is read back: TID, series and number of the message, the letter of its place, its piece and the mark.
+  pub read-back : (m : Message) (content : List ℕ) (limit i : ℕ) (q : List ℕ) → shaped content limit ≡ true → i < length (packetsOf m content)
+      → readOf (packetOf m content i ++ q)
+      ≡ Accepted (headerFor m (letterAt m content i) (pieceOf content i .count)) (span 4 (length (extensionBytes (tagsFor (m .date)))))
+      (span (4 + length (extensionBytes (tagsFor (m .date))) + 16) (length (pieceOf content i .bytes)))
+  pub mark-back : (m : Message) (content : List ℕ) (i : ℕ) (q : List ℕ) → i < length (packetsOf m content)
+      → tradeDateOf (part (packetOf m content i ++ q) 4 (length (extensionBytes (tagsFor (m .date))))) ≡ m .date
+  pub piece-back : (m : Message) (content : List ℕ) (i : ℕ) (q : List ℕ) → i < length (packetsOf m content)
+      → part (packetOf m content i ++ q) (4 + length (extensionBytes (tagsFor (m .date))) + 16) (length (pieceOf content i .bytes)) ≡ pieceOf content i .bytes
+  -- What a whole message is written as, cut by the packets' first four bytes, is its packets.
+  pub cut-back : (m : Message) (content : List ℕ) → runOf packet (joined (packetsOf m content)) ≡ record { entries = packetsOf m content; rest = [] }
