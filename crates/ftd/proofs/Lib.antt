@@ -16,4 +16,5 @@ pub mod Filled
 pub mod Chained
 pub mod Joined
 pub mod Chains
+pub mod Counts
 pub mod Bench

@@ -10,3 +10,4 @@ pub mod WriteLaws
 pub mod Chains
 pub mod ChainLaws
 pub mod Bench
+pub mod Composition

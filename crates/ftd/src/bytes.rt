@@ -33,6 +33,13 @@ pub fn size16(x: u16) -> usize
     x as usize
 }
 
+// A number of two bytes as one of four.
+pub fn number16(x: u16) -> u32
+    ensures { λ r. ⌜ (r ≡ x) × (r < 65536) ⌝ }
+{
+    x as u32
+}
+
 // The number in the two bytes from a place on.
 pub fn be16(s: &[u8], at: usize) -> u16
     requires { ⌜ at + 2 ≤ length (now s) ⌝ }

@@ -6,3 +6,4 @@ pub mod fields; // the run of data fields in a message's content
 pub mod packet; // what a packet is, and its fields
 pub mod write; // packets written
 pub mod chain; // a message cut into packets and written
+pub mod composition; // make-up: how often each field occurs
