@@ -54,7 +54,7 @@ field-local l r n h k =
     let long : length (take n l) ≡ n = rw length-take (omega arith) in
     rw (byte-append (take n l) r 4 (omega arith), byte-append (take n l) r 5 (omega arith), getD-take {A = ℕ} n l 4 0 (omega arith), getD-take {A = ℕ} n l 5 0 (omega arith))
 
-fields-entries : (content : List ℕ) → Entries field (fieldsOf content)
+pub fields-entries : (content : List ℕ) → Entries field (fieldsOf content)
 fields-entries content = run-entries field some-field field-local content
 
 -- ─── Pieces ───
@@ -67,11 +67,11 @@ abbrev AllGood : List Piece → Type 0
 AllGood [] = Unit
 AllGood (p ∷ ps) = Good p × AllGood ps
 
-joined-append : (a b : List (List ℕ)) → joined (a ++ b) ≡ joined a ++ joined b
+pub joined-append : (a b : List (List ℕ)) → joined (a ++ b) ≡ joined a ++ joined b
 joined-append [] b = refl
 joined-append (x ∷ a) b = rw (joined-append a b) (sym (append-assoc x (joined a) (joined b)))
 
-entries-snoc : (es : List (List ℕ)) (e : List ℕ) → Entries field es → Entry field e → Entries field (es ++ (e ∷ []))
+pub entries-snoc : (es : List (List ℕ)) (e : List ℕ) → Entries field es → Entry field e → Entries field (es ++ (e ∷ []))
 entries-snoc [] e a b = (b, tt)
 entries-snoc (x ∷ es) e a b = (a .0, entries-snoc es e (a .1) b)
 

@@ -17,4 +17,5 @@ pub mod Chained
 pub mod Joined
 pub mod Chains
 pub mod Counts
+pub mod Resumed
 pub mod Bench

@@ -2,7 +2,7 @@
 use Prim.Native.Nat.{ℕ, zero, suc, _+_, _-_, _<_, _≤_}
 use mathlib.Core.Path.{_≡_, refl, sym, subst, _∙_}
 use mathlib.Core.List.{List, _∷_}
-use mathlib.Core.Bool.{Bool, true, false, _&&_}
+use mathlib.Core.Bool.{Bool, true, false, cond, _&&_}
 use native.Mathlib.Nat.{add-zero}
 use native.Mathlib.Omega.{arith}
 use borrow.Author.Tests.{eq-eqb, ne-eqb}
@@ -14,6 +14,7 @@ use Rattle.ftd.specs.Runs.{front, Run, behind, runOf, ended}
 use Rattle.ftd.specs.Tags.{tag, lengthRight, allRight, countDate, dates, goodRun, placeIn}
 use Rattle.ftd.specs.Fields.{field}
 use Rattle.ftd.specs.Fields.{placeIn as fieldIn}
+use Rattle.ftd.specs.Resume.{firstIn}
 use Rattle.ftd.specs.declared.tags.TagPlace.{TagPlace}
 use Rattle.ftd.specs.declared.tags.TagPlace.the-variants.{NoTag, Data}
 use Rattle.ftd.specs.declared.fields.FieldPlace.{FieldPlace}
@@ -139,3 +140,21 @@ module _ (l : List ℕ) (at n : ℕ) (e : n ≡ front field (drop at l)) where
             let s : suc k - 1 ≡ k = omega arith in
             rw s
             (subst (λ (x : ℕ). fieldIn (at + x) (runOf field (drop (at + n) l) .entries) k ≡ t) (entry-length field some-field l at n e) p)
+
+-- The first field with a FID.
+module _ (l : List ℕ) (at n : ℕ) (e : n ≡ front field (drop at l)) (fid : ℕ) (t : FieldPlace) (inv : firstIn at (runOf field (drop at l) .entries) fid ≡ t) where
+  pub first-over : n ≡ 0 → NoField ≡ t
+  first-over z = rw (run-over field some-field l at n e z) at inv
+
+  module _ (z : n ≡ 0 → ⊥) (found : ℕ) (q : found ≡ be32Of l at) where
+    opened : cond (eqb found fid) (Field found (at + 6) (n - 6)) (firstIn (at + n) (runOf field (drop (at + n) l) .entries) fid) ≡ t
+    opened =
+        let h : cond (eqb (be32Of (take n (drop at l)) 0) fid) (Field (be32Of (take n (drop at l)) 0) (at + 6) (length (take n (drop at l)) - 6))
+        (firstIn (at + length (take n (drop at l))) (runOf field (drop (at + n) l) .entries) fid) ≡ t = rw (run-next field some-field l at n e z) at inv in
+        rw q (rw (entry-length field some-field l at n e, be32-entry l at n (field-head l at n e z)) at h)
+
+    pub first-here : found ≡ fid → Field found (at + 6) (n - 6) ≡ t
+    first-here h = rw (eq-eqb found fid h) at opened
+
+    pub first-turn : (found ≡ fid → ⊥) → firstIn (at + n) (runOf field (drop (at + n) l) .entries) fid ≡ t
+    first-turn h = rw (ne-eqb found fid h) at opened

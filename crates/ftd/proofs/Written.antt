@@ -13,6 +13,7 @@ use Rattle.ftd.specs.Writing.{frameHead, packetBytes, headerBytes, messa
 use Rattle.ftd.specs.declared.refusal.Refusal.{Refusal}
 use Rattle.ftd.specs.declared.refusal.Refusal.the-variants.{TooSmall}
 use Rattle.ftd.specs.Chains.{extensionBytes, tagsFor}
+use Rattle.ftd.specs.Resume.{resumeBytes}
 use Rattle.ftd.specs.declared.tags.TradeDate.the-variants.{At}
 use Rattle.ftd.specs.declared.write.Written.{Written}
 use Rattle.ftd.specs.declared.write.Written.the-variants.{Bytes, Refused}
@@ -127,3 +128,10 @@ pub date-put : (l o1 o2 o3 : List ℕ) (to d : ℕ) → to ≤ length l → o1 �
     → o3 ≡ put l to (extensionBytes (tagsFor (At d)))
 date-put l o1 o2 o3 to d h b1 b2 b3 =
     then l o2 o3 to (to + 2) (5 ∷ 4 ∷ []) (bytes32 d) h refl (then l o1 o2 to (to + 1) (5 ∷ []) (4 ∷ []) h refl b1 b2) b3
+
+-- The start field.
+pub resume-put : (l o1 o2 o3 o4 : List ℕ) (to series number : ℕ) → to ≤ length l → o1 ≡ put l to (bytes32 4) → o2 ≡ put o1 (to + 4) (bytes16 6)
+    → o3 ≡ put o2 (to + 6) (bytes16 series) → o4 ≡ put o3 (to + 8) (bytes32 number) → o4 ≡ put l to (resumeBytes series number)
+resume-put l o1 o2 o3 o4 to series number h b1 b2 b3 b4 =
+    then l o3 o4 to (to + 8) (bytes32 4 ++ bytes16 6 ++ bytes16 series) (bytes32 number) h refl
+    (then l o2 o3 to (to + 6) (bytes32 4 ++ bytes16 6) (bytes16 series) h refl (then l o1 o2 to (to + 4) (bytes32 4) (bytes16 6) h refl b1 b2) b3) b4

@@ -11,3 +11,4 @@ pub mod Chains
 pub mod ChainLaws
 pub mod Bench
 pub mod Composition
+pub mod Resume

@@ -7,3 +7,4 @@ pub mod packet; // what a packet is, and its fields
 pub mod write; // packets written
 pub mod chain; // a message cut into packets and written
 pub mod composition; // make-up: how often each field occurs
+pub mod resume; // the start field

@@ -1,0 +1,52 @@
+-- The start field (DisseminationstartField, FID 0x0004; 01, "The serving end"): the series, and the next number wanted (4.3.3.2).
+use Prim.Native.Nat.{ℕ, _+_, _-_}
+use mathlib.Core.Path.{_≡_}
+use mathlib.Core.List.{List, [], _∷_, _++_}
+use mathlib.Core.Bool.{Bool, true, cond}
+use lib.ListN.{length}
+use lib.Dec.{ltb, eqb}
+use Rattle.ftd.specs.Bytes.{be16Of, be32Of, bytes16, bytes32}
+use Rattle.ftd.specs.Runs.{Run, runOf, ended}
+use Rattle.ftd.specs.Fields.{field, fieldsOf, fidOf}
+use Rattle.ftd.specs.Composition.{countOf}
+use Rattle.ftd.specs.declared.fields.FieldPlace.{FieldPlace}
+use Rattle.ftd.specs.declared.fields.FieldPlace.the-variants.{NoField, Field}
+use Rattle.ftd.specs.declared.resume.Resume.{Resume}
+use Rattle.ftd.specs.declared.resume.Resume.the-variants.{Absent, Next, Misshapen, Several}
+
+-- ─── Found ───
+
+-- The first field with a FID, in a list of fields that starts at `at`.
+abbrev pub firstIn : ℕ → List (List ℕ) → ℕ → FieldPlace
+firstIn at [] fid = NoField
+firstIn at (f ∷ fs) fid = cond (eqb (fidOf f) fid) (Field (fidOf f) (at + 6) (length f - 6)) (firstIn (at + length f) fs fid)
+
+unfoldable pub firstOf : List ℕ → ℕ → FieldPlace
+firstOf content fid = firstIn 0 (fieldsOf content) fid
+
+-- Series 2 bytes, number 4.
+abbrev pub resumeAt : List ℕ → FieldPlace → Resume
+resumeAt content NoField = Absent
+resumeAt content (Field fid start len) = cond (eqb len 6) (Next (be16Of content start) (be32Of content (start + 2))) Misshapen
+
+unfoldable pub resumeOf : List ℕ → Resume
+resumeOf content = cond (ltb 1 (countOf 4 content)) Several (resumeAt content (firstOf content 4))
+
+-- ─── Written ───
+
+-- FID 4 bytes, length 2, series 2, number 4.
+abbrev pub resumeBytes : ℕ → ℕ → List ℕ
+resumeBytes series number = bytes32 4 ++ (bytes16 6 ++ (bytes16 series ++ bytes32 number))
+
+-- ─── What holds of it ───
+
+pub record ResumeLaws : Type 0 where
+  -- Behind whole fields it is one field more.
+  pub behind : (content : List ℕ) (series number : ℕ) → ended (runOf field content) ≡ true
+      → runOf field (content ++ resumeBytes series number) ≡ record { entries = fieldsOf content ++ (resumeBytes series number ∷ []); rest = [] }
+  -- It is counted.
+  pub counts : (content : List ℕ) (series number : ℕ) → ended (runOf field content) ≡ true
+      → countOf 4 (content ++ resumeBytes series number) ≡ countOf 4 content + 1
+  -- Behind whole fields without one it is read back.
+  pub back : (content : List ℕ) (series number : ℕ) → ended (runOf field content) ≡ true → countOf 4 content ≡ 0
+      → resumeOf (content ++ resumeBytes series number) ≡ Next series number

@@ -1,0 +1,99 @@
+// The start field (DisseminationstartField, FID 0x0004): a series, and the next number wanted.
+ghost use mathlib.Core.Path.{_≡_};
+ghost use Prim.Native.Nat.{_+_, _<_, _≤_};
+ghost use lib.ListN.{length, drop};
+ghost use Rattle.ftd.specs.Bytes.{put};
+ghost use Rattle.ftd.specs.Fields.{FieldInside};
+ghost use Rattle.ftd.specs.Writing.{answerOf, outputOf, fine};
+ghost use Rattle.ftd.specs.Resume.{firstOf, resumeOf, resumeBytes, ResumeLaws};
+use crate::bytes::be16;
+use crate::bytes::be32;
+use crate::bytes::put16;
+use crate::bytes::put32;
+use crate::composition::count_field;
+use crate::fields::FieldPlace;
+use crate::fields::field_size;
+use crate::refusal::Refusal;
+use crate::write::Written;
+
+// The start field of a content.
+pub enum Resume {
+    // It has none.
+    Absent,
+    // It has one: the series, and the next number wanted.
+    Next { series: u16, number: u32 },
+    // It has one of another width than six bytes.
+    Misshapen,
+    // It has more than one.
+    Several,
+}
+
+// The first field of a content with a FID.
+pub fn first_field(content: &[u8], fid: u32) -> FieldPlace
+    ensures { λ r. ⌜ (r ≡ firstOf (now (content .entry)) fid) × FieldInside (now (content .entry)) r ⌝ }
+{
+    let mut at: usize = 0;
+    loop {
+        let n = field_size(content, at);
+        if n == 0 {
+            return FieldPlace::NoField;
+        }
+        let found = be32(content, at);
+        if found == fid {
+            return FieldPlace::Field {
+                fid: found,
+                start: at + 6,
+                len: n - 6,
+            };
+        }
+        at += n;
+    }
+}
+
+// The start field of a content: none, one with its values, or more.
+pub fn find_resume(content: &[u8]) -> Resume
+    ensures { λ r. ⌜ r ≡ resumeOf (now (content .entry)) ⌝ }
+{
+    if 1 < count_field(content, 4) {
+        return Resume::Several;
+    }
+    match first_field(content, 4) {
+        FieldPlace::NoField => Resume::Absent,
+        FieldPlace::Field { fid: _, start, len } => {
+            if len == 6 {
+                return Resume::Next {
+                    series: be16(content, start),
+                    number: be32(content, start + 2),
+                };
+            }
+            Resume::Misshapen
+        }
+    }
+}
+
+// The start field for a series and a number, at a place of the output.
+pub(crate) fn put_resume(out: &mut [u8], at: usize, series: u16, number: u32)
+    requires { ⌜ at + 12 ≤ length (now out) ⌝ }
+    ensures { λ _. ⌜ now (out .exit) ≡ put (now (out .entry)) at (resumeBytes series number) ⌝ }
+{
+    put32(out, at, 4);
+    put16(out, at + 4, 6);
+    put16(out, at + 6, series);
+    put32(out, at + 8, number);
+}
+
+// The start field for a series and a number, at the start of the output.
+pub fn write_resume(series: u16, number: u32, out: &mut [u8]) -> Written
+    ensures { λ r. ⌜ (r ≡ answerOf fine (resumeBytes series number) (now (out .entry))) × (now (out .exit) ≡ outputOf fine (resumeBytes series number) (now (out .entry))) ⌝ }
+{
+    if out.len() < 12 {
+        return Written::Refused(Refusal::TooSmall);
+    }
+    put_resume(out, 0, series, number);
+    Written::Bytes(12)
+}
+
+// The laws of the start field, as a promise.
+pub fn keeps_resume_laws()
+    ensures { λ _. ⌜ ResumeLaws ⌝ }
+{}
