@@ -11,3 +11,6 @@ pub mod Written
 pub mod Numbers
 pub mod RoundTrip
 pub mod Bench
+pub mod TableRule
+pub mod Checked
+pub mod Walked

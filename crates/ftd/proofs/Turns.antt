@@ -92,11 +92,11 @@ module _ (l : List ℕ) (at n : ℕ) (e : n ≡ front tag (drop at l)) where
 
 -- ─── Fields ───
 
-some-field : 0 < field .head
+pub some-field : 0 < field .head
 unfolding field
 some-field = omega arith
 
-be32-entry : (l : List ℕ) (at n : ℕ) → 6 ≤ n → be32Of (take n (drop at l)) 0 ≡ be32Of l at
+pub be32-entry : (l : List ℕ) (at n : ℕ) → 6 ≤ n → be32Of (take n (drop at l)) 0 ≡ be32Of l at
 unfolding be32Of
 be32-entry l at n h =
     rw (entry-byte l at n 0 (omega arith), entry-byte l at n 1 (omega arith), entry-byte l at n 2 (omega arith), entry-byte l at n 3 (omega arith), add-zero)

@@ -8,3 +8,8 @@ pub mod Laws
 pub mod Bench
 pub mod Writing
 pub mod WriteLaws
+pub mod Table
+pub mod TableRule
+pub mod Values
+pub mod Classes
+pub mod Items

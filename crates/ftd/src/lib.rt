@@ -5,3 +5,6 @@ pub mod tags; // the run of tags in a packet's extension
 pub mod fields; // the run of data fields in a message's content
 pub mod packet; // what a packet is, and its fields
 pub mod write; // packets written
+pub mod items; // the items of a content's fields
+pub mod table; // the table of Appendix D
+pub mod values; // which bytes are a value of an item's type
