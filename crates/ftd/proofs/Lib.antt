@@ -18,4 +18,8 @@ pub mod Joined
 pub mod Chains
 pub mod Counts
 pub mod Resumed
+pub mod TableRule
+pub mod Checked
+pub mod Walked
+pub mod Contents
 pub mod Bench

@@ -9,6 +9,12 @@ pub mod Writing
 pub mod WriteLaws
 pub mod Chains
 pub mod ChainLaws
-pub mod Bench
 pub mod Composition
 pub mod Resume
+pub mod Table
+pub mod TableRule
+pub mod Values
+pub mod Classes
+pub mod Items
+pub mod Content
+pub mod Bench

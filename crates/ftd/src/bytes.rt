@@ -40,6 +40,13 @@ pub fn number16(x: u16) -> u32
     x as u32
 }
 
+// A number of four bytes as a length.
+pub fn size32(x: u32) -> usize
+    ensures { λ r. ⌜ (r ≡ x) × (r < 4294967296) ⌝ }
+{
+    x as usize
+}
+
 // The number in the two bytes from a place on.
 pub fn be16(s: &[u8], at: usize) -> u16
     requires { ⌜ at + 2 ≤ length (now s) ⌝ }

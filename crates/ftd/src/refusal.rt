@@ -10,6 +10,9 @@ pub enum Refusal {
     ChainLetter, // 5 chain letter
     ContentLength, // 6 content length
     FieldRun, // 7 field run
+    FieldLength, // 8 field length
+    Item, // 9 item
+    Composition, // 10 make-up
     TooSmall, // 18 too small
 }
 
@@ -25,6 +28,9 @@ pub fn number(r: Refusal) -> u8
         Refusal::ChainLetter => 5,
         Refusal::ContentLength => 6,
         Refusal::FieldRun => 7,
+        Refusal::FieldLength => 8,
+        Refusal::Item => 9,
+        Refusal::Composition => 10,
         Refusal::TooSmall => 18,
     }
 }

@@ -1,0 +1,38 @@
+-- What each way through the content check decides, over plain variables. Assumes nothing.
+use Prim.Native.Nat.{ℕ}
+use mathlib.Core.Path.{_≡_}
+use mathlib.Core.List.{List}
+use mathlib.Core.Bool.{Bool, true, false}
+use Rattle.ftd.specs.Chains.{shaped}
+use Rattle.ftd.specs.Items.{wrongWidth, walkOf}
+use Rattle.ftd.specs.Composition.{composed}
+use Rattle.ftd.specs.Content.{contentOf}
+use Rattle.ftd.specs.declared.refusal.Refusal.{Refusal}
+use Rattle.ftd.specs.declared.refusal.Refusal.the-variants.{FieldRun, FieldLength, Composition}
+use Rattle.ftd.specs.declared.composition.Direction.{Direction}
+use Rattle.ftd.specs.declared.items.Verdict.{Verdict}
+use Rattle.ftd.specs.declared.items.Verdict.the-variants.{Passed, Refused}
+
+module _ (tid : ℕ) (d : Direction) (content : List ℕ) (limit : ℕ) (b : Bool) (s : b ≡ shaped content limit) where
+  pub by-shape : b ≡ false → Refused FieldRun ≡ contentOf tid d content limit
+  unfolding contentOf
+  by-shape n = rw (← s, n)
+
+  module _ (whole : b ≡ true) (w : Bool) (x : w ≡ wrongWidth content) where
+    pub by-width : w ≡ true → Refused FieldLength ≡ contentOf tid d content limit
+    unfolding contentOf
+    by-width n = rw (← s, whole, ← x, n)
+
+    module _ (wide : w ≡ false) (v : Verdict) (i : v ≡ walkOf content) where
+      pub by-item : (r : Refusal) → v ≡ Refused r → Refused r ≡ contentOf tid d content limit
+      unfolding contentOf
+      by-item r n = rw (← s, whole, ← x, wide, ← i, n)
+
+      module _ (good : v ≡ Passed) (m : Bool) (c : m ≡ composed tid d content) where
+        pub by-composition : m ≡ false → Refused Composition ≡ contentOf tid d content limit
+        unfolding contentOf
+        by-composition n = rw (← s, whole, ← x, wide, ← i, good, ← c, n)
+
+        pub by-passing : m ≡ true → Passed ≡ contentOf tid d content limit
+        unfolding contentOf
+        by-passing n = rw (← s, whole, ← x, wide, ← i, good, ← c, n)

@@ -1,0 +1,71 @@
+use Rattle.ftd.proofs.Contents.{by-shape, by-width, by-item, by-composition, by-passing}
+use Rattle.ftd.specs.Content.{contentOf}
+use borrow.Author.Needs.{needs}
+use Rattle.ftd.proofs.content.check_content.Statement.{statement}
+use Rattle.ftd.proofs.content.check_content.Tie as tie
+use Rattle.ftd.proofs.content.check_content.Reads as reads
+use Rattle.ftd.proofs.content.check_content.Lts as lts
+use Rattle.ftd.proofs.chain.is_shaped.Reads as is-shaped-reads
+use Rattle.ftd.proofs.composition.is_composed.Reads as is-composed-reads
+use Rattle.ftd.proofs.items.walk_items.Reads as walk-items-reads
+use Rattle.ftd.proofs.items.wrong_width.Reads as wrong-width-reads
+
+-- src/content.rt:17:8
+is-shaped-requires : tie.Need-is-shaped-requires
+is-shaped-requires c κs = search needs
+
+-- src/content.rt:18:12
+wrong-width-requires : tie.Need-wrong-width-requires
+wrong-width-requires c κs = search needs
+
+-- src/content.rt:19:13
+returns : tie.Need-returns
+returns c = search (needs, by-width)
+
+-- src/content.rt:21:15
+walk-items-requires : tie.Need-walk-items-requires
+walk-items-requires c κs = search needs
+
+-- src/content.rt:22:30
+enum-known-r : tie.Need-enum-known-r
+enum-known-r c = search needs
+
+-- src/content.rt:23:17
+returns-2 : tie.Need-returns-2
+returns-2 c = search (needs, by-item)
+
+-- src/content.rt:26:20
+enum-told : tie.Need-enum-told
+enum-told c = search needs
+
+-- src/content.rt:26:20
+is-composed-requires : tie.Need-is-composed-requires
+is-composed-requires c κs = search needs
+
+-- src/content.rt:27:21
+returns-3 : tie.Need-returns-3
+returns-3 c = search (needs, by-passing)
+
+-- src/content.rt:29:17
+returns-4 : tie.Need-returns-4
+returns-4 c = search (needs, by-composition)
+
+-- src/content.rt:14:1
+returns-5 : tie.Need-returns-5
+returns-5 c = search (needs, by-shape)
+
+pub check-content-spec : {M : Type 1} → statement M
+check-content-spec =
+    tie.close
+    (tie.spec
+    is-shaped-requires
+    wrong-width-requires
+    returns
+    walk-items-requires
+    enum-known-r
+    returns-2
+    enum-told
+    is-composed-requires
+    returns-3
+    returns-4
+    returns-5)

@@ -1,0 +1,25 @@
+-- The content check (01, refusal table, last line): 7, 8, 9 and 10, in that order.
+use Prim.Native.Nat.{ℕ}
+use mathlib.Core.List.{List}
+use mathlib.Core.Bool.{cond}
+use Rattle.ftd.specs.Chains.{shaped}
+use Rattle.ftd.specs.Items.{wrongWidth, walkOf}
+use Rattle.ftd.specs.Composition.{composed}
+use Rattle.ftd.specs.declared.refusal.Refusal.the-variants.{FieldRun, FieldLength, Composition}
+use Rattle.ftd.specs.declared.composition.Direction.{Direction}
+use Rattle.ftd.specs.declared.items.Verdict.{Verdict}
+use Rattle.ftd.specs.declared.items.Verdict.the-variants.{Passed, Refused}
+
+-- A refusal stands; what passed goes on to the next test.
+abbrev pub before : Verdict → Verdict → Verdict
+before Passed next = next
+before (Refused r) next = Refused r
+
+-- Of content that is given for a message: whole fields within the limit (7), widths (8), items (9), make-up (10).
+unfoldable pub contentOf : ℕ → Direction → List ℕ → ℕ → Verdict
+contentOf tid d content limit =
+    cond (shaped content limit)
+    (cond (wrongWidth content) (Refused FieldLength)
+    (before (walkOf content)
+    (cond (composed tid d content) Passed (Refused Composition))))
+    (Refused FieldRun)

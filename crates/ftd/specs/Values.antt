@@ -1,0 +1,91 @@
+-- Which bytes are a value of an item's type (01, "Typed items"; Table 6 and Appendix B).
+use Prim.Native.Nat.{ℕ, _+_, _-_, _*_}
+use mathlib.Core.List.{List, [], _∷_, _++_}
+use mathlib.Core.Bool.{Bool, true, false, cond, not, _&&_, _||_}
+use lib.ListN.{length, getD, take, drop}
+use lib.Dec.{leb, ltb, eqb}
+use Rattle.ftd.specs.Table.{enumerations}
+
+-- ─── Classes of bytes ───
+
+-- Each byte is of a class.
+abbrev pub every : (ℕ → Bool) → List ℕ → Bool
+every p [] = true
+every p (x ∷ xs) = p x && every p xs
+
+-- A byte of a String: 0x20 to 0xFF but 0x7F.
+abbrev pub isText : ℕ → Bool
+isText b = leb 32 b && not (eqb b 127)
+
+-- A digit, the digit 0, a space.
+abbrev pub isDigit : ℕ → Bool
+isDigit b = leb 48 b && leb b 57
+
+abbrev pub isZero : ℕ → Bool
+isZero b = eqb b 48
+
+abbrev pub isSpace : ℕ → Bool
+isSpace b = eqb b 32
+
+-- ─── Char with an enumeration, kinds 7 to 16 ───
+
+abbrev pub among : ℕ → List ℕ → Bool
+among b [] = false
+among b (v ∷ vs) = eqb b v || among b vs
+
+-- Its values, and 0 for unused.
+unfoldable pub isListed : ℕ → ℕ → Bool
+isListed kind b = eqb b 0 || among b (getD enumerations (kind - 7) [])
+
+-- ─── Number and Float ───
+
+-- Digits; or '-' and digits that are not all 0, since minus zero is wrong. '-' alone is wrong.
+unfoldable pub isNumber : List ℕ → Bool
+isNumber l =
+    cond (eqb (getD l 0 0) 45) (every isDigit (drop 1 l) && not (every isZero (drop 1 l))) (ltb 0 (length l) && every isDigit l)
+
+-- Float a,b: a bytes with '.' before the last b, and a Number without it. Before the point stands a byte at least, which may be '-'.
+abbrev pub pointAt : ℕ → List ℕ → ℕ
+pointAt scale l = length l - (scale + 1)
+
+unfoldable pub withoutPoint : ℕ → List ℕ → List ℕ
+withoutPoint scale l = take (pointAt scale l) l ++ drop (pointAt scale l + 1) l
+
+unfoldable pub isFloat : ℕ → List ℕ → Bool
+isFloat scale l = leb (scale + 2) (length l) && (eqb (getD l (pointAt scale l) 0) 46 && isNumber (withoutPoint scale l))
+
+-- ─── Date ───
+
+-- The number that two digits make.
+abbrev pub twoDigits : ℕ → ℕ → ℕ
+twoDigits a b = (a - 48) * 10 + (b - 48)
+
+abbrev pub monthOf : List ℕ → ℕ
+monthOf l = twoDigits (getD l 4 0) (getD l 5 0)
+
+abbrev pub dayOf : List ℕ → ℕ
+dayOf l = twoDigits (getD l 6 0) (getD l 7 0)
+
+-- Month 01 to 12, day 01 to 31.
+abbrev pub rightDay : ℕ → ℕ → Bool
+rightDay month day = (leb 1 month && leb month 12) && (leb 1 day && leb day 31)
+
+-- All spaces, or YYYYMMDD with month 01 to 12 and day 01 to 31.
+unfoldable pub isDate : List ℕ → Bool
+isDate l =
+    eqb (length l) 8 && (every isSpace l || (every isDigit l && rightDay (monthOf l) (dayOf l)))
+
+-- ─── An item ───
+
+-- By kind and decimals. A Char without an enumeration, a Word and an Int are any bytes of their width.
+unfoldable pub isValue : ℕ → ℕ → List ℕ → Bool
+isValue kind scale l =
+    cond (eqb kind 0) (eqb (length l) 1)
+    (cond (eqb kind 1) (eqb (length l) 2)
+    (cond (eqb kind 2) (eqb (length l) 4)
+    (cond (eqb kind 3) (every isText l)
+    (cond (eqb kind 4) (isNumber l)
+    (cond (eqb kind 5) (isFloat scale l)
+    (cond (eqb kind 6) (isDate l)
+    (cond (leb kind 16) (eqb (length l) 1 && isListed kind (getD l 0 0))
+    false)))))))

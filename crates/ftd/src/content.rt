@@ -1,0 +1,34 @@
+// The content check: refusals 7, 8, 9 and 10, in that order. Its parts are `chain::is_shaped`, `items::wrong_width`,
+// `items::walk_items` and `composition::is_composed`.
+ghost use mathlib.Core.Path.{_≡_};
+ghost use Rattle.ftd.specs.Content.{contentOf};
+use crate::chain::is_shaped;
+use crate::composition::Direction;
+use crate::composition::is_composed;
+use crate::items::Verdict;
+use crate::items::walk_items;
+use crate::items::wrong_width;
+use crate::refusal::Refusal;
+
+// The first refusal of content that is given for a message, or none.
+pub fn check_content(tid: u32, direction: Direction, content: &[u8], limit: usize) -> Verdict
+    ensures { λ r. ⌜ r ≡ contentOf tid direction (now (content .entry)) limit ⌝ }
+{
+    if is_shaped(content, limit) {
+        if wrong_width(content) {
+            return Verdict::Refused(Refusal::FieldLength);
+        }
+        match walk_items(content) {
+            Verdict::Refused(r) => {
+                return Verdict::Refused(r);
+            }
+            Verdict::Passed => {
+                if is_composed(tid, direction, content) {
+                    return Verdict::Passed;
+                }
+                return Verdict::Refused(Refusal::Composition);
+            }
+        }
+    }
+    Verdict::Refused(Refusal::FieldRun)
+}

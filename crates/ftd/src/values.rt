@@ -1,0 +1,274 @@
+// Which bytes are a value of an item's type (Table 6, Appendix B).
+ghost use mathlib.Core.List.{_++_};
+ghost use mathlib.Core.Path.{_≡_};
+ghost use Prim.Native.Nat.{_+_, _-_, _<_, _≤_};
+ghost use lib.ListN.{length, take, drop};
+ghost use Rattle.ftd.specs.Values.{every, isListed, isNumber, isFloat, twoDigits, rightDay, isDate, isValue};
+ghost use Rattle.ftd.specs.Classes.{inClass};
+use crate::bytes::size8;
+use crate::bytes::wide16;
+
+// The values of the enumerations of kinds 7 to 16, with 0: eight entries for each, 1 where the value is listed.
+const LISTED: [u8; 80] = [
+    1,
+    1,
+    1,
+    0,
+    0,
+    0,
+    0,
+    0, // 7
+    1,
+    1,
+    0,
+    0,
+    0,
+    0,
+    0,
+    0, // 8
+    1,
+    0,
+    0,
+    0,
+    0,
+    0,
+    0,
+    0, // 9
+    1,
+    1,
+    0,
+    1,
+    0,
+    0,
+    0,
+    0, // 10
+    1,
+    1,
+    1,
+    1,
+    1,
+    0,
+    0,
+    0, // 11
+    1,
+    1,
+    1,
+    1,
+    1,
+    1,
+    0,
+    0, // 12
+    1,
+    1,
+    1,
+    1,
+    1,
+    1,
+    1,
+    1, // 13
+    1,
+    1,
+    1,
+    1,
+    0,
+    0,
+    0,
+    0, // 14
+    1,
+    1,
+    1,
+    1,
+    1,
+    1,
+    0,
+    0, // 15
+    1,
+    1,
+    1,
+    1,
+    1,
+    1,
+    1,
+    0, // 16
+];
+
+// Classes of bytes.
+pub enum Class {
+    Text,
+    Digit,
+    Zero,
+    Space,
+}
+
+// A byte is of a class.
+fn in_class(class: Class, b: u8) -> bool
+    ensures { λ r. ⌜ r ≡ inClass class b ⌝ }
+{
+    match class {
+        Class::Text => {
+            if b < 32 {
+                return false;
+            }
+            b != 127
+        }
+        Class::Digit => {
+            if b < 48 {
+                return false;
+            }
+            b <= 57
+        }
+        Class::Zero => b == 48,
+        Class::Space => b == 32,
+    }
+}
+
+// All bytes of a part are of a class.
+fn all_in(class: Class, s: &[u8], from: usize, to: usize) -> bool
+    requires { ⌜ (from ≤ to) × (to ≤ length (now s)) ⌝ }
+    ensures { λ r. ⌜ r ≡ every (inClass class) (drop from (take to (now (s .entry)))) ⌝ }
+{
+    let mut i = from;
+    while i < to {
+        if in_class(class, s[i]) {
+            i += 1;
+        } else {
+            return false;
+        }
+    }
+    true
+}
+
+// The same of two parts: from `from` up to the point, and what stands behind it.
+fn both_in(class: Class, s: &[u8], from: usize, point: usize, behind: usize) -> bool
+    requires { ⌜ (from ≤ point) × (point ≤ behind) × (behind ≤ length (now s)) ⌝ }
+    ensures { λ r. ⌜ r ≡ every (inClass class) (drop from (take point (now (s .entry))) ++ drop behind (now (s .entry))) ⌝ }
+{
+    if all_in(class, s, from, point) {
+        return all_in(class, s, behind, s.len());
+    }
+    false
+}
+
+// The bytes up to the point and behind it are a Number.
+fn is_signed(s: &[u8], point: usize, behind: usize) -> bool
+    requires { ⌜ (1 ≤ point) × (point ≤ behind) × (behind ≤ length (now s)) ⌝ }
+    ensures { λ r. ⌜ r ≡ isNumber (take point (now (s .entry)) ++ drop behind (now (s .entry))) ⌝ }
+{
+    if s[0] == 45 {
+        if both_in(Class::Digit, s, 1, point, behind) {
+            if both_in(Class::Zero, s, 1, point, behind) {
+                return false;
+            }
+            return true;
+        }
+        return false;
+    }
+    both_in(Class::Digit, s, 0, point, behind)
+}
+
+// The bytes are a Number.
+pub fn is_number(s: &[u8]) -> bool
+    ensures { λ r. ⌜ r ≡ isNumber (now (s .entry)) ⌝ }
+{
+    if s.len() == 0 {
+        return false;
+    }
+    is_signed(s, s.len(), s.len())
+}
+
+// The bytes are a Float with that many decimals.
+pub fn is_float(scale: u8, s: &[u8]) -> bool
+    ensures { λ r. ⌜ r ≡ isFloat scale (now (s .entry)) ⌝ }
+{
+    let decimals = size8(scale);
+    if s.len() < decimals + 2 {
+        return false;
+    }
+    let point = s.len() - (decimals + 1);
+    if s[point] == 46 {
+        return is_signed(s, point, point + 1);
+    }
+    false
+}
+
+// What a digit stands for; 0 below '0'.
+fn digit(b: u8) -> u16
+    ensures { λ r. ⌜ (r ≡ b - 48) × (r < 256) ⌝ }
+{
+    if b < 48 {
+        return 0;
+    }
+    wide16(b) - 48
+}
+
+// The number that two digits make.
+fn two_digits(a: u8, b: u8) -> u16
+    ensures { λ r. ⌜ r ≡ twoDigits a b ⌝ }
+{
+    digit(a) * 10 + digit(b)
+}
+
+// The bytes are a Date.
+pub fn is_date(s: &[u8]) -> bool
+    ensures { λ r. ⌜ r ≡ isDate (now (s .entry)) ⌝ }
+{
+    if s.len() != 8 {
+        return false;
+    }
+    if all_in(Class::Space, s, 0, 8) {
+        return true;
+    }
+    if all_in(Class::Digit, s, 0, 8) {
+        return right_day(two_digits(s[4], s[5]), two_digits(s[6], s[7]));
+    }
+    false
+}
+
+// Month 01 to 12, day 01 to 31.
+fn right_day(month: u16, day: u16) -> bool
+    ensures { λ r. ⌜ r ≡ rightDay month day ⌝ }
+{
+    if month < 1 {
+        return false;
+    }
+    if 12 < month {
+        return false;
+    }
+    if day < 1 {
+        return false;
+    }
+    day <= 31
+}
+
+// A byte is listed by an enumeration, or 0.
+fn is_listed(kind: u8, b: u8) -> bool
+    requires { ⌜ (7 ≤ kind) × (kind ≤ 16) ⌝ }
+    ensures { λ r. ⌜ r ≡ isListed kind b ⌝ }
+{
+    if 8 <= b {
+        return false;
+    }
+    LISTED[size8(kind - 7) * 8 + size8(b)] == 1
+}
+
+// The bytes are a value of a type, by kind and decimals.
+pub fn is_value(kind: u8, scale: u8, s: &[u8]) -> bool
+    ensures { λ r. ⌜ r ≡ isValue kind scale (now (s .entry)) ⌝ }
+{
+    match kind {
+        0 => s.len() == 1,
+        1 => s.len() == 2,
+        2 => s.len() == 4,
+        3 => all_in(Class::Text, s, 0, s.len()),
+        4 => is_number(s),
+        5 => is_float(scale, s),
+        6 => is_date(s),
+        7..=16 => {
+            if s.len() == 1 {
+                return is_listed(kind, s[0]);
+            }
+            false
+        }
+        _ => false,
+    }
+}
