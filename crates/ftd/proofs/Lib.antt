@@ -14,3 +14,6 @@ pub mod Bench
 pub mod TableRule
 pub mod Checked
 pub mod Walked
+pub mod Modes
+pub mod Placed
+pub mod Digits

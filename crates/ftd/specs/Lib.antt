@@ -13,3 +13,6 @@ pub mod TableRule
 pub mod Values
 pub mod Classes
 pub mod Items
+pub mod Modes
+pub mod Places
+pub mod Signed
