@@ -82,10 +82,10 @@ module _ (s : List ℕ) (point behind : ℕ) (low : 1 ≤ point) (order : point 
   some : 0 < length (take point s)
   some = rw length-take (omega arith)
 
-  first : getD (take point s ++ drop behind s) 0 0 ≡ getD s 0 0
+  pub first : getD (take point s ++ drop behind s) 0 0 ≡ getD s 0 0
   first = List·getD-append (take point s) (drop behind s) 0 0 some ∙ getD-take {A = ℕ} point s 0 0 (omega arith)
 
-  rest : drop 1 (take point s ++ drop behind s) ≡ drop 1 (take point s) ++ drop behind s
+  pub rest : drop 1 (take point s ++ drop behind s) ≡ drop 1 (take point s) ++ drop behind s
   rest = drop-append-le 1 (take point s) (drop behind s) (omega (arith, some))
 
   module _ (minus : getD s 0 0 ≡ 45) (d : Bool) (q : d ≡ every (inClass Digit) (drop 1 (take point s) ++ drop behind s)) where

@@ -22,4 +22,7 @@ pub mod TableRule
 pub mod Checked
 pub mod Walked
 pub mod Contents
+pub mod Modes
+pub mod Placed
+pub mod Digits
 pub mod Bench

@@ -4,13 +4,14 @@ use mathlib.Core.Path.{_≡_, refl, ap, _∙_}
 use mathlib.Core.List.{List, [], _∷_, map}
 use mathlib.Core.Bool.{Bool, true, false, cond, _&&_}
 use native.Mathlib.Nat.{zero-add, add-zero}
+use native.Mathlib.Numerals.{add-one}
 use native.Mathlib.Omega.{arith}
 use borrow.Author.Tests.{eqb-true, eqb-false, ltb-true, ltb-false}
 use lib.ListN.{length, getD, take, drop, List·getD-eq-default, List·getD-map, length-take, length-drop}
-use lib.Seq.{getD-take, getD-drop}
+use lib.Seq.{getD-take, getD-drop, drop-cons}
 use lib.Dec.{leb, ltb, eqb, T, eqb→eq, leb→le, ltb→lt}
 use Rattle.ftd.specs.Table.{Row, row, table, keep, total, rowsOf}
-use Rattle.ftd.specs.TableRule.{Place, place, places, placeOf, rightForm, rowHolds, rowsHold, sameRow, sameRows, fieldHolds, allBelow, ruled, RowRule, FieldRule, TableRule}
+use Rattle.ftd.specs.TableRule.{Place, place, places, placeOf, rowAt, rightForm, rowHolds, rowsHold, sameRow, sameRows, fieldHolds, allBelow, ruled, RowRule, FieldRule, TableRule}
 
 test : T ruled
 unfolding table rowsOf places
@@ -197,8 +198,34 @@ module _ (i : ℕ) where
   unfolding wides
   wide-col = List·getD-map (λ (p : Place). p .wide) places i (place 0 0 0)
 
--- ─── Where the rows of a field end ───
+-- ─── The rows of a field, one at a time ───
 
 pub rows-end : (fid start count : ℕ) → start ≡ placeOf fid .start → count ≡ placeOf fid .count
     → (start + count ≡ placeOf fid .start + placeOf fid .count) × (start + count ≤ 379)
 rows-end fid start count p q = (rw (p, q), rw (p, q) (table-rule .field fid .inside))
+
+module _ (fid : ℕ) where
+  pub rows-none : 47 ≤ fid → rowsOf fid ≡ []
+  rows-none h = rw (table-rule .field fid .rows, place-none fid h)
+
+  pub rows-from : (i start : ℕ) → i ≡ fid → start ≡ placeOf i .start → (j last : ℕ) → j ≡ fid → last ≡ placeOf j .start + placeOf j .count
+      → rowsOf fid ≡ take (last - start) (drop start table)
+  rows-from i start a p j last b q =
+      let d : placeOf fid .start + placeOf fid .count - placeOf fid .start ≡ placeOf fid .count = omega arith in
+      rw (p, q, a, b, d) (table-rule .field fid .rows)
+
+  pub rows-length : length (rowsOf fid) ≡ placeOf fid .count
+  rows-length =
+      let h : placeOf fid .start + placeOf fid .count ≤ 379 = table-rule .field fid .inside in
+      rw (table-rule .field fid .rows, length-take, length-drop, row-count) (omega arith)
+
+pub rows-next : (i last : ℕ) → i < last → last ≤ 379 → take (last - i) (drop i table) ≡ rowAt i ∷ take (last - (i + 1)) (drop (i + 1) table)
+rows-next i last h k =
+    let n : i < length table = rw row-count (omega arith) in
+    let s : last - i ≡ suc (last - suc i) = omega arith in
+    rw (add-one i, s, drop-cons table i none n)
+
+pub rows-over : (i last : ℕ) → last ≤ i → take (last - i) (drop i table) ≡ []
+rows-over i last h =
+    let z : last - i ≡ 0 = omega arith in
+    rw z

@@ -1,18 +1,17 @@
 -- One turn of each loop over the fields and their items, over plain variables. Assumes nothing.
-use Prim.Native.Nat.{ℕ, suc, _+_, _-_, _<_, _≤_}
+use Prim.Native.Nat.{ℕ, _+_, _-_, _<_, _≤_}
 use mathlib.Core.Path.{_≡_}
-use mathlib.Core.List.{List, []}
+use mathlib.Core.List.{List}
 use mathlib.Core.Bool.{Bool, true, false, cond, not, _&&_, _||_}
-use native.Mathlib.Numerals.{add-one}
 use native.Mathlib.Omega.{arith}
 use borrow.Author.Tests.{lt-ltb, le-leb, lt-leb}
 use lib.ListN.{length, take, drop, length-take, length-drop}
-use lib.Seq.{drop-cons, drop-drop, take-take}
+use lib.Seq.{drop-drop, take-take}
 use lib.Dec.{eqb}
 use Rattle.ftd.specs.Bytes.{be32Of}
 use Rattle.ftd.specs.Runs.{front, runOf}
 use Rattle.ftd.specs.Fields.{field}
-use Rattle.ftd.specs.Table.{Row, row, table, rowsOf}
+use Rattle.ftd.specs.Table.{Row, table, rowsOf}
 use Rattle.ftd.specs.TableRule.{placeOf, rowAt}
 use Rattle.ftd.specs.Values.{isValue}
 use Rattle.ftd.specs.Items.{otherWidth, anyOther, wrongWidth, itemGood, itemsGood, walkFields, walkOf, checkOf}
@@ -22,21 +21,7 @@ use Rattle.ftd.specs.declared.items.Verdict.the-variants.{Passed, Refuse
 use Rattle.ftd.proofs.Lists.{drop-part}
 use Rattle.ftd.proofs.Runs.{run-over, run-next, entry-length}
 use Rattle.ftd.proofs.Turns.{some-field, be32-entry, field-head}
-use Rattle.ftd.proofs.TableRule.{row-count, place-none, table-rule}
-
--- ─── The rows of a field ───
-
-module _ (fid : ℕ) where
-  rows-at : rowsOf fid ≡ take (placeOf fid .count) (drop (placeOf fid .start) table)
-  rows-at = table-rule .field fid .rows
-
-  rows-length : length (rowsOf fid) ≡ placeOf fid .count
-  rows-length =
-      let h : placeOf fid .start + placeOf fid .count ≤ 379 = table-rule .field fid .inside in
-      rw (rows-at, length-take, length-drop, row-count) (omega arith)
-
-  rows-none : 47 ≤ fid → rowsOf fid ≡ []
-  rows-none h = rw (rows-at, place-none fid h)
+use Rattle.ftd.proofs.TableRule.{table-rule, rows-none, rows-from, rows-length, rows-next, rows-over}
 
 -- ─── Refusal 8 ───
 
@@ -91,16 +76,11 @@ module _ (r : Row) (l : List ℕ) (pos end : ℕ) (order : pos ≤ end) (fits : 
 module _ (l : List ℕ) (i last pos end : ℕ) (more t : Verdict)
     (inv : cond (itemsGood (take (last - i) (drop i table)) (drop pos (take end l))) more (Refused Item) ≡ t) where
   pub items-end : last ≤ i → more ≡ t
-  items-end h =
-      let z : last - i ≡ 0 = omega arith in
-      rw z at inv
+  items-end h = rw (rows-over i last h) at inv
 
   module _ (h : i < last) (inside : last ≤ 379) (g : Bool) (q : g ≡ itemGood (rowAt i) (drop pos (take end l))) where
     next : cond (g && itemsGood (take (last - (i + 1)) (drop (i + 1) table)) (drop (pos + rowAt i .width) (take end l))) more (Refused Item) ≡ t
-    next =
-        let k : i < length table = rw row-count (omega arith) in
-        let s : last - i ≡ suc (last - suc i) = omega arith in
-        rw (q, add-one i, ← (drop-drop (rowAt i .width) pos (take end l))) (rw (s, drop-cons table i (row 0 0 0 0) k) at inv)
+    next = rw (q, ← (drop-drop (rowAt i .width) pos (take end l))) (rw (rows-next i last h inside) at inv)
 
     pub items-wrong : g ≡ false → Refused Item ≡ t
     items-wrong w = rw w at next
@@ -126,9 +106,7 @@ module _ (l : List ℕ) (at n : ℕ) (e : n ≡ front field (drop at l)) (t : Ve
     pub walk-items : (i start : ℕ) → i ≡ fid → start ≡ placeOf i .start → (j last : ℕ) → j ≡ fid → last ≡ placeOf j .start + placeOf j .count
         → cond (itemsGood (take (last - start) (drop start table)) (drop (at + 6) (take (at + n) l)))
         (walkFields (runOf field (drop (at + n) l) .entries)) (Refused Item) ≡ t
-    walk-items i start a p j last b q =
-        let d : placeOf fid .start + placeOf fid .count - placeOf fid .start ≡ placeOf fid .count = omega arith in
-        rw (p, q, a, b, d) (rw (rows-at fid) at here)
+    walk-items i start a p j last b q = rw (rows-from fid i start a p j last b q) at here
 
 -- ─── Refusal 8, then 9 ───
 

@@ -4,6 +4,8 @@ use Prim.Native.Nat.{ℕ}
 use mathlib.Core.List.{List, [], _∷_, _++_, map}
 use mathlib.Core.Bool.{Bool, true, false, _&&_}
 use lib.ListN.{replicate}
+use mathlib.Core.List.{List, [], _∷_, _++_}
+use mathlib.Core.Bool.{Bool, true, false, cond, _&&_}
 use lib.Dec.{eqb, T}
 use Rattle.ftd.specs.Bytes.{bytes16, bytes32}
 use Rattle.ftd.specs.Refusals.{numberOf}
@@ -11,8 +13,17 @@ use Rattle.ftd.specs.Packets.{letterOf, chainLetter, readOf}
 use Rattle.ftd.specs.Chains.{packetsOf}
 use Rattle.ftd.specs.declared.chain.Message.{Message as Outgoing}
 use Rattle.ftd.specs.declared.tags.TradeDate.the-variants.{None}
+use Rattle.ftd.specs.Packets.{chainLetter, readOf}
+use Rattle.ftd.specs.Items.{checkOf}
+use Rattle.ftd.specs.Places.{itemBytes}
+use Rattle.ftd.specs.Signed.{floatValue}
+use Rattle.ftd.specs.declared.items.Verdict.{Verdict}
+use Rattle.ftd.specs.declared.items.Verdict.the-variants.{Passed, Refused}
+use Rattle.ftd.specs.declared.signed.Signed.{Signed}
+use Rattle.ftd.specs.declared.signed.Signed.the-variants.{NoValue, Value}
 use Rattle.ftd.specs.declared.packet.Packet.{Packet}
-use Rattle.ftd.specs.declared.packet.Packet.the-variants.{Short, Link, Skipped, Message, Refused}
+use Rattle.ftd.specs.declared.packet.Packet.the-variants.{Short, Link, Skipped, Message}
+use Rattle.ftd.specs.declared.packet.Packet.the-variants.{Refused as RefusedPacket}
 
 -- ─── Answers in numbers ───
 
@@ -24,13 +35,23 @@ answerOf (Skipped kind extension body) = 2 ∷ kind ∷ extension .start ∷ ext
 answerOf (Message h extension content) =
     3 ∷ extension .start ∷ extension .len ∷ h .tid ∷ chainLetter (h .chain) ∷ h .series ∷ h .number ∷ h .fields
     ∷ content .start ∷ content .len ∷ []
-answerOf (Refused r) = 4 ∷ numberOf r ∷ []
+answerOf (RefusedPacket r) = 4 ∷ numberOf r ∷ []
 
 abbrev pub short : List ℕ
 short = 0 ∷ []
 
 abbrev pub refused : ℕ → List ℕ
 refused n = 4 ∷ n ∷ []
+
+-- Each value of a Number or a Float: its sign, 1 for minus, and its units.
+abbrev pub valueAnswer : Signed → List ℕ
+valueAnswer NoValue = []
+valueAnswer (Value negative units) = cond negative 1 0 ∷ units ∷ []
+
+-- Each answer of a check of items: refused, or what is read then.
+abbrev pub checkAnswer : Verdict → List ℕ → List ℕ
+checkAnswer Passed value = value
+checkAnswer (Refused r) value = refused (numberOf r)
 
 -- ─── The table ───
 
@@ -59,6 +80,13 @@ dataField n = bytes32 1 ++ (bytes16 n ++ replicate n 32)
 abbrev pub lettersOf : List ℕ → List ℕ
 lettersOf content = map (λ (p : List ℕ). letterOf p) (packetsOf (record { date = None; tid = 8196; series = 1; number = 1 }) content)
 
+-- A row whose bytes stand as the price, item 3 of a MarketMatchIncDataField (FID 0x000A, 29 bytes): the field is checked, and the
+-- price read as Float 12,4.
+abbrev pub prices : ℕ → List ℕ → List ℕ → Row
+prices n price b =
+    let bytes : List ℕ = 32 ∷ 32 ∷ 32 ∷ 32 ∷ 32 ∷ 32 ∷ 32 ∷ 32 ∷ 32 ∷ 32 ∷ 0 ∷ 0 ∷ price ++ (0 ∷ 0 ∷ 0 ∷ 0 ∷ 0 ∷ []) in
+    row n (checkAnswer (checkOf (0 ∷ 0 ∷ 0 ∷ 10 ∷ 0 ∷ 29 ∷ bytes)) (valueAnswer (floatValue 4 (itemBytes bytes 10 3)))) b
+
 unfoldable pub bench : List Row
 bench =
     -- P1 no bytes
@@ -84,6 +112,10 @@ bench =
     ∷ reads 8 (packet 1 115 0 0) (refused 5)
     ∷ reads 8 (packet 1 83 0 1) (refused 6)
     ∷ reads 8 (packet 1 83 1 0) (refused 7)
+    -- P9 price `0000123.4500`: 1,234,500; `-000012.5000`: -125,000; `-000000.0000`: 9
+    ∷ prices 9 (48 ∷ 48 ∷ 48 ∷ 48 ∷ 49 ∷ 50 ∷ 51 ∷ 46 ∷ 52 ∷ 53 ∷ 48 ∷ 48 ∷ []) (0 ∷ 1234500 ∷ [])
+    ∷ prices 9 (45 ∷ 48 ∷ 48 ∷ 48 ∷ 48 ∷ 49 ∷ 50 ∷ 46 ∷ 53 ∷ 48 ∷ 48 ∷ 48 ∷ []) (1 ∷ 125000 ∷ [])
+    ∷ prices 9 (45 ∷ 48 ∷ 48 ∷ 48 ∷ 48 ∷ 48 ∷ 48 ∷ 46 ∷ 48 ∷ 48 ∷ 48 ∷ 48 ∷ []) (refused 9)
     -- P12 fields of 2,034 and 2,034 bytes: S; 2,034 and 2,035: F, L
     ∷ row 12 (lettersOf (dataField 2034 ++ dataField 2034)) (83 ∷ [])
     ∷ row 12 (lettersOf (dataField 2034 ++ dataField 2035)) (70 ∷ 76 ∷ [])

@@ -17,4 +17,7 @@ pub mod Values
 pub mod Classes
 pub mod Items
 pub mod Content
+pub mod Modes
+pub mod Places
+pub mod Signed
 pub mod Bench

@@ -56,9 +56,12 @@ isFloat scale l = leb (scale + 2) (length l) && (eqb (getD l (pointAt scale l) 0
 
 -- ─── Date ───
 
--- The number that two digits make.
+-- What a digit stands for, and the number that two make.
+abbrev pub digitOf : ℕ → ℕ
+digitOf b = cond (isDigit b) (b - 48) 0
+
 abbrev pub twoDigits : ℕ → ℕ → ℕ
-twoDigits a b = (a - 48) * 10 + (b - 48)
+twoDigits a b = digitOf a * 10 + digitOf b
 
 abbrev pub monthOf : List ℕ → ℕ
 monthOf l = twoDigits (getD l 4 0) (getD l 5 0)

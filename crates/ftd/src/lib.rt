@@ -12,3 +12,6 @@ pub mod items; // the items of a content's fields
 pub mod table; // the table of Appendix D
 pub mod values; // which bytes are a value of an item's type
 pub mod content; // the content check as one
+pub mod mode; // the mode of a message type
+pub mod places; // an item of a field by place
+pub mod signed; // Numbers and Floats: signed values

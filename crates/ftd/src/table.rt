@@ -1349,7 +1349,7 @@ pub(crate) fn kind_at(row: usize) -> u8
 
 pub(crate) fn width_at(row: usize) -> usize
     requires { ⌜ row < 379 ⌝ }
-    ensures { λ r. ⌜ r ≡ rowAt row .width ⌝ }
+    ensures { λ r. ⌜ (r ≡ rowAt row .width) × (r < 65536) ⌝ }
 {
     size16(WIDTH[row])
 }

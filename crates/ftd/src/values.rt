@@ -3,10 +3,9 @@ ghost use mathlib.Core.List.{_++_};
 ghost use mathlib.Core.Path.{_≡_};
 ghost use Prim.Native.Nat.{_+_, _-_, _<_, _≤_};
 ghost use lib.ListN.{length, take, drop};
-ghost use Rattle.ftd.specs.Values.{every, isListed, isNumber, isFloat, twoDigits, rightDay, isDate, isValue};
+ghost use Rattle.ftd.specs.Values.{every, isListed, isNumber, isFloat, digitOf, twoDigits, rightDay, isDate, isValue};
 ghost use Rattle.ftd.specs.Classes.{inClass};
 use crate::bytes::size8;
-use crate::bytes::wide16;
 
 // The values of the enumerations of kinds 7 to 16, with 0: eight entries for each, 1 where the value is listed.
 const LISTED: [u8; 80] = [
@@ -191,19 +190,22 @@ pub fn is_float(scale: u8, s: &[u8]) -> bool
     false
 }
 
-// What a digit stands for; 0 below '0'.
-fn digit(b: u8) -> u16
-    ensures { λ r. ⌜ (r ≡ b - 48) × (r < 256) ⌝ }
+// What a digit stands for; 0 for any other byte.
+pub(crate) fn digit(b: u8) -> u8
+    ensures { λ r. ⌜ (r ≡ digitOf b) × (r ≤ 9) ⌝ }
 {
     if b < 48 {
         return 0;
     }
-    wide16(b) - 48
+    if b <= 57 {
+        return b - 48;
+    }
+    0
 }
 
 // The number that two digits make.
-fn two_digits(a: u8, b: u8) -> u16
-    ensures { λ r. ⌜ r ≡ twoDigits a b ⌝ }
+pub(crate) fn two_digits(a: u8, b: u8) -> u8
+    ensures { λ r. ⌜ (r ≡ twoDigits a b) × (r ≤ 99) ⌝ }
 {
     digit(a) * 10 + digit(b)
 }
@@ -225,7 +227,7 @@ pub fn is_date(s: &[u8]) -> bool
 }
 
 // Month 01 to 12, day 01 to 31.
-fn right_day(month: u16, day: u16) -> bool
+fn right_day(month: u8, day: u8) -> bool
     ensures { λ r. ⌜ r ≡ rightDay month day ⌝ }
 {
     if month < 1 {

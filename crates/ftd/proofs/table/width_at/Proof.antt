@@ -17,7 +17,7 @@ size16-requires c κs = search needs
 
 returns : tie.Need-returns
 unfolding widths table
-returns c = c .size16 .ensures .0 ∙ width-col (c .before .args .row)
+returns c = (c .size16 .ensures .0 ∙ width-col (c .before .args .row), search needs)
 
 pub width-at-spec : {M : Type 1} → statement M
 width-at-spec = tie.close (tie.spec mul-size16 array-read-size16 size16-requires returns)
