@@ -27,7 +27,7 @@ module _ (l : List ℕ) (at n fid seen t : ℕ) (e : n ≡ front field (drop at 
 
 -- ─── Appendix E, a line at a time ───
 
-abbrev noLine : Listed
+abbrev pub noLine : Listed
 noLine = record { tid = 0; direction = 0; fid = 0; least = 0; most = 0 }
 
 module _ (r : Listed) (tid direction : ℕ) (content : List ℕ) (x : ℕ) (p : x ≡ r .tid) where
@@ -42,11 +42,11 @@ module _ (r : Listed) (tid direction : ℕ) (content : List ℕ) (x : ℕ) (p : 
         → (b : Bool) → b ≡ inRange least most n → b ≡ lineHolds r tid direction content
     line-here d least most fid n q s f c b e = e ∙ rw (← p, eq-eqb x tid same, eq-eqb (r .direction) direction d, q, s, c, f)
 
-lines : length appendixE ≡ 82
+pub lines : length appendixE ≡ 82
 unfolding appendixE
 lines = refl
 
-line-is : (i : ℕ) → getD appendixE i noLine ≡ lineAt i
+pub line-is : (i : ℕ) → getD appendixE i noLine ≡ lineAt i
 unfolding lineAt tids directions fids leasts mosts
 line-is i =
     rw (

@@ -25,4 +25,5 @@ pub mod Contents
 pub mod Modes
 pub mod Placed
 pub mod Digits
+pub mod CompositionRule
 pub mod Bench

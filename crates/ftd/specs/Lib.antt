@@ -20,4 +20,5 @@ pub mod Content
 pub mod Modes
 pub mod Places
 pub mod Signed
+pub mod CompositionRule
 pub mod Bench

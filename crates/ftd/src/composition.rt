@@ -2,6 +2,7 @@
 ghost use mathlib.Core.Path.{_≡_};
 ghost use Prim.Native.Nat.{_+_, _<_, _≤_};
 ghost use lib.ListN.{length, getD};
+ghost use Rattle.ftd.specs.CompositionRule.{CompositionRule};
 ghost use Rattle.ftd.specs.Composition.{directionOf, oneIf, countOf, inRange, appendixE, lineAt, lineHolds, allHold, composed};
 use crate::bytes::be32;
 use crate::bytes::number16;
@@ -529,3 +530,8 @@ pub fn is_composed(tid: u32, direction: Direction, content: &[u8]) -> bool
 {
     all_hold(tid, direction_number(direction), content)
 }
+
+// The rule of the table, as a promise: each line's field is in Appendix D, its TID in Appendix A, no field twice for a message.
+pub fn keeps_composition_rule()
+    ensures { λ _. ⌜ CompositionRule ⌝ }
+{}
