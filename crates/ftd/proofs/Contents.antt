@@ -4,11 +4,11 @@ use mathlib.Core.Path.{_≡_}
 use mathlib.Core.List.{List}
 use mathlib.Core.Bool.{Bool, true, false}
 use Rattle.ftd.specs.Chains.{shaped}
-use Rattle.ftd.specs.Items.{wrongWidth, walkOf}
+use Rattle.ftd.specs.Items.{checkOf}
 use Rattle.ftd.specs.Composition.{composed}
 use Rattle.ftd.specs.Content.{contentOf}
 use Rattle.ftd.specs.declared.refusal.Refusal.{Refusal}
-use Rattle.ftd.specs.declared.refusal.Refusal.the-variants.{FieldRun, FieldLength, Composition}
+use Rattle.ftd.specs.declared.refusal.Refusal.the-variants.{FieldRun, Composition}
 use Rattle.ftd.specs.declared.composition.Direction.{Direction}
 use Rattle.ftd.specs.declared.items.Verdict.{Verdict}
 use Rattle.ftd.specs.declared.items.Verdict.the-variants.{Passed, Refused}
@@ -18,21 +18,16 @@ module _ (tid : ℕ) (d : Direction) (content : List ℕ) (limit : ℕ) (b : Boo
   unfolding contentOf
   by-shape n = rw (← s, n)
 
-  module _ (whole : b ≡ true) (w : Bool) (x : w ≡ wrongWidth content) where
-    pub by-width : w ≡ true → Refused FieldLength ≡ contentOf tid d content limit
+  module _ (whole : b ≡ true) (v : Verdict) (i : v ≡ checkOf content) where
+    pub by-item : (r : Refusal) → v ≡ Refused r → Refused r ≡ contentOf tid d content limit
     unfolding contentOf
-    by-width n = rw (← s, whole, ← x, n)
+    by-item r n = rw (← s, whole, ← i, n)
 
-    module _ (wide : w ≡ false) (v : Verdict) (i : v ≡ walkOf content) where
-      pub by-item : (r : Refusal) → v ≡ Refused r → Refused r ≡ contentOf tid d content limit
+    module _ (good : v ≡ Passed) (m : Bool) (c : m ≡ composed tid d content) where
+      pub by-composition : m ≡ false → Refused Composition ≡ contentOf tid d content limit
       unfolding contentOf
-      by-item r n = rw (← s, whole, ← x, wide, ← i, n)
+      by-composition n = rw (← s, whole, ← i, good, ← c, n)
 
-      module _ (good : v ≡ Passed) (m : Bool) (c : m ≡ composed tid d content) where
-        pub by-composition : m ≡ false → Refused Composition ≡ contentOf tid d content limit
-        unfolding contentOf
-        by-composition n = rw (← s, whole, ← x, wide, ← i, good, ← c, n)
-
-        pub by-passing : m ≡ true → Passed ≡ contentOf tid d content limit
-        unfolding contentOf
-        by-passing n = rw (← s, whole, ← x, wide, ← i, good, ← c, n)
+      pub by-passing : m ≡ true → Passed ≡ contentOf tid d content limit
+      unfolding contentOf
+      by-passing n = rw (← s, whole, ← i, good, ← c, n)

@@ -3,9 +3,9 @@ use Prim.Native.Nat.{ℕ}
 use mathlib.Core.List.{List}
 use mathlib.Core.Bool.{cond}
 use Rattle.ftd.specs.Chains.{shaped}
-use Rattle.ftd.specs.Items.{wrongWidth, walkOf}
+use Rattle.ftd.specs.Items.{checkOf}
 use Rattle.ftd.specs.Composition.{composed}
-use Rattle.ftd.specs.declared.refusal.Refusal.the-variants.{FieldRun, FieldLength, Composition}
+use Rattle.ftd.specs.declared.refusal.Refusal.the-variants.{FieldRun, Composition}
 use Rattle.ftd.specs.declared.composition.Direction.{Direction}
 use Rattle.ftd.specs.declared.items.Verdict.{Verdict}
 use Rattle.ftd.specs.declared.items.Verdict.the-variants.{Passed, Refused}
@@ -19,7 +19,6 @@ before (Refused r) next = Refused r
 unfoldable pub contentOf : ℕ → Direction → List ℕ → ℕ → Verdict
 contentOf tid d content limit =
     cond (shaped content limit)
-    (cond (wrongWidth content) (Refused FieldLength)
-    (before (walkOf content)
-    (cond (composed tid d content) Passed (Refused Composition))))
+    (before (checkOf content)
+    (cond (composed tid d content) Passed (Refused Composition)))
     (Refused FieldRun)

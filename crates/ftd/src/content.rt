@@ -6,8 +6,7 @@ use crate::chain::is_shaped;
 use crate::composition::Direction;
 use crate::composition::is_composed;
 use crate::items::Verdict;
-use crate::items::walk_items;
-use crate::items::wrong_width;
+use crate::items::check_items;
 use crate::refusal::Refusal;
 
 // The first refusal of content that is given for a message, or none.
@@ -15,10 +14,7 @@ pub fn check_content(tid: u32, direction: Direction, content: &[u8], limit: usiz
     ensures { λ r. ⌜ r ≡ contentOf tid direction (now (content .entry)) limit ⌝ }
 {
     if is_shaped(content, limit) {
-        if wrong_width(content) {
-            return Verdict::Refused(Refusal::FieldLength);
-        }
-        match walk_items(content) {
+        match check_items(content) {
             Verdict::Refused(r) => {
                 return Verdict::Refused(r);
             }
