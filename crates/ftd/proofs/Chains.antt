@@ -14,7 +14,7 @@ use Rattle.ftd.specs.Tags.{tag, lengthRight, knownTags, countDate, goodT
 use Rattle.ftd.specs.Fields.{field, fieldsOf, exactRun}
 use Rattle.ftd.specs.Packets.{extensionLength, bodyLength, span, readOf}
 use Rattle.ftd.specs.Writing.{packetBytes, messageBytes, fine, messageVerdict}
-use Rattle.ftd.specs.Chains.{allSmall, shapely, shaped, Piece, none, with, pack, piecesOf, tagsFor, extensionBytes, chainAt, headerFor, packetFor, isNil, framed, packetsOf}
+use Rattle.ftd.specs.Chains.{Tag, tagBytes, allSmall, shapely, shaped, Piece, none, with, pack, piecesOf, tagsFor, extensionBytes, chainAt, headerFor, packetFor, isNil, framed, packetsOf}
 use Rattle.ftd.specs.ChainLaws.{packet, pieceOf, packetOf, letterAt, ChainLaws}
 use Rattle.ftd.specs.declared.tags.TradeDate.{TradeDate}
 use Rattle.ftd.specs.declared.tags.TradeDate.the-variants.{None, At}
@@ -26,7 +26,7 @@ use Rattle.ftd.specs.declared.chain.Message.{Message}
 use Rattle.ftd.proofs.Lists.{byte-append, be16-append}
 use Rattle.ftd.proofs.Numbers.{back32}
 use Rattle.ftd.proofs.Runs.{run-whole}
-use Rattle.ftd.proofs.Turns.{some-field}
+use Rattle.ftd.proofs.Turns.{some-tag, some-field}
 use Rattle.ftd.proofs.Heads.{front-whole}
 use Rattle.ftd.proofs.Joined.{Entry, Entries, run-of, Local, run-entries}
 use Rattle.ftd.proofs.Reading.{by-test}
@@ -241,11 +241,34 @@ cut-back : (m : Message) (content : List ℕ) → runOf packet (joined (packetsO
 unfolding packetsOf
 cut-back m content = run-of packet some-packet (framed m true (piecesOf content)) (framed-entries m true (piecesOf content))
 
+-- ─── Tags ───
+
+tag-follows : (t : Tag) (r : List ℕ) → tag .head + tag .follow (tagBytes t ++ r) ≡ 2 + length (t .value)
+unfolding tag
+tag-follows t r = refl
+
+two-more : (n : ℕ) → 2 + n ≡ suc (suc n)
+two-more n = omega arith
+
+tags-entries : (ts : List Tag) → Entries tag (map tagBytes ts)
+tags-entries [] = tt
+tags-entries (t ∷ ts) = (
+  record {
+    some = omega arith;
+    stands = λ r. front-whole tag (tagBytes t ++ r) (rw (tag-follows t r, length-append (tagBytes t) r) (omega arith)) ∙ tag-follows t r ∙ two-more (length (t .value));
+  },
+  tags-entries ts,
+)
+
+tags-back : (ts : List Tag) → runOf tag (extensionBytes ts) ≡ record { entries = map tagBytes ts; rest = [] }
+tags-back ts = run-of tag some-tag (map tagBytes ts) (tags-entries ts)
+
 -- ─── All of it ───
 
 pub chain-laws : ChainLaws
 chain-laws =
     record {
+      tags-back = tags-back;
       pieces-joined = pieces-joined;
       piece-whole = λ content limit i s h. good-at (piecesOf content) i (pieces-good content limit s) h;
       as-many = as-many;

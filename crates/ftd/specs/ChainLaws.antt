@@ -8,10 +8,10 @@ use lib.ListN.{length, getD}
 use lib.Dec.{eqb}
 use Rattle.ftd.specs.Bytes.{part, joined}
 use Rattle.ftd.specs.Runs.{Form, Run, runOf}
-use Rattle.ftd.specs.Tags.{tradeDateOf}
+use Rattle.ftd.specs.Tags.{tag, tradeDateOf}
 use Rattle.ftd.specs.Fields.{exactRun}
 use Rattle.ftd.specs.Packets.{extensionLength, bodyLength, span, readOf}
-use Rattle.ftd.specs.Chains.{shaped, Piece, none, piecesOf, tagsFor, extensionBytes, chainAt, headerFor, packetsOf}
+use Rattle.ftd.specs.Chains.{shaped, Tag, tagBytes, Piece, none, piecesOf, tagsFor, extensionBytes, chainAt, headerFor, packetsOf}
 use Rattle.ftd.specs.declared.chain.Message.{Message}
 use Rattle.ftd.specs.declared.packet.Chain.{Chain}
 use Rattle.ftd.specs.declared.packet.Packet.{Packet}
@@ -33,6 +33,8 @@ abbrev pub letterAt : Message → List ℕ → ℕ → Chain
 letterAt m content i = chainAt (eqb i 0) (eqb (i + 1) (length (packetsOf m content)))
 
 pub record ChainLaws : Type 0 where
+  -- An extension made of tags is a run of just these tags.
+  pub tags-back : (ts : List Tag) → runOf tag (extensionBytes ts) ≡ record { entries = map tagBytes ts; rest = [] }
   -- The pieces' bytes joined are the content.
   pub pieces-joined : (content : List ℕ) (limit : ℕ) → shaped content limit ≡ true → joined (map (λ (p : Piece). p .bytes) (piecesOf content)) ≡ content
   -- Each piece is so many whole fields, of at most 4,080 bytes together.
