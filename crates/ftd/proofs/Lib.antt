@@ -17,3 +17,4 @@ pub mod Walked
 pub mod Modes
 pub mod Placed
 pub mod Digits
+pub mod Stored

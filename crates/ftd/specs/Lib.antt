@@ -16,3 +16,4 @@ pub mod Items
 pub mod Modes
 pub mod Places
 pub mod Signed
+pub mod WriteValues

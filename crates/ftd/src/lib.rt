@@ -11,3 +11,4 @@ pub mod values; // which bytes are a value of an item's type
 pub mod mode; // the mode of a message type
 pub mod places; // an item of a field by place
 pub mod signed; //
+pub mod store; // values written
