@@ -18,3 +18,5 @@ pub mod Modes
 pub mod Placed
 pub mod Digits
 pub mod Stored
+pub mod ValueTrips
+pub mod Trimmed

@@ -17,3 +17,5 @@ pub mod Modes
 pub mod Places
 pub mod Signed
 pub mod WriteValues
+pub mod ValueLaws
+pub mod Texts

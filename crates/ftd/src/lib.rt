@@ -1,14 +1,15 @@
-// FTD packets (JR/T 0016-2004, 4.1 and 4.2): read from any bytes, with nothing trusted.
+// FTD packets (JR/T 0016-2004, 4.1 and 4.2) and typed items (Appendices A to D): read from any bytes, with nothing trusted.
 pub mod bytes; // numbers in bytes
 pub mod refusal; // the refusal table
 pub mod tags; // the run of tags in a packet's extension
 pub mod fields; // the run of data fields in a message's content
 pub mod packet; // what a packet is, and its fields
 pub mod write; // packets written
-pub mod items; // the items of a content's fields
+pub mod mode; // the mode of a message type
 pub mod table; // the table of Appendix D
 pub mod values; // which bytes are a value of an item's type
-pub mod mode; // the mode of a message type
+pub mod items; // the items of a content's fields, checked
 pub mod places; // an item of a field by place
-pub mod signed; //
-pub mod store; // values written
+pub mod signed; // values of Number and Float, read
+pub mod store; // values of Number and Float, written
+pub mod texts; // values of String, read and written

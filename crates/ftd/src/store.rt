@@ -6,6 +6,7 @@ ghost use Rattle.ftd.specs.Bytes.{put};
 ghost use Rattle.ftd.specs.Signed.{pow10};
 ghost use Rattle.ftd.specs.Writing.{answerOf, outputOf};
 ghost use Rattle.ftd.specs.WriteValues.{fitVerdict, digitsIn, numberBytes, numberFits, floatBytes, floatFits};
+ghost use Rattle.ftd.specs.ValueLaws.{ValueLaws};
 use crate::bytes::put8;
 use crate::bytes::size8;
 use crate::refusal::Refusal;
@@ -148,3 +149,8 @@ pub fn write_float(out: &mut [u8], scale: u8, width: usize, negative: bool, unit
     }
     Written::Refused(Refusal::Item)
 }
+
+// The round trips of values, as a promise.
+pub fn keeps_value_laws()
+    ensures { λ _. ⌜ ValueLaws ⌝ }
+{}
