@@ -26,4 +26,7 @@ pub mod Modes
 pub mod Placed
 pub mod Digits
 pub mod CompositionRule
+pub mod Stored
+pub mod ValueTrips
+pub mod Trimmed
 pub mod Bench

@@ -21,4 +21,7 @@ pub mod Modes
 pub mod Places
 pub mod Signed
 pub mod CompositionRule
+pub mod WriteValues
+pub mod ValueLaws
+pub mod Texts
 pub mod Bench

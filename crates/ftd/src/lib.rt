@@ -1,4 +1,4 @@
-// FTD packets (JR/T 0016-2004, 4.1 and 4.2): read from any bytes, with nothing trusted.
+// FTD packets (JR/T 0016-2004, 4.1 and 4.2) and typed items (Appendices A to D): read from any bytes, with nothing trusted.
 pub mod bytes; // numbers in bytes
 pub mod refusal; // the refusal table
 pub mod tags; // the run of tags in a packet's extension
@@ -15,3 +15,5 @@ pub mod content; // the content check as one
 pub mod mode; // the mode of a message type
 pub mod places; // an item of a field by place
 pub mod signed; // Numbers and Floats: signed values
+pub mod store; // values of Number and Float, written
+pub mod texts; // values of String, read and written

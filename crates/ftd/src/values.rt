@@ -122,7 +122,7 @@ fn in_class(class: Class, b: u8) -> bool
 }
 
 // All bytes of a part are of a class.
-fn all_in(class: Class, s: &[u8], from: usize, to: usize) -> bool
+pub(crate) fn all_in(class: Class, s: &[u8], from: usize, to: usize) -> bool
     requires { ⌜ (from ≤ to) × (to ≤ length (now s)) ⌝ }
     ensures { λ r. ⌜ r ≡ every (inClass class) (drop from (take to (now (s .entry)))) ⌝ }
 {

@@ -1,68 +1,51 @@
-use Rattle.ftd.proofs.Placed.{item-none, item-behind, item-short, item-part}
+-- `places::item` meets its contract. Assumes nothing.
 use borrow.Author.Needs.{needs}
+use Rattle.ftd.proofs.Placed.{item-none, item-behind, item-short, item-part}
 use Rattle.ftd.proofs.places.item.Statement.{statement}
 use Rattle.ftd.proofs.places.item.Tie as tie
-use Rattle.ftd.proofs.places.item.Reads as reads
-use Rattle.ftd.proofs.places.item.Lts as lts
-use Rattle.ftd.proofs.places.item_place.Reads as item-place-reads
 
--- src/places.rt:57:11
 item-place-requires : tie.Need-item-place-requires
 item-place-requires c κs = search needs
 
--- src/places.rt:58:30
 enum-told : tie.Need-enum-told
 enum-told c = search needs
 
--- src/places.rt:58:30
 slice-aggregate-result : tie.Need-slice-aggregate-result
 slice-aggregate-result c = search needs
 
--- src/places.rt:62:13
 enum-known-start : tie.Need-enum-known-start
 enum-known-start c = search needs
 
--- src/places.rt:66:17
 slice-aggregate-result-2 : tie.Need-slice-aggregate-result-2
 slice-aggregate-result-2 c = search needs
 
--- src/places.rt:66:17
 returns : tie.Need-returns
 returns c = search (needs, item-behind)
 
--- src/places.rt:68:16
 sub-if2 : tie.Need-sub-if2
 sub-if2 c = search needs
 
--- src/places.rt:69:17
 slice-aggregate-result-3 : tie.Need-slice-aggregate-result-3
 slice-aggregate-result-3 c = search needs
 
--- src/places.rt:69:17
 returns-2 : tie.Need-returns-2
 returns-2 c = search (needs, item-short)
 
--- src/places.rt:71:27
 add-result : tie.Need-add-result
 add-result c = search needs
 
--- src/places.rt:71:13
 sub-result : tie.Need-sub-result
 sub-result c = search needs
 
--- src/places.rt:71:13
 part-result-start : tie.Need-part-result-start
 part-result-start c = search needs
 
--- src/places.rt:71:13
 part-result-end : tie.Need-part-result-end
 part-result-end c = search needs
 
--- src/places.rt:54:1
 returns-3 : tie.Need-returns-3
 returns-3 c = search (needs, item-none)
 
--- src/places.rt:54:1
 returns-4 : tie.Need-returns-4
 returns-4 c = search (needs, item-part)
 

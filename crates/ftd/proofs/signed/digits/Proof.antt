@@ -1,17 +1,14 @@
-use Prim.Native.Nat.{_<_}
-use borrow.Author.Needs.{needs}
-use Rattle.ftd.proofs.Digits.{bound-turn, bound-digit, bound-end, digits-turn, digits-end}
-use Rattle.ftd.specs.Signed.{pow10, digitsOf}
-use lib.ListN.{take, drop}
+-- `signed::digits` meets its contract. Assumes nothing.
+use Prim.Native.Nat.{_<_, _+_, _-_, _*_, _≤_}
+use mathlib.Core.Path.{_≡_, refl}
 use native.Mathlib.Omega.{arith}
 use native.Mathlib.Nat.{le-refl}
-use mathlib.Core.Path.{_≡_, refl}
-use Prim.Native.Nat.{_+_, _-_, _*_, _≤_}
+use borrow.Author.Needs.{needs}
+use lib.ListN.{take, drop}
+use Rattle.ftd.specs.Signed.{pow10, digitsOf}
+use Rattle.ftd.proofs.Digits.{bound-turn, bound-digit, bound-end, digits-turn, digits-end}
 use Rattle.ftd.proofs.signed.digits.Statement.{statement}
 use Rattle.ftd.proofs.signed.digits.Tie as tie
-use Rattle.ftd.proofs.signed.digits.Reads as reads
-use Rattle.ftd.proofs.signed.digits.Lts as lts
-use Rattle.ftd.proofs.signed.digit64.Reads as digit64-reads
 
 abbrev Inv-loop : tie.InvT-loop
 Inv-loop start s from to n₀ i₀ n i = (from ≤ i) × ((n + 1) * pow10 (to - i) ≤ (start + 1) * pow10 (to - from)) × (digitsOf n (drop i (take to s)) ≡ digitsOf start (drop from (take to s)))
@@ -19,43 +16,34 @@ Inv-loop start s from to n₀ i₀ n i = (from ≤ i) × ((n + 1) * pow10 (to - 
 abbrev μ-loop : tie.MeasureT-loop
 μ-loop start s from to n₀ i₀ n i = to - i
 
--- src/signed.rt:33:5
 loop-holds : tie.Need-loop-holds Inv-loop μ-loop
 loop-holds c = (search needs, le-refl _, refl)
 
--- src/signed.rt:34:13
 mul-n : tie.Need-mul-n Inv-loop μ-loop
 mul-n c =
     let h : c .before .loop .n * 10 + 0 < 1000000000000000000 = search (needs, bound-digit) in
     omega arith
 
--- src/signed.rt:34:30
 shared-slice-read-digit64 : tie.Need-shared-slice-read-digit64 Inv-loop μ-loop
 shared-slice-read-digit64 c = search needs
 
--- src/signed.rt:34:22
 digit64-requires : tie.Need-digit64-requires Inv-loop μ-loop
 digit64-requires c κs = search needs
 
--- src/signed.rt:34:13
 add-n : tie.Need-add-n Inv-loop μ-loop
 add-n c =
     let h : c .before .before .before .loop .n * 10 + c .digit64 .result < 1000000000000000000 = search (needs, bound-digit) in
     omega arith
 
--- src/signed.rt:35:9
 add-i : tie.Need-add-i Inv-loop μ-loop
 add-i c = search needs
 
--- src/signed.rt:33:5
 loop-less : tie.Need-loop-less Inv-loop μ-loop
 loop-less c = search needs
 
--- src/signed.rt:33:5
 loop-again : tie.Need-loop-again Inv-loop μ-loop
 loop-again c = (search needs, search (needs, bound-turn), search (needs, digits-turn))
 
--- src/signed.rt:27:1
 returns : tie.Need-returns Inv-loop μ-loop
 returns c = (search (needs, digits-end), search (needs, bound-end))
 

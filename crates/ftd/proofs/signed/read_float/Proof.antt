@@ -1,55 +1,42 @@
-use Rattle.ftd.proofs.Digits.{float-long, float-none, float-read, float-some}
-use lib.ListN.{length}
-use native.Mathlib.Omega.{arith}
+-- `signed::read_float` meets its contract. Assumes nothing.
 use Prim.Native.Nat.{_+_, _≤_}
+use native.Mathlib.Omega.{arith}
 use borrow.Author.Needs.{needs}
+use lib.ListN.{length}
+use Rattle.ftd.proofs.Digits.{float-long, float-none, float-read, float-some}
 use Rattle.ftd.proofs.signed.read_float.Statement.{statement}
 use Rattle.ftd.proofs.signed.read_float.Tie as tie
-use Rattle.ftd.proofs.signed.read_float.Reads as reads
-use Rattle.ftd.proofs.signed.read_float.Lts as lts
-use Rattle.ftd.proofs.bytes.size8.Reads as size8-reads
-use Rattle.ftd.proofs.signed.value_of.Reads as value-of-reads
-use Rattle.ftd.proofs.values.is_float.Reads as is-float-reads
 
--- src/signed.rt:83:9
 returns : tie.Need-returns
 returns c = search (needs, float-long)
 
--- src/signed.rt:85:8
 is-float-requires : tie.Need-is-float-requires
 is-float-requires c κs = search needs
 
--- src/signed.rt:86:32
 size8-requires : tie.Need-size8-requires
 size8-requires c κs = search needs
 
--- src/signed.rt:86:32
 add-point : tie.Need-add-point
 add-point c = search needs
 
--- src/signed.rt:86:21
 sub-point : tie.Need-sub-point
 sub-point c =
     let a = c .before .before .before .before .before .args in
     let h : a .scale + 2 ≤ length (a .s .now) = search (needs, float-some) in
     omega (arith, c .size8 .ensures .0)
 
--- src/signed.rt:87:35
 add-value-of : tie.Need-add-value-of
 add-value-of c = search needs
 
--- src/signed.rt:87:9
 value-of-requires : tie.Need-value-of-requires
 value-of-requires c κs =
     let a = c .before .before .before .before .before .args in
     let h : a .scale + 2 ≤ length (a .s .now) = search (needs, float-some) in
     (omega (arith, c .size8 .ensures .0), search needs, omega (arith, c .size8 .ensures .0), search needs)
 
--- src/signed.rt:87:9
 returns-2 : tie.Need-returns-2
 returns-2 c = search (needs, float-read)
 
--- src/signed.rt:79:1
 returns-3 : tie.Need-returns-3
 returns-3 c = search (needs, float-none)
 

@@ -1,20 +1,15 @@
+-- `signed::units` meets its contract. Assumes nothing.
 use borrow.Author.Needs.{needs}
 use Rattle.ftd.proofs.Digits.{first-bound, second-bound, parts-units}
 use Rattle.ftd.proofs.signed.units.Statement.{statement}
 use Rattle.ftd.proofs.signed.units.Tie as tie
-use Rattle.ftd.proofs.signed.units.Reads as reads
-use Rattle.ftd.proofs.signed.units.Lts as lts
-use Rattle.ftd.proofs.signed.digits.Reads as digits-reads
 
--- src/signed.rt:45:12
 digits-requires : tie.Need-digits-requires
 digits-requires c κs = (search needs, search needs, search (needs, first-bound))
 
--- src/signed.rt:45:5
 digits-requires-2 : tie.Need-digits-requires-2
 digits-requires-2 c κs = (search needs, search needs, search (needs, second-bound))
 
--- src/signed.rt:41:1
 returns : tie.Need-returns
 returns c = search (needs, parts-units)
 

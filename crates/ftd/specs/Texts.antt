@@ -1,0 +1,21 @@
+-- The value of a String (01, "Typed items"): its bytes without trailing spaces; and the bytes of a value, padded with spaces.
+use Prim.Native.Nat.{ℕ, _-_}
+use mathlib.Core.List.{List, [], _∷_, _++_}
+use mathlib.Core.Bool.{Bool, cond, _&&_}
+use lib.ListN.{length, replicate}
+use lib.Dec.{leb, eqb}
+use Rattle.ftd.specs.Values.{every, isText, isSpace}
+
+abbrev pub trimmed : List ℕ → List ℕ
+trimmed [] = []
+trimmed (x ∷ xs) = cond (every isSpace (x ∷ xs)) [] (x ∷ trimmed xs)
+
+unfoldable pub textValue : List ℕ → List ℕ
+textValue l = trimmed l
+
+unfoldable pub textBytes : ℕ → List ℕ → List ℕ
+textBytes width value = value ++ replicate (width - length value) 32
+
+-- A value is bytes of a String, does not end with a space, and is no longer than the item.
+unfoldable pub textFits : ℕ → List ℕ → Bool
+textFits width value = leb (length value) width && (every isText value && eqb (length (trimmed value)) (length value))

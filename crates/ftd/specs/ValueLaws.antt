@@ -1,0 +1,25 @@
+-- What holds of values (01, "Typed items"): a value written is read back, and bytes that are read are those that its value writes.
+use Prim.Native.Nat.{ℕ}
+use mathlib.Core.Path.{_≡_}
+use mathlib.Core.List.{List}
+use mathlib.Core.Bool.{Bool, true}
+use lib.ListN.{length}
+use Rattle.ftd.specs.Values.{every, isText}
+use Rattle.ftd.specs.Texts.{textValue, textBytes, textFits}
+use Rattle.ftd.specs.Signed.{numberValue, floatValue}
+use Rattle.ftd.specs.WriteValues.{numberBytes, numberFits, floatBytes, floatFits}
+use Rattle.ftd.specs.declared.signed.Signed.the-variants.{Value}
+
+pub record ValueLaws : Type 0 where
+  pub numberBack : (width : ℕ) (negative : Bool) (units : ℕ) → numberFits width negative units ≡ true
+      → numberValue (numberBytes width negative units) ≡ Value negative units
+  pub numberAgain : (l : List ℕ) (negative : Bool) (units : ℕ) → numberValue l ≡ Value negative units
+      → (numberFits (length l) negative units ≡ true) × (numberBytes (length l) negative units ≡ l)
+  pub floatBack : (scale width : ℕ) (negative : Bool) (units : ℕ) → floatFits scale width negative units ≡ true
+      → floatValue scale (floatBytes scale width negative units) ≡ Value negative units
+  pub floatAgain : (scale : ℕ) (l : List ℕ) (negative : Bool) (units : ℕ) → floatValue scale l ≡ Value negative units
+      → (floatFits scale (length l) negative units ≡ true) × (floatBytes scale (length l) negative units ≡ l)
+  pub textBack : (width : ℕ) (value : List ℕ) → textFits width value ≡ true
+      → (every isText (textBytes width value) ≡ true) × (textValue (textBytes width value) ≡ value)
+  pub textAgain : (l : List ℕ) → every isText l ≡ true
+      → (textFits (length l) (textValue l) ≡ true) × (textBytes (length l) (textValue l) ≡ l)
