@@ -20,3 +20,4 @@ pub mod Digits
 pub mod Stored
 pub mod ValueTrips
 pub mod Trimmed
+pub mod Wholly

@@ -18,6 +18,7 @@ use Rattle.ftd.specs.declared.signed.Signed.{Signed}
 use Rattle.ftd.specs.declared.signed.Signed.the-variants.{NoValue, Value}
 use Rattle.ftd.proofs.Checked.{every-append}
 use Rattle.ftd.proofs.Digits.{pow10-some, digits-append}
+use Rattle.ftd.proofs.Wholly.{char-back, char-again, word-back, word-again, int-back, int-again}
 use Rattle.ftd.proofs.Trimmed.{text-back, text-again}
 use Rattle.ftd.proofs.Stored.{digits-length, fits-some, number-length, float-fits, float-length}
 
@@ -342,6 +343,12 @@ float-again scale l negative units e =
 pub value-laws : ValueLaws
 value-laws =
     record {
+      charBack = char-back;
+      charAgain = char-again;
+      wordBack = word-back;
+      wordAgain = word-again;
+      intBack = int-back;
+      intAgain = int-again;
       numberBack = number-back;
       numberAgain = number-again;
       floatBack = float-back;

@@ -19,3 +19,4 @@ pub mod Signed
 pub mod WriteValues
 pub mod ValueLaws
 pub mod Texts
+pub mod Wholes

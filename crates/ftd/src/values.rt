@@ -243,7 +243,7 @@ fn right_day(month: u8, day: u8) -> bool
 }
 
 // A byte is listed by an enumeration, or 0.
-fn is_listed(kind: u8, b: u8) -> bool
+pub(crate) fn is_listed(kind: u8, b: u8) -> bool
     requires { ⌜ (7 ≤ kind) × (kind ≤ 16) ⌝ }
     ensures { λ r. ⌜ r ≡ isListed kind b ⌝ }
 {
