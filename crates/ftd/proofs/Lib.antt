@@ -21,3 +21,6 @@ pub mod Stored
 pub mod ValueTrips
 pub mod Trimmed
 pub mod Wholly
+pub mod Dated
+pub mod DateTrips
+pub mod ValueLaws

@@ -20,3 +20,4 @@ pub mod WriteValues
 pub mod ValueLaws
 pub mod Texts
 pub mod Wholes
+pub mod Dates

@@ -5,11 +5,13 @@ use mathlib.Core.List.{List, [], _∷_}
 use mathlib.Core.Bool.{Bool, true}
 use lib.ListN.{length}
 use Rattle.ftd.specs.Bytes.{Bytes, bytes16, bytes32}
-use Rattle.ftd.specs.Values.{every, isText}
+use Rattle.ftd.specs.Values.{every, isText, isDate}
 use Rattle.ftd.specs.Texts.{textValue, textBytes, textFits}
 use Rattle.ftd.specs.Signed.{numberValue, floatValue}
 use Rattle.ftd.specs.Wholes.{charFits, charValue, wordValue, intValue}
 use Rattle.ftd.specs.WriteValues.{numberBytes, numberFits, floatBytes, floatFits}
+use Rattle.ftd.specs.Dates.{dateValue, dateBytes, dateFits}
+use Rattle.ftd.specs.declared.dates.Date.{Date}
 use Rattle.ftd.specs.declared.whole.Whole.the-variants.{Value as WholeValue}
 use Rattle.ftd.specs.declared.signed.Signed.the-variants.{Value}
 
@@ -32,3 +34,5 @@ pub record ValueLaws : Type 0 where
       → (every isText (textBytes width value) ≡ true) × (textValue (textBytes width value) ≡ value)
   pub textAgain : (l : List ℕ) → every isText l ≡ true
       → (textFits (length l) (textValue l) ≡ true) × (textBytes (length l) (textValue l) ≡ l)
+  pub dateBack : (v : Date) → dateFits v ≡ true → dateValue (dateBytes v) ≡ v
+  pub dateAgain : (l : List ℕ) → isDate l ≡ true → (dateFits (dateValue l) ≡ true) × (dateBytes (dateValue l) ≡ l)

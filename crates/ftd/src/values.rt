@@ -227,7 +227,7 @@ pub fn is_date(s: &[u8]) -> bool
 }
 
 // Month 01 to 12, day 01 to 31.
-fn right_day(month: u8, day: u8) -> bool
+pub(crate) fn right_day(month: u8, day: u8) -> bool
     ensures { λ r. ⌜ r ≡ rightDay month day ⌝ }
 {
     if month < 1 {
