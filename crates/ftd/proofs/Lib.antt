@@ -24,3 +24,4 @@ pub mod Wholly
 pub mod Dated
 pub mod DateTrips
 pub mod ValueLaws
+pub mod Signs

@@ -21,3 +21,4 @@ pub mod ValueLaws
 pub mod Texts
 pub mod Wholes
 pub mod Dates
+pub mod Plains
