@@ -3,8 +3,8 @@
 
     appendices.py STANDARD.txt                 checks and counts
     appendices.py STANDARD.txt --json FILE     the tables as JSON as well ('-' is standard output)
-    appendices.py STANDARD.txt --rattle        constant columns and antt lines for a Rattle program
-    appendices.py STANDARD.txt --markdown      counts, corrections, types and fields
+    appendices.py STANDARD.txt --rattle        all tables as columns and lines, which recount.py reads back
+    appendices.py STANDARD.txt --markdown      counts, corrections, types and fields for a reader
 
 Read are, by their own table rows: Table 6 (basic types), Table 7 (who sends which message, under which TID
 name, in which mode), and the tables A.1, B.1, C.1, D.1 and E.1. The text is cut at the heading of Appendix F
@@ -37,7 +37,7 @@ CORRECTIONS = [
      "前卖持仓量(投)"),
 ]
 
-# Readings, not corrections (docs/DECISIONS.md, "Typed items"):
+# Readings, not corrections (document 01, "Typed items"):
 DATE_TYPES = {"FTDDate"}      # the one type read as Date; its format column must be YYYYMMDD and no other type's may
 UNLIMITED = "任意"
 MOST_UNLIMITED = 65535        # how --rattle writes "unlimited"

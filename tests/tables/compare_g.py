@@ -2,7 +2,7 @@
 """Compares Appendices A to E (read by appendices.py) with the XML of Appendix G in the same text.
 
     compare_g.py STANDARD.txt              all differences, as text
-    compare_g.py STANDARD.txt --markdown   the same as tables
+    compare_g.py STANDARD.txt --markdown   the same as tables for a reader
 
 G's XML is damaged in the text (code fences at page ends, '<' unescaped, 'FTDStringType<100;', a closing quote
 missing in six places, 'TID\\_..'), so it is read by a small reader of its own and not by an XML parser. What is damaged

@@ -29,4 +29,9 @@ pub mod CompositionRule
 pub mod Stored
 pub mod ValueTrips
 pub mod Trimmed
+pub mod Wholly
+pub mod Dated
+pub mod DateTrips
+pub mod ValueLaws
+pub mod Signs
 pub mod Bench

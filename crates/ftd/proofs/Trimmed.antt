@@ -24,7 +24,7 @@ all-spaces : (n : ℕ) → every isSpace (replicate n 32) ≡ true
 all-spaces zero = refl
 all-spaces (suc n) = all-spaces n
 
-spaces-are : (l : List ℕ) → every isSpace l ≡ true → replicate (length l) 32 ≡ l
+pub spaces-are : (l : List ℕ) → every isSpace l ≡ true → replicate (length l) 32 ≡ l
 spaces-are [] h = refl
 spaces-are (x ∷ xs) h = go (eqb x 32) refl (λ k. spaces-are xs k) h
   where

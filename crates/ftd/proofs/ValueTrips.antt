@@ -1,4 +1,4 @@
--- The round trips of values. Assumes nothing.
+-- The round trips of Number and Float. Assumes nothing.
 use Prim.Native.Nat.{ℕ, zero, suc, _+_, _-_, _*_, _/_, _%_, _<_, _≤_}
 use mathlib.Core.Path.{_≡_, refl, sym, ap, _∙_}
 use mathlib.Core.List.{List, [], _∷_, _++_, append-assoc, append-nil}
@@ -13,21 +13,19 @@ use lib.Dec.{leb, ltb, eqb}
 use Rattle.ftd.specs.Values.{every, isDigit, isZero, digitOf, isNumber, pointAt, withoutPoint, isFloat}
 use Rattle.ftd.specs.Signed.{pow10, digitsOf, signedOf, numberValue, floatValue}
 use Rattle.ftd.specs.WriteValues.{digitsIn, numberBytes, numberFits, floatBytes, floatFits}
-use Rattle.ftd.specs.ValueLaws.{ValueLaws}
 use Rattle.ftd.specs.declared.signed.Signed.{Signed}
 use Rattle.ftd.specs.declared.signed.Signed.the-variants.{NoValue, Value}
 use Rattle.ftd.proofs.Checked.{every-append}
 use Rattle.ftd.proofs.Digits.{pow10-some, digits-append}
-use Rattle.ftd.proofs.Trimmed.{text-back, text-again}
 use Rattle.ftd.proofs.Stored.{digits-length, fits-some, number-length, float-fits, float-length}
 
 -- ─── Digits written and read ───
 
 -- A digit written is a digit, and stands for what was written.
-digit-right : (x : ℕ) → isDigit (48 + x % 10) ≡ true
+pub digit-right : (x : ℕ) → isDigit (48 + x % 10) ≡ true
 digit-right x = rw (le-leb 48 (48 + x % 10) (omega arith), le-leb (48 + x % 10) 57 (omega arith))
 
-digit-back : (x : ℕ) → digitOf (48 + x % 10) ≡ x % 10
+pub digit-back : (x : ℕ) → digitOf (48 + x % 10) ≡ x % 10
 digit-back x = rw (digit-right x) (omega arith)
 
 digits-right : (n x : ℕ) → every isDigit (digitsIn n x) ≡ true
@@ -49,7 +47,7 @@ zeros (d ∷ ds) h = go (eqb d 48) refl (λ k. zeros ds k) h
     go true e ih k = rw (eqb-true d 48 e) (ih k)
     go false e ih k = absurd (false≢true k)
 
-digit-most : (b : ℕ) → digitOf b ≤ 9
+pub digit-most : (b : ℕ) → digitOf b ≤ 9
 digit-most b = go (leb 48 b) (leb b 57) refl
   where
     go : (p q : Bool) → leb b 57 ≡ q → cond (p && q) (b - 48) 0 ≤ 9
@@ -74,7 +72,7 @@ digits-first (suc n) x =
     let e : x / 10 / pow10 n ≡ x / (10 * pow10 n) = div-div-eq-div-mul x 10 (pow10 n) in
     rw (digits-first n (x / 10), e)
 
-digit-bounds : (d : ℕ) → isDigit d ≡ true → (48 ≤ d) × (d ≤ 57)
+pub digit-bounds : (d : ℕ) → isDigit d ≡ true → (48 ≤ d) × (d ≤ 57)
 digit-bounds d e = go (leb 48 d) refl (leb d 57) refl e
   where
     go : (a : Bool) → leb 48 d ≡ a → (b : Bool) → leb d 57 ≡ b → (a && b) ≡ true → (48 ≤ d) × (d ≤ 57)
@@ -148,7 +146,7 @@ module _ (width units : ℕ) where
       let b = fits-some width false units e in
       ltb-true units (pow10 width) (rw (le-leb width 18 (b .1), le-leb 1 width (b .0)) at e)
 
-number-back : (width : ℕ) (negative : Bool) (units : ℕ) → numberFits width negative units ≡ true
+pub number-back : (width : ℕ) (negative : Bool) (units : ℕ) → numberFits width negative units ≡ true
     → numberValue (numberBytes width negative units) ≡ Value negative units
 unfolding numberBytes numberValue signedOf isNumber
 number-back width true units e =
@@ -225,7 +223,7 @@ number-same (x ∷ xs) negative units s g v = go (eqb x 45) refl g v
     go true e g v = split (every isDigit xs) (every isZero xs) refl refl g (eqb-true x 45 e) v
     go false e g v = plain (rw (lt-ltb 0 (suc (length xs)) (omega arith)) at g) v
 
-number-again : (l : List ℕ) (negative : Bool) (units : ℕ) → numberValue l ≡ Value negative units
+pub number-again : (l : List ℕ) (negative : Bool) (units : ℕ) → numberValue l ≡ Value negative units
     → (numberFits (length l) negative units ≡ true) × (numberBytes (length l) negative units ≡ l)
 number-again l negative units e =
     let p = number-parts l negative units e in
@@ -279,7 +277,7 @@ module _ (scale width : ℕ) (negative : Bool) (units : ℕ) (low : scale + 2 �
       rw (append-assoc before (46 ∷ []) (digitsIn scale units)) at (drop-at (before ++ (46 ∷ [])) (digitsIn scale units) (point + 1) n) in
       rw (take-at before (46 ∷ digitsIn scale units) point before-length, d) joined-bytes
 
-float-back : (scale width : ℕ) (negative : Bool) (units : ℕ) → floatFits scale width negative units ≡ true
+pub float-back : (scale width : ℕ) (negative : Bool) (units : ℕ) → floatFits scale width negative units ≡ true
     → floatValue scale (floatBytes scale width negative units) ≡ Value negative units
 unfolding floatValue isFloat withoutPoint point
 float-back scale width negative units e =
@@ -317,7 +315,7 @@ same-back : (a b c d : List ℕ) → length a ≡ length c → a ++ b ≡ c ++ d
 same-back a b c d n e =
     sym (drop-at a b (length c) n) ∙ ap (drop (length c)) e ∙ drop-at c d (length c) refl
 
-float-again : (scale : ℕ) (l : List ℕ) (negative : Bool) (units : ℕ) → floatValue scale l ≡ Value negative units
+pub float-again : (scale : ℕ) (l : List ℕ) (negative : Bool) (units : ℕ) → floatValue scale l ≡ Value negative units
     → (floatFits scale (length l) negative units ≡ true) × (floatBytes scale (length l) negative units ≡ l)
 unfolding floatValue floatFits floatBytes withoutPoint
 float-again scale l negative units e =
@@ -338,14 +336,3 @@ float-again scale l negative units e =
     let y : digitsIn scale units ≡ drop (p + 1) l = same-back (numberBytes p negative (units / pow10 scale)) _ (take p l) _ m j in
     let z : drop p l ≡ 46 ∷ drop (p + 1) l = rw (add-one p) (rw (f .1) at (drop-cons l p 0 (omega arith))) in
     (rw (le-leb (scale + 2) (length l) low, le-leb (length l) 18 (v .0)) h, rw (x, y, ← z) (take-append-drop p l))
-
-pub value-laws : ValueLaws
-value-laws =
-    record {
-      numberBack = number-back;
-      numberAgain = number-again;
-      floatBack = float-back;
-      floatAgain = float-again;
-      textBack = text-back;
-      textAgain = text-again;
-    }

@@ -24,4 +24,7 @@ pub mod CompositionRule
 pub mod WriteValues
 pub mod ValueLaws
 pub mod Texts
+pub mod Wholes
+pub mod Dates
+pub mod Plains
 pub mod Bench

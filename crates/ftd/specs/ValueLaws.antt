@@ -1,16 +1,27 @@
 -- What holds of values (01, "Typed items"): a value written is read back, and bytes that are read are those that its value writes.
-use Prim.Native.Nat.{ℕ}
+use Prim.Native.Nat.{ℕ, _<_}
 use mathlib.Core.Path.{_≡_}
-use mathlib.Core.List.{List}
+use mathlib.Core.List.{List, [], _∷_}
 use mathlib.Core.Bool.{Bool, true}
 use lib.ListN.{length}
-use Rattle.ftd.specs.Values.{every, isText}
+use Rattle.ftd.specs.Bytes.{Bytes, bytes16, bytes32}
+use Rattle.ftd.specs.Values.{every, isText, isDate}
 use Rattle.ftd.specs.Texts.{textValue, textBytes, textFits}
 use Rattle.ftd.specs.Signed.{numberValue, floatValue}
+use Rattle.ftd.specs.Wholes.{charFits, charValue, wordValue, intValue}
 use Rattle.ftd.specs.WriteValues.{numberBytes, numberFits, floatBytes, floatFits}
+use Rattle.ftd.specs.Dates.{dateValue, dateBytes, dateFits}
+use Rattle.ftd.specs.declared.dates.Date.{Date}
+use Rattle.ftd.specs.declared.whole.Whole.the-variants.{Value as WholeValue}
 use Rattle.ftd.specs.declared.signed.Signed.the-variants.{Value}
 
 pub record ValueLaws : Type 0 where
+  pub charBack : (kind b : ℕ) → charFits kind b ≡ true → charValue kind (b ∷ []) ≡ WholeValue b
+  pub charAgain : (kind : ℕ) (l : List ℕ) (b : ℕ) → charValue kind l ≡ WholeValue b → (charFits kind b ≡ true) × (b ∷ [] ≡ l)
+  pub wordBack : (x : ℕ) → wordValue (bytes16 x) ≡ WholeValue x
+  pub wordAgain : (l : List ℕ) → Bytes l → (x : ℕ) → wordValue l ≡ WholeValue x → (x < 65536) × (bytes16 x ≡ l)
+  pub intBack : (x : ℕ) → intValue (bytes32 x) ≡ WholeValue x
+  pub intAgain : (l : List ℕ) → Bytes l → (x : ℕ) → intValue l ≡ WholeValue x → (x < 4294967296) × (bytes32 x ≡ l)
   pub numberBack : (width : ℕ) (negative : Bool) (units : ℕ) → numberFits width negative units ≡ true
       → numberValue (numberBytes width negative units) ≡ Value negative units
   pub numberAgain : (l : List ℕ) (negative : Bool) (units : ℕ) → numberValue l ≡ Value negative units
@@ -23,3 +34,5 @@ pub record ValueLaws : Type 0 where
       → (every isText (textBytes width value) ≡ true) × (textValue (textBytes width value) ≡ value)
   pub textAgain : (l : List ℕ) → every isText l ≡ true
       → (textFits (length l) (textValue l) ≡ true) × (textBytes (length l) (textValue l) ≡ l)
+  pub dateBack : (v : Date) → dateFits v ≡ true → dateValue (dateBytes v) ≡ v
+  pub dateAgain : (l : List ℕ) → isDate l ≡ true → (dateFits (dateValue l) ≡ true) × (dateBytes (dateValue l) ≡ l)

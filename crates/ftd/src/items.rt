@@ -82,7 +82,7 @@ pub fn walk_items(content: &[u8]) -> Verdict
         let end = at + n;
         let fid = be32(content, at);
         if LAST_FID < fid {
-            at = end;
+            at = end; // an unknown field passes
             continue 'walk;
         }
         let mut pos = at + 6;

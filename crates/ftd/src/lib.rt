@@ -17,3 +17,6 @@ pub mod places; // an item of a field by place
 pub mod signed; // Numbers and Floats: signed values
 pub mod store; // values of Number and Float, written
 pub mod texts; // values of String, read and written
+pub mod whole; // values of Char, Word and Int, read and written
+pub mod dates; // values of Date, read and written
+pub mod plain; // values of Number and Float as plain signed numbers

@@ -51,7 +51,7 @@ fn last_digit(x: u64) -> u8
 }
 
 // The last digits of a number, as many as `width`.
-fn put_digits(out: &mut [u8], at: usize, width: usize, units: u64)
+pub(crate) fn put_digits(out: &mut [u8], at: usize, width: usize, units: u64)
     requires { ⌜ at + width ≤ length (now out) ⌝ }
     ensures { λ _. ⌜ now (out .exit) ≡ put (now (out .entry)) at (digitsIn width units) ⌝ }
 {

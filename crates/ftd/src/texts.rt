@@ -49,7 +49,7 @@ fn text_fits(width: usize, value: &[u8]) -> bool
 }
 
 // Spaces from a place on, up to another.
-fn put_spaces(out: &mut [u8], from: usize, to: usize)
+pub(crate) fn put_spaces(out: &mut [u8], from: usize, to: usize)
     requires { ⌜ (from ≤ to) × (to ≤ length (now out)) ⌝ }
     ensures { λ _. ⌜ now (out .exit) ≡ put (now (out .entry)) from (replicate (to - from) 32) ⌝ }
 {

@@ -9,14 +9,7 @@ use crate::bytes::size8;
 
 // The values of the enumerations of kinds 7 to 16, with 0: eight entries for each, 1 where the value is listed.
 const LISTED: [u8; 80] = [
-    1,
-    1,
-    1,
-    0,
-    0,
-    0,
-    0,
-    0, // 7
+    1, // 7: 0 1 2
     1,
     1,
     0,
@@ -24,7 +17,7 @@ const LISTED: [u8; 80] = [
     0,
     0,
     0,
-    0, // 8
+    1, // 8: 0 1
     1,
     0,
     0,
@@ -32,39 +25,23 @@ const LISTED: [u8; 80] = [
     0,
     0,
     0,
-    0, // 9
-    1,
+    1, // 9: 0
+    0,
+    0,
+    0,
+    0,
+    0,
+    0,
+    0,
+    1, // 10: 0 1 3
     1,
     0,
     1,
     0,
     0,
     0,
-    0, // 10
-    1,
-    1,
-    1,
-    1,
-    1,
     0,
-    0,
-    0, // 11
-    1,
-    1,
-    1,
-    1,
-    1,
-    1,
-    0,
-    0, // 12
-    1,
-    1,
-    1,
-    1,
-    1,
-    1,
-    1,
-    1, // 13
+    1, // 11: 0 1 2 3 4
     1,
     1,
     1,
@@ -72,7 +49,39 @@ const LISTED: [u8; 80] = [
     0,
     0,
     0,
-    0, // 14
+    1, // 12: 0 1 2 3 4 5
+    1,
+    1,
+    1,
+    1,
+    1,
+    0,
+    0,
+    1, // 13: 0 1 2 3 4 5 6 7
+    1,
+    1,
+    1,
+    1,
+    1,
+    1,
+    1,
+    1, // 14: 0 1 2 3
+    1,
+    1,
+    1,
+    0,
+    0,
+    0,
+    0,
+    1, // 15: 0 1 2 3 4 5
+    1,
+    1,
+    1,
+    1,
+    1,
+    0,
+    0,
+    1, // 16: 0 1 2 3 4 5 6
     1,
     1,
     1,
@@ -80,15 +89,6 @@ const LISTED: [u8; 80] = [
     1,
     1,
     0,
-    0, // 15
-    1,
-    1,
-    1,
-    1,
-    1,
-    1,
-    1,
-    0, // 16
 ];
 
 // Classes of bytes.
@@ -227,7 +227,7 @@ pub fn is_date(s: &[u8]) -> bool
 }
 
 // Month 01 to 12, day 01 to 31.
-fn right_day(month: u8, day: u8) -> bool
+pub(crate) fn right_day(month: u8, day: u8) -> bool
     ensures { λ r. ⌜ r ≡ rightDay month day ⌝ }
 {
     if month < 1 {
@@ -243,7 +243,7 @@ fn right_day(month: u8, day: u8) -> bool
 }
 
 // A byte is listed by an enumeration, or 0.
-fn is_listed(kind: u8, b: u8) -> bool
+pub(crate) fn is_listed(kind: u8, b: u8) -> bool
     requires { ⌜ (7 ≤ kind) × (kind ≤ 16) ⌝ }
     ensures { λ r. ⌜ r ≡ isListed kind b ⌝ }
 {

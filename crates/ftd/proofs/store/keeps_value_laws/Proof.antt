@@ -1,5 +1,5 @@
 -- `store::keeps_value_laws` meets its contract. Assumes nothing.
-use Rattle.ftd.proofs.ValueTrips.{value-laws}
+use Rattle.ftd.proofs.ValueLaws.{value-laws}
 use Rattle.ftd.proofs.store.keeps_value_laws.Statement.{statement}
 use Rattle.ftd.proofs.store.keeps_value_laws.Tie as tie
 

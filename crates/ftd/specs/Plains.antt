@@ -1,0 +1,18 @@
+-- The value of a Number or a Float as a plain signed number of units (01, "Typed items").
+use Prim.Native.Nat.{ℕ}
+use mathlib.Core.Bool.{Bool, cond}
+use lib.IntN.{ℤ, pos, negℤ}
+use lib.Dec.{leb}
+use Rattle.ftd.specs.declared.signed.Signed.{Signed}
+use Rattle.ftd.specs.declared.signed.Signed.the-variants.{NoValue, Value}
+use Rattle.ftd.specs.declared.plain.Plain.{Plain}
+use Rattle.ftd.specs.declared.plain.Plain.the-variants.{NoNumber, Number}
+
+-- Sign and magnitude together.
+abbrev pub signedUnits : Bool → ℕ → ℤ
+signedUnits negative units = cond negative (negℤ (pos units)) (pos units)
+
+-- Units of at most 18 digits, as every value that is read has them.
+unfoldable pub plainOf : Signed → Plain
+plainOf NoValue = NoNumber
+plainOf (Value negative units) = cond (leb units 999999999999999999) (Number (signedUnits negative units)) NoNumber

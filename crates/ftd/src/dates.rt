@@ -1,0 +1,119 @@
+// Values of Date, read and written.
+ghost use mathlib.Core.Path.{_≡_};
+ghost use Prim.Native.Nat.{_≤_};
+ghost use lib.ListN.{length};
+ghost use Rattle.ftd.specs.Bytes.{put};
+ghost use Rattle.ftd.specs.Writing.{answerOf, outputOf};
+ghost use Rattle.ftd.specs.WriteValues.{fitVerdict};
+ghost use Rattle.ftd.specs.Values.{monthOf, dayOf};
+ghost use Rattle.ftd.specs.Dates.{yearOf, dateValue, dateBytes, dateFits};
+use crate::bytes::wide16;
+use crate::refusal::Refusal;
+use crate::store::put_digits;
+use crate::texts::put_spaces;
+use crate::values::Class;
+use crate::values::all_in;
+use crate::values::is_date;
+use crate::values::right_day;
+use crate::values::two_digits;
+use crate::write::Written;
+
+// A value: all spaces for unused, or a day; or none where the bytes are not one.
+pub enum Date {
+    NoDate,
+    Unused,
+    Day { year: u16, month: u8, day: u8 },
+}
+
+// The year in the first four of eight bytes.
+fn year(s: &[u8]) -> u16
+    requires { ⌜ length (now s) ≡ 8 ⌝ }
+    ensures { λ r. ⌜ r ≡ yearOf (now (s .entry)) ⌝ }
+{
+    wide16(two_digits(s[0], s[1])) * 100 + wide16(two_digits(s[2], s[3]))
+}
+
+// The day in eight bytes.
+fn day(s: &[u8]) -> Date
+    requires { ⌜ length (now s) ≡ 8 ⌝ }
+    ensures { λ r. ⌜ r ≡ Date.Day (yearOf (now (s .entry))) (monthOf (now (s .entry))) (dayOf (now (s .entry))) ⌝ }
+{
+    Date::Day {
+        year: year(s),
+        month: two_digits(s[4], s[5]),
+        day: two_digits(s[6], s[7]),
+    }
+}
+
+// The bytes as a Date.
+pub fn read_date(s: &[u8]) -> Date
+    ensures { λ r. ⌜ r ≡ dateValue (now (s .entry)) ⌝ }
+{
+    if is_date(s) {
+        if all_in(Class::Space, s, 0, s.len()) {
+            return Date::Unused;
+        }
+        return day(s);
+    }
+    Date::NoDate
+}
+
+// A value is a Date's.
+fn date_fits(v: Date) -> bool
+    ensures { λ r. ⌜ r ≡ dateFits v ⌝ }
+{
+    match v {
+        Date::NoDate => false,
+        Date::Unused => true,
+        Date::Day { year, month, day } => {
+            if year <= 9999 {
+                return right_day(month, day);
+            }
+            false
+        }
+    }
+}
+
+// A number of at most four digits as one of sixty-four bits.
+fn wide64(x: u16) -> u64
+    ensures { λ r. ⌜ r ≡ x ⌝ }
+{
+    x as u64
+}
+
+// The bytes of a day.
+fn put_day(out: &mut [u8], year: u16, month: u8, day: u8)
+    requires { ⌜ 8 ≤ length (now out) ⌝ }
+    ensures { λ _. ⌜ now (out .exit) ≡ put (now (out .entry)) 0 (dateBytes (Date.Day year month day)) ⌝ }
+{
+    put_digits(out, 0, 4, wide64(year));
+    put_digits(out, 4, 2, wide64(wide16(month)));
+    put_digits(out, 6, 2, wide64(wide16(day)));
+}
+
+// The bytes of a value.
+fn put_date(out: &mut [u8], v: Date)
+    requires { ⌜ 8 ≤ length (now out) ⌝ }
+    ensures { λ _. ⌜ now (out .exit) ≡ put (now (out .entry)) 0 (dateBytes v) ⌝ }
+{
+    match v {
+        Date::NoDate => {}
+        Date::Unused => put_spaces(out, 0, 8),
+        Date::Day { year, month, day } => put_day(out, year, month, day),
+    }
+}
+
+// A value as a Date.
+pub fn write_date(out: &mut [u8], v: Date) -> Written
+    ensures answer { λ r. ⌜ r ≡ answerOf (fitVerdict (dateFits v)) (dateBytes v) (now (out .entry)) ⌝ }
+    ensures output { λ _. ⌜ now (out .exit) ≡ outputOf (fitVerdict (dateFits v)) (dateBytes v) (now (out .entry)) ⌝ }
+{
+    if date_fits(v) {
+        if out.len() < 8 {
+            return Written::Refused(Refusal::TooSmall);
+        }
+        put_date(out, v);
+        return Written::Bytes(8);
+    }
+    Written::Refused(Refusal::Item)
+}
