@@ -3,6 +3,7 @@ use Rattle.ftd.specs.ValueLaws.{ValueLaws}
 use Rattle.ftd.proofs.Wholly.{char-back, char-again, word-back, word-again, int-back, int-again}
 use Rattle.ftd.proofs.ValueTrips.{number-back, number-again, float-back, float-again}
 use Rattle.ftd.proofs.Trimmed.{text-back, text-again}
+use Rattle.ftd.proofs.Signs.{plain-back, plain-again}
 use Rattle.ftd.proofs.DateTrips.{date-back, date-again}
 
 pub value-laws : ValueLaws
@@ -22,4 +23,6 @@ value-laws =
       textAgain = text-again;
       dateBack = date-back;
       dateAgain = date-again;
+      plainBack = plain-back;
+      plainAgain = plain-again;
     }

@@ -16,8 +16,8 @@ use Rattle.ftd.specs.TableRule.{placeOf, rowAt}
 use Rattle.ftd.specs.Values.{isValue}
 use Rattle.ftd.specs.Items.{otherWidth, anyOther, wrongWidth, itemGood, itemsGood, walkFields, walkOf, checkOf}
 use Rattle.ftd.specs.declared.refusal.Refusal.the-variants.{FieldLength, Item}
-use Rattle.ftd.specs.declared.items.Verdict.{Verdict}
-use Rattle.ftd.specs.declared.items.Verdict.the-variants.{Passed, Refused}
+use Rattle.ftd.specs.declared.items.Checked.{Checked}
+use Rattle.ftd.specs.declared.items.Checked.the-variants.{Passed, Refused}
 use Rattle.ftd.proofs.Lists.{drop-part}
 use Rattle.ftd.proofs.Runs.{run-over, run-next, entry-length}
 use Rattle.ftd.proofs.Turns.{some-field, be32-entry, field-head}
@@ -73,7 +73,7 @@ module _ (r : Row) (l : List ℕ) (pos end : ℕ) (order : pos ≤ end) (fits : 
       rw (left, ← w, le-leb width (end - pos) h, take-part pos width end l (omega arith), ← k, ← s) (rw d at q)
 
 -- The items from a row on, up to the last one of the field, and what comes behind the field.
-module _ (l : List ℕ) (i last pos end : ℕ) (more t : Verdict)
+module _ (l : List ℕ) (i last pos end : ℕ) (more t : Checked)
     (inv : cond (itemsGood (take (last - i) (drop i table)) (drop pos (take end l))) more (Refused Item) ≡ t) where
   pub items-end : last ≤ i → more ≡ t
   items-end h = rw (rows-over i last h) at inv
@@ -89,7 +89,7 @@ module _ (l : List ℕ) (i last pos end : ℕ) (more t : Verdict)
         → cond (itemsGood (take (last - (i + 1)) (drop (i + 1) table)) (drop (pos + width) (take end l))) more (Refused Item) ≡ t
     items-turn w width e = rw e (rw w at next)
 
-module _ (l : List ℕ) (at n : ℕ) (e : n ≡ front field (drop at l)) (t : Verdict) (inv : walkFields (runOf field (drop at l) .entries) ≡ t) where
+module _ (l : List ℕ) (at n : ℕ) (e : n ≡ front field (drop at l)) (t : Checked) (inv : walkFields (runOf field (drop at l) .entries) ≡ t) where
   pub walk-over : n ≡ 0 → Passed ≡ t
   walk-over z = rw (run-over field some-field l at n e z) at inv
 
@@ -115,6 +115,6 @@ module _ (l : List ℕ) (w : Bool) (q : w ≡ wrongWidth l) where
   unfolding checkOf
   check-width e = rw (← q, e)
 
-  pub check-walk : w ≡ false → (v : Verdict) → v ≡ walkOf l → v ≡ checkOf l
+  pub check-walk : w ≡ false → (v : Checked) → v ≡ walkOf l → v ≡ checkOf l
   unfolding checkOf
   check-walk e v p = rw (← q, e) p

@@ -17,8 +17,8 @@ use Rattle.ftd.specs.Packets.{chainLetter, readOf}
 use Rattle.ftd.specs.Items.{checkOf}
 use Rattle.ftd.specs.Places.{itemBytes}
 use Rattle.ftd.specs.Signed.{floatValue}
-use Rattle.ftd.specs.declared.items.Verdict.{Verdict}
-use Rattle.ftd.specs.declared.items.Verdict.the-variants.{Passed, Refused}
+use Rattle.ftd.specs.declared.items.Checked.{Checked}
+use Rattle.ftd.specs.declared.items.Checked.the-variants.{Passed, Refused}
 use Rattle.ftd.specs.declared.signed.Signed.{Signed}
 use Rattle.ftd.specs.declared.signed.Signed.the-variants.{NoValue, Value}
 use Rattle.ftd.specs.declared.packet.Packet.{Packet}
@@ -49,7 +49,7 @@ valueAnswer NoValue = []
 valueAnswer (Value negative units) = cond negative 1 0 ∷ units ∷ []
 
 -- Each answer of a check of items: refused, or what is read then.
-abbrev pub checkAnswer : Verdict → List ℕ → List ℕ
+abbrev pub checkAnswer : Checked → List ℕ → List ℕ
 checkAnswer Passed value = value
 checkAnswer (Refused r) value = refused (numberOf r)
 

@@ -8,8 +8,8 @@ use Rattle.ftd.specs.Fields.{fieldsOf, fidOf, bytesOf}
 use Rattle.ftd.specs.Table.{Row, rowsOf, widthOf, known}
 use Rattle.ftd.specs.Values.{isValue}
 use Rattle.ftd.specs.declared.refusal.Refusal.the-variants.{FieldLength, Item}
-use Rattle.ftd.specs.declared.items.Verdict.{Verdict}
-use Rattle.ftd.specs.declared.items.Verdict.the-variants.{Passed, Refused}
+use Rattle.ftd.specs.declared.items.Checked.{Checked}
+use Rattle.ftd.specs.declared.items.Checked.the-variants.{Passed, Refused}
 
 -- ─── Refusal 8: a known FID, other width ───
 
@@ -35,14 +35,14 @@ itemsGood [] l = true
 itemsGood (r ∷ rs) l = itemGood r l && itemsGood rs (drop (r .width) l)
 
 -- Fields in order, items in each, up to the first item that is wrong. An unknown FID has no items, and passes.
-abbrev pub walkFields : List (List ℕ) → Verdict
+abbrev pub walkFields : List (List ℕ) → Checked
 walkFields [] = Passed
 walkFields (f ∷ fs) = cond (itemsGood (rowsOf (fidOf f)) (bytesOf f)) (walkFields fs) (Refused Item)
 
-unfoldable pub walkOf : List ℕ → Verdict
+unfoldable pub walkOf : List ℕ → Checked
 walkOf content = walkFields (fieldsOf content)
 
 -- ─── Both, 8 over all fields first ───
 
-unfoldable pub checkOf : List ℕ → Verdict
+unfoldable pub checkOf : List ℕ → Checked
 checkOf content = cond (wrongWidth content) (Refused FieldLength) (walkOf content)

@@ -1,7 +1,7 @@
 -- The value of a Number or a Float as a plain signed number of units (01, "Typed items").
-use Prim.Native.Nat.{ℕ}
-use mathlib.Core.Bool.{Bool, cond}
-use lib.IntN.{ℤ, pos, negℤ}
+use Prim.Native.Nat.{ℕ, suc}
+use mathlib.Core.Bool.{Bool, true, false, cond}
+use lib.IntN.{ℤ, pos, negsuc, negℤ}
 use lib.Dec.{leb}
 use Rattle.ftd.specs.declared.signed.Signed.{Signed}
 use Rattle.ftd.specs.declared.signed.Signed.the-variants.{NoValue, Value}
@@ -16,3 +16,8 @@ signedUnits negative units = cond negative (negℤ (pos units)) (pos units)
 unfoldable pub plainOf : Signed → Plain
 plainOf NoValue = NoNumber
 plainOf (Value negative units) = cond (leb units 999999999999999999) (Number (signedUnits negative units)) NoNumber
+
+-- And apart again.
+unfoldable pub fromPlain : ℤ → Signed
+fromPlain (pos n) = cond (leb n 999999999999999999) (Value false n) NoValue
+fromPlain (negsuc n) = cond (leb (suc n) 999999999999999999) (Value true (suc n)) NoValue

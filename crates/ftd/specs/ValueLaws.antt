@@ -4,6 +4,7 @@ use mathlib.Core.Path.{_≡_}
 use mathlib.Core.List.{List, [], _∷_}
 use mathlib.Core.Bool.{Bool, true}
 use lib.ListN.{length}
+use lib.IntN.{ℤ}
 use Rattle.ftd.specs.Bytes.{Bytes, bytes16, bytes32}
 use Rattle.ftd.specs.Values.{every, isText, isDate}
 use Rattle.ftd.specs.Texts.{textValue, textBytes, textFits}
@@ -11,6 +12,8 @@ use Rattle.ftd.specs.Signed.{numberValue, floatValue}
 use Rattle.ftd.specs.Wholes.{charFits, charValue, wordValue, intValue}
 use Rattle.ftd.specs.WriteValues.{numberBytes, numberFits, floatBytes, floatFits}
 use Rattle.ftd.specs.Dates.{dateValue, dateBytes, dateFits}
+use Rattle.ftd.specs.Plains.{plainOf, fromPlain}
+use Rattle.ftd.specs.declared.plain.Plain.the-variants.{Number}
 use Rattle.ftd.specs.declared.dates.Date.{Date}
 use Rattle.ftd.specs.declared.whole.Whole.the-variants.{Value as WholeValue}
 use Rattle.ftd.specs.declared.signed.Signed.the-variants.{Value}
@@ -36,3 +39,7 @@ pub record ValueLaws : Type 0 where
       → (textFits (length l) (textValue l) ≡ true) × (textBytes (length l) (textValue l) ≡ l)
   pub dateBack : (v : Date) → dateFits v ≡ true → dateValue (dateBytes v) ≡ v
   pub dateAgain : (l : List ℕ) → isDate l ≡ true → (dateFits (dateValue l) ≡ true) × (dateBytes (dateValue l) ≡ l)
+  -- Sign and magnitude, and the plain signed number: either gives the other, minus zero aside.
+  pub plainBack : (x : ℤ) (negative : Bool) (units : ℕ) → fromPlain x ≡ Value negative units → plainOf (Value negative units) ≡ Number x
+  pub plainAgain : (negative : Bool) (units : ℕ) (x : ℤ) → (negative ≡ true → 0 < units) → plainOf (Value negative units) ≡ Number x
+      → fromPlain x ≡ Value negative units

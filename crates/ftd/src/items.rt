@@ -9,6 +9,7 @@ use crate::bytes::be32;
 use crate::bytes::size32;
 use crate::fields::field_size;
 use crate::refusal::Refusal;
+use crate::table::LAST_FID;
 use crate::table::count_of;
 use crate::table::end_of;
 use crate::table::kind_at;
@@ -18,11 +19,8 @@ use crate::table::wide_of;
 use crate::table::width_at;
 use crate::values::is_value;
 
-// The last FID of Appendix D.
-const LAST_FID: u32 = 46;
-
 // What a check of a content finds.
-pub enum Verdict {
+pub enum Checked {
     Passed,
     Refused(Refusal),
 }
@@ -70,14 +68,14 @@ fn item_good(content: &[u8], row: usize, pos: usize, end: usize) -> bool
 }
 
 // Refusal 9: fields in order, items in each, up to the first item that is wrong. Fields with an unknown FID pass.
-pub fn walk_items(content: &[u8]) -> Verdict
+pub fn walk_items(content: &[u8]) -> Checked
     ensures { λ r. ⌜ r ≡ walkOf (now (content .entry)) ⌝ }
 {
     let mut at: usize = 0;
     'walk: loop {
         let n = field_size(content, at);
         if n == 0 {
-            break 'walk Verdict::Passed;
+            break 'walk Checked::Passed;
         }
         let end = at + n;
         let fid = be32(content, at);
@@ -93,7 +91,7 @@ pub fn walk_items(content: &[u8]) -> Verdict
                 pos += width_at(row);
                 row += 1;
             } else {
-                break 'walk Verdict::Refused(Refusal::Item);
+                break 'walk Checked::Refused(Refusal::Item);
             }
         }
         at = end;
@@ -101,11 +99,11 @@ pub fn walk_items(content: &[u8]) -> Verdict
 }
 
 // Refusal 8 over all fields first, then refusal 9.
-pub fn check_items(content: &[u8]) -> Verdict
+pub fn check_items(content: &[u8]) -> Checked
     ensures { λ r. ⌜ r ≡ checkOf (now (content .entry)) ⌝ }
 {
     if wrong_width(content) {
-        return Verdict::Refused(Refusal::FieldLength);
+        return Checked::Refused(Refusal::FieldLength);
     }
     walk_items(content)
 }

@@ -2,14 +2,12 @@
 ghost use mathlib.Core.Path.{_≡_};
 ghost use Rattle.ftd.specs.Places.{itemOf, itemBytes};
 use crate::bytes::size32;
+use crate::table::LAST_FID;
 use crate::table::end_of;
 use crate::table::kind_at;
 use crate::table::scale_at;
 use crate::table::start_of;
 use crate::table::width_at;
-
-// The last FID of Appendix D.
-const LAST_FID: u32 = 46;
 
 // Kind and decimals of an item, and where it lies in its field.
 pub enum ItemPlace {

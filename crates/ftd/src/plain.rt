@@ -2,7 +2,7 @@
 ghost use mathlib.Core.Path.{_≡_};
 ghost use Prim.Native.Nat.{_≤_};
 ghost use lib.IntN.{pos, negℤ};
-ghost use Rattle.ftd.specs.Plains.{signedUnits, plainOf};
+ghost use Rattle.ftd.specs.Plains.{plainOf, fromPlain};
 use crate::signed::Signed;
 
 // A signed number, or none.
@@ -42,5 +42,27 @@ pub fn plain_of(v: Signed) -> Plain
             }
             Plain::Number(above(units))
         }
+    }
+}
+
+// A plain signed number of units as a value to be written; none where it has more than 18 digits.
+pub fn from_plain(x: i64) -> Signed
+    ensures { λ r. ⌜ r ≡ fromPlain x ⌝ }
+{
+    if x < 0 {
+        if x < -999999999999999999 {
+            return Signed::NoValue;
+        }
+        return Signed::Value {
+            negative: true,
+            units: (0 - x) as u64,
+        };
+    }
+    if 999999999999999999 < x {
+        return Signed::NoValue;
+    }
+    Signed::Value {
+        negative: false,
+        units: x as u64,
     }
 }

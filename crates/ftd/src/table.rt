@@ -6,6 +6,9 @@ ghost use Rattle.ftd.specs.TableRule.{placeOf, TableRule, rowAt};
 use crate::bytes::size8;
 use crate::bytes::size16;
 
+// The last FID of Appendix D.
+pub(crate) const LAST_FID: u32 = 46;
+
 const KIND: [u8; 379] = [
     3,
     8,

@@ -5,7 +5,7 @@ use mathlib.Core.Path.{_≡_, refl}
 use native.Mathlib.Omega.{arith}
 use borrow.Author.Needs.{needs}
 use lib.ListN.{length, take, drop}
-use Rattle.ftd.specs.declared.items.Verdict.the-variants.{Refused}
+use Rattle.ftd.specs.declared.items.Checked.the-variants.{Refused}
 use Rattle.ftd.specs.declared.refusal.Refusal.the-variants.{Item}
 use Rattle.ftd.specs.Items.{itemsGood, walkFields, walkOf}
 use Rattle.ftd.specs.Table.{table}
