@@ -10,15 +10,15 @@ use Rattle.ftd.specs.Content.{contentOf}
 use Rattle.ftd.specs.declared.refusal.Refusal.{Refusal}
 use Rattle.ftd.specs.declared.refusal.Refusal.the-variants.{FieldRun, Composition}
 use Rattle.ftd.specs.declared.composition.Direction.{Direction}
-use Rattle.ftd.specs.declared.items.Verdict.{Verdict}
-use Rattle.ftd.specs.declared.items.Verdict.the-variants.{Passed, Refused}
+use Rattle.ftd.specs.declared.items.Checked.{Checked}
+use Rattle.ftd.specs.declared.items.Checked.the-variants.{Passed, Refused}
 
 module _ (tid : ℕ) (d : Direction) (content : List ℕ) (limit : ℕ) (b : Bool) (s : b ≡ shaped content limit) where
   pub by-shape : b ≡ false → Refused FieldRun ≡ contentOf tid d content limit
   unfolding contentOf
   by-shape n = rw (← s, n)
 
-  module _ (whole : b ≡ true) (v : Verdict) (i : v ≡ checkOf content) where
+  module _ (whole : b ≡ true) (v : Checked) (i : v ≡ checkOf content) where
     pub by-item : (r : Refusal) → v ≡ Refused r → Refused r ≡ contentOf tid d content limit
     unfolding contentOf
     by-item r n = rw (← s, whole, ← i, n)

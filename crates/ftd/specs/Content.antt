@@ -7,16 +7,16 @@ use Rattle.ftd.specs.Items.{checkOf}
 use Rattle.ftd.specs.Composition.{composed}
 use Rattle.ftd.specs.declared.refusal.Refusal.the-variants.{FieldRun, Composition}
 use Rattle.ftd.specs.declared.composition.Direction.{Direction}
-use Rattle.ftd.specs.declared.items.Verdict.{Verdict}
-use Rattle.ftd.specs.declared.items.Verdict.the-variants.{Passed, Refused}
+use Rattle.ftd.specs.declared.items.Checked.{Checked}
+use Rattle.ftd.specs.declared.items.Checked.the-variants.{Passed, Refused}
 
 -- A refusal stands; what passed goes on to the next test.
-abbrev pub before : Verdict → Verdict → Verdict
+abbrev pub before : Checked → Checked → Checked
 before Passed next = next
 before (Refused r) next = Refused r
 
 -- Of content that is given for a message: whole fields within the limit (7), widths (8), items (9), make-up (10).
-unfoldable pub contentOf : ℕ → Direction → List ℕ → ℕ → Verdict
+unfoldable pub contentOf : ℕ → Direction → List ℕ → ℕ → Checked
 contentOf tid d content limit =
     cond (shaped content limit)
     (before (checkOf content)

@@ -5,26 +5,26 @@ ghost use Rattle.ftd.specs.Content.{contentOf};
 use crate::chain::is_shaped;
 use crate::composition::Direction;
 use crate::composition::is_composed;
-use crate::items::Verdict;
+use crate::items::Checked;
 use crate::items::check_items;
 use crate::refusal::Refusal;
 
 // The first refusal of content that is given for a message, or none.
-pub fn check_content(tid: u32, direction: Direction, content: &[u8], limit: usize) -> Verdict
+pub fn check_content(tid: u32, direction: Direction, content: &[u8], limit: usize) -> Checked
     ensures { λ r. ⌜ r ≡ contentOf tid direction (now (content .entry)) limit ⌝ }
 {
     if is_shaped(content, limit) {
         match check_items(content) {
-            Verdict::Refused(r) => {
-                return Verdict::Refused(r);
+            Checked::Refused(r) => {
+                return Checked::Refused(r);
             }
-            Verdict::Passed => {
+            Checked::Passed => {
                 if is_composed(tid, direction, content) {
-                    return Verdict::Passed;
+                    return Checked::Passed;
                 }
-                return Verdict::Refused(Refusal::Composition);
+                return Checked::Refused(Refusal::Composition);
             }
         }
     }
-    Verdict::Refused(Refusal::FieldRun)
+    Checked::Refused(Refusal::FieldRun)
 }
