@@ -1,0 +1,18 @@
+-- `link` meets its contract. Assumes nothing.
+use Rattle.exports.specs.Numbers.{linkNumbers}
+use borrow.Author.Needs.{needs}
+use Rattle.exports.proofs.link.Statement.{statement}
+use Rattle.exports.proofs.link.Tie as tie
+
+date-requires : tie.Need-date-requires
+date-requires c κs = search needs
+
+dated-requires : tie.Need-dated-requires
+dated-requires c κs = search needs
+
+returns : tie.Need-returns
+unfolding linkNumbers
+returns c = rw (c .before .date .ensures, c .dated .ensures)
+
+pub link-spec : {M : Type 1} → statement M
+link-spec = tie.close (tie.spec date-requires dated-requires returns)

@@ -1,0 +1,21 @@
+-- `message` meets its contract. Assumes nothing.
+use Rattle.exports.specs.Numbers.{messageNumbers}
+use borrow.Author.Needs.{needs}
+use Rattle.exports.proofs.message.Statement.{statement}
+use Rattle.exports.proofs.message.Tie as tie
+
+date-requires : tie.Need-date-requires
+date-requires c κs = search needs
+
+letter-requires : tie.Need-letter-requires
+letter-requires c κs = search needs
+
+dated-requires : tie.Need-dated-requires
+dated-requires c κs = search needs
+
+returns : tie.Need-returns
+unfolding messageNumbers
+returns c = rw (c .before .before .date .ensures, c .before .letter .ensures, c .dated .ensures)
+
+pub message-spec : {M : Type 1} → statement M
+message-spec = tie.close (tie.spec date-requires letter-requires dated-requires returns)

@@ -1,0 +1,173 @@
+-- What `ftd` answers, as the numbers that C and Rust get (tests/include/ftd.h).
+use Prim.Native.Nat.{ℕ, _+_, _-_}
+use mathlib.Core.List.{List}
+use mathlib.Core.Bool.{cond}
+use lib.ListN.{drop}
+use lib.Dec.{eqb}
+use Rattle.ftd.specs.Bytes.{be32Of, part}
+use Rattle.ftd.specs.Runs.{front}
+use Rattle.ftd.specs.Refusals.{numberOf}
+use Rattle.ftd.specs.Tags.{tradeDateOf}
+use Rattle.ftd.specs.Fields.{field}
+use Rattle.ftd.specs.Packets.{chainLetter}
+use Rattle.ftd.specs.declared.tags.TradeDate.{TradeDate}
+use Rattle.ftd.specs.declared.tags.TradeDate.the-variants.{None, At}
+use Rattle.ftd.specs.declared.packet.Span.{Span}
+use Rattle.ftd.specs.declared.packet.Header.{Header}
+use Rattle.ftd.specs.declared.packet.Packet.{Packet}
+use Rattle.ftd.specs.declared.packet.Packet.the-variants.{Short, Link, Skipped, Message, Refused}
+use Rattle.ftd.specs.declared.fields.FieldPlace.{FieldPlace}
+use Rattle.ftd.specs.declared.fields.FieldPlace.the-variants.{NoField, Field}
+use Rattle.ftd.specs.declared.composition.Direction.{Direction}
+use Rattle.ftd.specs.declared.composition.Direction.the-variants.{Up, Down}
+use Rattle.ftd.specs.declared.items.Verdict.{Verdict}
+use Rattle.ftd.specs.declared.items.Verdict.the-variants.{Passed}
+use Rattle.ftd.specs.declared.items.Verdict.the-variants.{Refused as Against}
+use Rattle.ftd.specs.declared.chain.Message.{Message as Outgoing}
+use Rattle.ftd.specs.declared.chain.ChainSize.{ChainSize}
+use Rattle.ftd.specs.declared.chain.ChainSize.the-variants.{Takes}
+use Rattle.ftd.specs.declared.chain.ChainSize.the-variants.{Refused as NotTaken}
+use Rattle.ftd.specs.declared.write.Written.{Written}
+use Rattle.ftd.specs.declared.write.Written.the-variants.{Bytes, NotPlain, NoPacket}
+use Rattle.ftd.specs.declared.write.Written.the-variants.{Refused as NotWritten}
+use Rattle.exports.specs.declared.FtdPacket.{FtdPacket}
+use Rattle.exports.specs.declared.FtdField.{FtdField}
+use Rattle.exports.specs.declared.FtdMessage.{FtdMessage}
+use Rattle.exports.specs.declared.FtdSize.{FtdSize}
+use Rattle.exports.specs.declared.FtdWritten.{FtdWritten}
+
+-- ─── The trade date: 1 and its value, or 0 and 0 ───
+
+abbrev pub datedOf : TradeDate → ℕ
+datedOf None = 0
+datedOf (At d) = 1
+
+abbrev pub dateOf : TradeDate → ℕ
+dateOf None = 0
+dateOf (At d) = d
+
+-- ─── A packet: 0 short, 1 link, 2 skipped, 3 message, 4 refused; what an answer does not have is 0 ───
+
+unfoldable pub plainNumbers : ℕ → ℕ → FtdPacket
+plainNumbers answer refusal =
+    record {
+      extension = 0;
+      extent = 0;
+      start = 0;
+      len = 0;
+      tid = 0;
+      number = 0;
+      date = 0;
+      series = 0;
+      fields = 0;
+      answer = answer;
+      refusal = refusal;
+      kind = 0;
+      chain = 0;
+      dated = 0;
+    }
+
+unfoldable pub linkNumbers : ℕ → Span → TradeDate → FtdPacket
+linkNumbers kind e d =
+    record {
+      extension = e .start;
+      extent = e .len;
+      start = 0;
+      len = 0;
+      tid = 0;
+      number = 0;
+      date = dateOf d;
+      series = 0;
+      fields = 0;
+      answer = 1;
+      refusal = 0;
+      kind = kind;
+      chain = 0;
+      dated = datedOf d;
+    }
+
+-- The extension of a skipped packet is not read, so it has no trade date.
+unfoldable pub skippedNumbers : ℕ → Span → Span → FtdPacket
+skippedNumbers kind e body =
+    record {
+      extension = e .start;
+      extent = e .len;
+      start = body .start;
+      len = body .len;
+      tid = 0;
+      number = 0;
+      date = 0;
+      series = 0;
+      fields = 0;
+      answer = 2;
+      refusal = 0;
+      kind = kind;
+      chain = 0;
+      dated = 0;
+    }
+
+unfoldable pub messageNumbers : Header → Span → Span → TradeDate → FtdPacket
+messageNumbers h e content d =
+    record {
+      extension = e .start;
+      extent = e .len;
+      start = content .start;
+      len = content .len;
+      tid = h .tid;
+      number = h .number;
+      date = dateOf d;
+      series = h .series;
+      fields = h .fields;
+      answer = 3;
+      refusal = 0;
+      kind = 1;
+      chain = chainLetter (h .chain);
+      dated = datedOf d;
+    }
+
+-- The trade date is that of the extension, as a part of the bytes p.
+abbrev pub packetNumbers : List ℕ → Packet → FtdPacket
+packetNumbers p Short = plainNumbers 0 0
+packetNumbers p (Link kind e) = linkNumbers kind e (tradeDateOf (part p (e .start) (e .len)))
+packetNumbers p (Skipped kind e body) = skippedNumbers kind e body
+packetNumbers p (Message h e content) = messageNumbers h e content (tradeDateOf (part p (e .start) (e .len)))
+packetNumbers p (Refused r) = plainNumbers 4 (numberOf r)
+
+-- ─── A field: 1, its FID and its place, or all 0 ───
+
+abbrev pub fieldNumbers : FieldPlace → FtdField
+fieldNumbers NoField = record { start = 0; len = 0; fid = 0; found = 0 }
+fieldNumbers (Field fid start len) = record { start = start; len = len; fid = fid; found = 1 }
+
+-- The field at a place of a content, if one stands there whole.
+unfoldable pub fieldAt : List ℕ → ℕ → FieldPlace
+fieldAt content at =
+    cond (eqb (front field (drop at content)) 0) NoField (Field (be32Of content at) (at + 6) (front field (drop at content) - 6))
+
+-- ─── The content check: 0, or the number of the refusal ───
+
+unfoldable pub directionFor : ℕ → Direction
+directionFor d = cond (eqb d 0) Up Down
+
+abbrev pub verdictNumber : Verdict → ℕ
+verdictNumber Passed = 0
+verdictNumber (Against r) = numberOf r
+
+-- ─── A message written ───
+
+unfoldable pub dateFor : ℕ → ℕ → TradeDate
+dateFor dated date = cond (eqb dated 0) None (At date)
+
+unfoldable pub messageFor : FtdMessage → Outgoing
+messageFor m = record { date = dateFor (m .dated) (m .date); tid = m .tid; series = m .series; number = m .number }
+
+abbrev pub sizeNumbers : ChainSize → FtdSize
+sizeNumbers (Takes s) = record { packets = s .packets; bytes = s .bytes; refusal = 0 }
+sizeNumbers (NotTaken r) = record { packets = 0; bytes = 0; refusal = numberOf r }
+
+-- The last two answers are other writers' and have no number in the table: 255.
+abbrev pub writtenNumbers : Written → FtdWritten
+writtenNumbers (Bytes n) = record { bytes = n; refusal = 0 }
+writtenNumbers (NotWritten r) = record { bytes = 0; refusal = numberOf r }
+writtenNumbers NotPlain = record { bytes = 0; refusal = 255 }
+writtenNumbers NoPacket = record { bytes = 0; refusal = 255 }

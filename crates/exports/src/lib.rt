@@ -1,0 +1,372 @@
+// The library for C and Rust: a handful of functions on numbers and byte slices. Each calls `ftd` and gives its answer as numbers.
+// tests/include/ftd.h says what the numbers mean.
+ghost use mathlib.Core.Path.{_≡_};
+ghost use Prim.Native.Nat.{_+_, _≤_};
+ghost use lib.ListN.{length};
+ghost use Rattle.ftd.specs.Bytes.{part, joined};
+ghost use Rattle.ftd.specs.Tags.{tradeDateOf};
+ghost use Rattle.ftd.specs.Packets.{readOf, fieldOf};
+ghost use Rattle.ftd.specs.Laws.{Inside};
+ghost use Rattle.ftd.specs.Content.{contentOf};
+ghost use Rattle.ftd.specs.Writing.{answerOf, outputOf};
+ghost use Rattle.ftd.specs.Chains.{packetsOf, sizeAnswer, chainVerdict};
+ghost use Rattle.exports.specs.Numbers.{datedOf, dateOf, plainNumbers, linkNumbers, skippedNumbers, messageNumbers, packetNumbers, fieldNumbers, fieldAt, directionFor, verdictNumber, dateFor, messageFor, sizeNumbers, writtenNumbers};
+use ftd::bytes::be32;
+use ftd::chain::ChainSize;
+use ftd::chain::Message;
+use ftd::chain::chain_size;
+use ftd::chain::write_chain;
+use ftd::composition::Direction;
+use ftd::content::check_content;
+use ftd::fields::FieldPlace;
+use ftd::fields::field_size;
+use ftd::items::Verdict;
+use ftd::packet::Header;
+use ftd::packet::Packet;
+use ftd::packet::Span;
+use ftd::packet::find_field;
+use ftd::packet::letter;
+use ftd::packet::read;
+use ftd::refusal::number;
+use ftd::tags::TradeDate;
+use ftd::tags::trade_date;
+use ftd::write::Written;
+
+// What some bytes are: places, header values, the trade date, which answer it is, and the number of the refusal.
+#[repr(C)]
+pub struct FtdPacket {
+    pub extension: usize,
+    pub extent: usize,
+    pub start: usize,
+    pub len: usize,
+    pub tid: u32,
+    pub number: u32,
+    pub date: u32,
+    pub series: u16,
+    pub fields: u16,
+    pub answer: u8,
+    pub refusal: u8,
+    pub kind: u8,
+    pub chain: u8,
+    pub dated: u8,
+}
+
+// A field: where its bytes lie, and its FID.
+#[repr(C)]
+pub struct FtdField {
+    pub start: usize,
+    pub len: usize,
+    pub fid: u32,
+    pub found: u8,
+}
+
+// What all packets of a message bear.
+#[repr(C)]
+pub struct FtdMessage {
+    pub tid: u32,
+    pub number: u32,
+    pub date: u32,
+    pub series: u16,
+    pub dated: u8,
+}
+
+// How many packets and bytes a message takes.
+#[repr(C)]
+pub struct FtdSize {
+    pub packets: usize,
+    pub bytes: usize,
+    pub refusal: u8,
+}
+
+// How many bytes were written.
+#[repr(C)]
+pub struct FtdWritten {
+    pub bytes: usize,
+    pub refusal: u8,
+}
+
+// 1 where there is a trade date.
+fn dated(d: TradeDate) -> u8
+    ensures { λ r. ⌜ r ≡ datedOf d ⌝ }
+{
+    match d {
+        TradeDate::None => 0,
+        TradeDate::At(_) => 1,
+    }
+}
+
+// The trade date; 0 where there is none.
+fn date(d: TradeDate) -> u32
+    ensures { λ r. ⌜ r ≡ dateOf d ⌝ }
+{
+    match d {
+        TradeDate::None => 0,
+        TradeDate::At(x) => x,
+    }
+}
+
+// The trade date of an extension that lies there.
+fn date_in(p: &[u8], start: usize, len: usize) -> TradeDate
+    requires { ⌜ start + len ≤ length (now p) ⌝ }
+    ensures { λ r. ⌜ r ≡ tradeDateOf (part (now (p .entry)) start len) ⌝ }
+{
+    trade_date(&p[start..start + len])
+}
+
+// An answer with no packet: short, or refused.
+fn plain(answer: u8, refusal: u8) -> FtdPacket
+    ensures { λ r. ⌜ r ≡ plainNumbers answer refusal ⌝ }
+{
+    FtdPacket {
+        extension: 0,
+        extent: 0,
+        start: 0,
+        len: 0,
+        tid: 0,
+        number: 0,
+        date: 0,
+        series: 0,
+        fields: 0,
+        answer: answer,
+        refusal: refusal,
+        kind: 0,
+        chain: 0,
+        dated: 0,
+    }
+}
+
+// A link packet.
+fn link(kind: u8, e: Span, d: TradeDate) -> FtdPacket
+    ensures { λ r. ⌜ r ≡ linkNumbers kind e d ⌝ }
+{
+    FtdPacket {
+        extension: e.start,
+        extent: e.len,
+        start: 0,
+        len: 0,
+        tid: 0,
+        number: 0,
+        date: date(d),
+        series: 0,
+        fields: 0,
+        answer: 1,
+        refusal: 0,
+        kind: kind,
+        chain: 0,
+        dated: dated(d),
+    }
+}
+
+// A skipped packet.
+fn skipped(kind: u8, e: Span, body: Span) -> FtdPacket
+    ensures { λ r. ⌜ r ≡ skippedNumbers kind e body ⌝ }
+{
+    FtdPacket {
+        extension: e.start,
+        extent: e.len,
+        start: body.start,
+        len: body.len,
+        tid: 0,
+        number: 0,
+        date: 0,
+        series: 0,
+        fields: 0,
+        answer: 2,
+        refusal: 0,
+        kind: kind,
+        chain: 0,
+        dated: 0,
+    }
+}
+
+// A message packet.
+fn message(h: Header, e: Span, content: Span, d: TradeDate) -> FtdPacket
+    ensures { λ r. ⌜ r ≡ messageNumbers h e content d ⌝ }
+{
+    let c = h.chain;
+    FtdPacket {
+        extension: e.start,
+        extent: e.len,
+        start: content.start,
+        len: content.len,
+        tid: h.tid,
+        number: h.number,
+        date: date(d),
+        series: h.series,
+        fields: h.fields,
+        answer: 3,
+        refusal: 0,
+        kind: 1,
+        chain: letter(c),
+        dated: dated(d),
+    }
+}
+
+// What was read, as numbers.
+fn numbers(p: &[u8], found: Packet) -> FtdPacket
+    requires { ⌜ Inside (now p) found ⌝ }
+    ensures { λ r. ⌜ r ≡ packetNumbers (now (p .entry)) found ⌝ }
+{
+    match found {
+        Packet::Short => plain(0, 0),
+        Packet::Link { kind, extension } => link(
+            kind,
+            extension,
+            date_in(p, extension.start, extension.len),
+        ),
+        Packet::Skipped {
+            kind,
+            extension,
+            body,
+        } => skipped(kind, extension, body),
+        Packet::Message {
+            header,
+            extension,
+            content,
+        } => message(
+            header,
+            extension,
+            content,
+            date_in(p, extension.start, extension.len),
+        ),
+        Packet::Refused(r) => plain(4, number(r)),
+    }
+}
+
+// What the bytes from the front on are.
+#[no_mangle]
+pub extern "C" fn ftd_read(p: &[u8]) -> FtdPacket
+    ensures { λ r. ⌜ r ≡ packetNumbers (now (p .entry)) (readOf (now (p .entry))) ⌝ }
+{
+    numbers(p, read(p))
+}
+
+// Field i of a message packet, counted from 0.
+#[no_mangle]
+pub extern "C" fn ftd_field(p: &[u8], i: usize) -> FtdField
+    ensures { λ r. ⌜ r ≡ fieldNumbers (fieldOf (now (p .entry)) i) ⌝ }
+{
+    match find_field(p, i) {
+        FieldPlace::NoField => FtdField {
+            start: 0,
+            len: 0,
+            fid: 0,
+            found: 0,
+        },
+        FieldPlace::Field { fid, start, len } => FtdField {
+            start: start,
+            len: len,
+            fid: fid,
+            found: 1,
+        },
+    }
+}
+
+// The field at a place of a content: for whoever walks from field to field.
+#[no_mangle]
+pub extern "C" fn ftd_field_at(content: &[u8], at: usize) -> FtdField
+    ensures { λ r. ⌜ r ≡ fieldNumbers (fieldAt (now (content .entry)) at) ⌝ }
+{
+    let n = field_size(content, at);
+    if n == 0 {
+        return FtdField {
+            start: 0,
+            len: 0,
+            fid: 0,
+            found: 0,
+        };
+    }
+    FtdField {
+        start: at + 6,
+        len: n - 6,
+        fid: be32(content, at),
+        found: 1,
+    }
+}
+
+// 0 is up, any other number down.
+fn direction_for(d: u8) -> Direction
+    ensures { λ r. ⌜ r ≡ directionFor d ⌝ }
+{
+    if d == 0 {
+        return Direction::Up;
+    }
+    Direction::Down
+}
+
+// The content check: 0, or the number of the first refusal.
+#[no_mangle]
+pub extern "C" fn ftd_check(tid: u32, direction: u8, content: &[u8], limit: usize) -> u8
+    ensures { λ r. ⌜ r ≡ verdictNumber (contentOf tid (directionFor direction) (now (content .entry)) limit) ⌝ }
+{
+    match check_content(tid, direction_for(direction), content, limit) {
+        Verdict::Passed => 0,
+        Verdict::Refused(r) => number(r),
+    }
+}
+
+// The trade date that a number says there is, or none.
+fn date_for(dated: u8, date: u32) -> TradeDate
+    ensures { λ r. ⌜ r ≡ dateFor dated date ⌝ }
+{
+    if dated == 0 {
+        return TradeDate::None;
+    }
+    TradeDate::At(date)
+}
+
+// What a message's packets bear.
+fn message_for(m: FtdMessage) -> Message
+    ensures { λ r. ⌜ r ≡ messageFor m ⌝ }
+{
+    Message {
+        date: date_for(m.dated, m.date),
+        tid: m.tid,
+        series: m.series,
+        number: m.number,
+    }
+}
+
+// How many packets and bytes a message takes.
+#[no_mangle]
+pub extern "C" fn ftd_size(m: FtdMessage, content: &[u8]) -> FtdSize
+    ensures { λ r. ⌜ r ≡ sizeNumbers (sizeAnswer (messageFor m) (now (content .entry))) ⌝ }
+{
+    match chain_size(message_for(m), content) {
+        ChainSize::Takes(s) => FtdSize {
+            packets: s.packets,
+            bytes: s.bytes,
+            refusal: 0,
+        },
+        ChainSize::Refused(r) => FtdSize {
+            packets: 0,
+            bytes: 0,
+            refusal: number(r),
+        },
+    }
+}
+
+// All packets of a message, one behind the other; refused, the output is as it was.
+#[no_mangle]
+pub extern "C" fn ftd_write(m: FtdMessage, content: &[u8], out: &mut [u8]) -> FtdWritten
+    ensures { λ r. ⌜ (r ≡ writtenNumbers (answerOf (chainVerdict (now (content .entry))) (joined (packetsOf (messageFor m) (now (content .entry)))) (now (out .entry)))) × (now (out .exit) ≡ outputOf (chainVerdict (now (content .entry))) (joined (packetsOf (messageFor m) (now (content .entry)))) (now (out .entry))) ⌝ }
+{
+    match write_chain(message_for(m), content, out) {
+        Written::Bytes(n) => FtdWritten {
+            bytes: n,
+            refusal: 0,
+        },
+        Written::Refused(r) => FtdWritten {
+            bytes: 0,
+            refusal: number(r),
+        },
+        Written::NotPlain => FtdWritten {
+            bytes: 0,
+            refusal: 255,
+        },
+        Written::NoPacket => FtdWritten {
+            bytes: 0,
+            refusal: 255,
+        },
+    }
+}

@@ -1,0 +1,93 @@
+#!/usr/bin/env bash
+# Deliberate faults, each in a copy of one side: the differential test must find every one of them.
+#   tests/faults.sh          faults of the reader, and one of the library's exported functions
+#   tests/faults.sh --long   also one of the library's tables, with its definition: the whole crate is proved anew
+# A fault of the library is one of its definitions and its code together, so that it is proved and built: the kind that no proof finds.
+# Needs what tests/run.sh has built.
+set -u
+root=$(cd "$(dirname "$0")/.." && pwd)
+work=$(mktemp -d)
+trap 'rm -rf "$work"' EXIT
+missed=0
+
+# Replaces a text that must be there, in the copy.
+change() { # FILE OLD NEW
+    if [ "$(grep -cF -- "$2" "$1")" -ne 1 ]; then
+        echo "$1: '$2' stands there $(grep -cF -- "$2" "$1") times, not once"
+        exit 1
+    fi
+    OLD=$2 NEW=$3 perl -0pi -e 's/\Q$ENV{OLD}\E/$ENV{NEW}/' "$1"
+}
+
+fresh_reader() {
+    rm -rf "$work/tests"
+    mkdir -p "$work/tests"
+    for part in reader outside; do
+        mkdir "$work/tests/$part"
+        (cd "$root/tests/$part" && tar cf - --exclude=./target .) | tar xf - -C "$work/tests/$part"
+    done
+}
+
+# Builds the copies with the library of a folder, and expects differences.
+expect() { # WHAT LIBRARY
+    if ! (cd "$work/tests/outside" && FTD_LIBRARY=$2 CARGO_TARGET_DIR=$work/cargo CARGO_PROFILE_RELEASE_LTO=off \
+        cargo build --release --offline --quiet); then
+        echo "$1: the copy doesn't build"
+        exit 1
+    fi
+    if "$work/cargo/release/differ" 100000 1 >"$work/out" 2>&1; then
+        echo "MISSED: $1"
+        missed=$((missed + 1))
+    elif grep -q '^DIFFERENCE' "$work/out"; then
+        echo "caught: $1"
+        grep -m1 -A2 '^DIFFERENCE' "$work/out" | cut -c1-160 | sed 's/^/    /'
+    else
+        echo "$1: the test broke off:"
+        tail -3 "$work/out"
+        exit 1
+    fi
+}
+
+echo "- the reader"
+fresh_reader
+change "$work/tests/reader/src/packet.rs" 'extension_length > 127' 'extension_length > 126'
+expect "the longest extension is 126" "$root/target/staticlib"
+fresh_reader
+change "$work/tests/reader/src/cut.rs" 'to + length - from > MOST_CONTENT' 'to + length - from >= MOST_CONTENT'
+expect "a packet is cut one byte early" "$root/target/staticlib"
+fresh_reader
+change "$work/tests/reader/src/items.rs" '(b == 0x7F)' '(b == 0x7E)'
+expect "0x7F is text, and 0x7E isn't" "$root/target/staticlib"
+
+# A copy of the repository's library with one thing changed in code and definition, proved and built.
+fresh_library() {
+    rm -rf "$work/library"
+    mkdir -p "$work/library/crates" "$work/library/target"
+    cp -R "$root/crates/ftd" "$root/crates/exports" "$work/library/crates/"
+    printf 'ftd:\nexports: ftd\n' >"$work/library/crates.txt"
+    # What is proved of ftd is taken over where ftd isn't changed.
+    cp -R "$root/target/rlib" "$root/target/stamp" "$work/library/target/"
+}
+prove() {
+    if ! (cd "$work/library" && rt staticlib exports) >"$work/proved" 2>&1; then
+        tail -5 "$work/proved"
+        echo "the faulty library isn't proved"
+        exit 1
+    fi
+}
+
+echo "- the library"
+fresh_reader
+fresh_library
+change "$work/library/crates/exports/src/lib.rt" 'number: h.number,' 'number: h.tid,'
+change "$work/library/crates/exports/specs/Numbers.antt" 'number = h .number;' 'number = h .tid;'
+prove
+expect "a message's number is its TID, and so says its definition" "$work/library/target/staticlib"
+if [ "${1:-}" = --long ]; then
+    fresh_library
+    change "$work/library/crates/ftd/src/tags.rt" '= [0, 4, 1, 1, 0, 4, 2];' '= [0, 4, 1, 1, 0, 4, 3];'
+    change "$work/library/crates/ftd/specs/Tags.antt" 'known 6 2 ∷ []' 'known 6 3 ∷ []'
+    prove
+    expect "tag 0x06 has three bytes, and so says its definition" "$work/library/target/staticlib"
+fi
+[ "$missed" -eq 0 ]

@@ -1,0 +1,197 @@
+//! The benchmark: `bench [RUNS [PASSES [ONLY]]]`. Both sides in turn on the same bytes. A ratio is the reader's time over the
+//! library's: above 1 the library is faster. Each run gives the ratio of the best passes and that of the medians.
+
+use reader::cut::{write_message, Header};
+use reader::generate::{capture, content, raw_field, Random};
+use reader::makeup::{self, Direction};
+use reader::packet::{self, Packet};
+use reader::tables::MESSAGES;
+use std::hint::black_box;
+use std::time::Instant;
+
+struct Bench {
+    runs: usize,
+    passes: usize,
+    only: Option<String>,
+}
+
+impl Bench {
+    /// Times two sides that answer the same number, so that no work can be left out.
+    fn compare(&self, name: &str, mut library: impl FnMut() -> u64, mut reader: impl FnMut() -> u64) {
+        match self.only.as_deref() {
+            // One pass of one side, for a profile.
+            Some(only) if only == format!("{name}/library") => {
+                black_box(library());
+                return;
+            }
+            Some(only) if only == format!("{name}/reader") => {
+                black_box(reader());
+                return;
+            }
+            Some(_) => return,
+            None => {}
+        }
+        assert_eq!(library(), reader(), "{name}: both sides give the same");
+        let time = |side: &mut dyn FnMut() -> u64| {
+            let start = Instant::now();
+            black_box(side());
+            start.elapsed().as_secs_f64() * 1e3
+        };
+        let (mut bests, mut medians) = (vec![], vec![]);
+        let (mut library_best, mut reader_best) = (f64::MAX, f64::MAX);
+        for _ in 0..self.runs {
+            let (mut ours, mut theirs) = (vec![], vec![]);
+            for _ in 0..self.passes {
+                ours.push(time(&mut library));
+                theirs.push(time(&mut reader));
+            }
+            ours.sort_by(f64::total_cmp);
+            theirs.sort_by(f64::total_cmp);
+            bests.push(theirs[0] / ours[0]);
+            medians.push(theirs[theirs.len() / 2] / ours[ours.len() / 2]);
+            library_best = library_best.min(ours[0]);
+            reader_best = reader_best.min(theirs[0]);
+        }
+        bests.sort_by(f64::total_cmp);
+        medians.sort_by(f64::total_cmp);
+        let spread = |r: &[f64]| format!("{:.2} ({:.2} to {:.2})", r[r.len() / 2], r[0], r[r.len() - 1]);
+        println!(
+            "{name:<24} library {library_best:8.3} ms, reader {reader_best:8.3} ms; ratio of bests {}, of medians {}",
+            spread(&bests),
+            spread(&medians)
+        );
+    }
+}
+
+fn main() {
+    let words: Vec<String> = std::env::args().skip(1).collect();
+    let number = |i: usize, or: usize| words.get(i).map_or(or, |word| word.parse().expect("a number"));
+    let bench = Bench { runs: number(0, 5), passes: number(1, 21), only: words.get(2).cloned() };
+
+    let bytes = capture(1, 8 << 20);
+    let mut packets = vec![];
+    let mut at = 0;
+    while at < bytes.len() {
+        let end = at + outside::read(&bytes[at..]).end();
+        packets.push(&bytes[at..end]);
+        at = end;
+    }
+    // Each message content, with a direction in which its make-up is right, if there is one.
+    let contents: Vec<(u32, Direction, &[u8])> = packets
+        .iter()
+        .filter_map(|bytes| match packet::read(bytes) {
+            Packet::Message(m) => {
+                let right = |d: &Direction| makeup::check(m.tid, *d, m.content, 4080).is_ok();
+                let direction = [Direction::Down, Direction::Up].into_iter().find(right).unwrap_or(Direction::Down);
+                Some((m.tid, direction, m.content))
+            }
+            _ => None,
+        })
+        .collect();
+    let fields: usize = contents.iter().map(|(_, _, content)| packet::fields(content).count()).sum();
+    if bench.only.is_none() {
+        println!(
+            "{:.1} MB, {} packets, {} message packets, {fields} fields; {} runs of {} passes",
+            bytes.len() as f64 / 1e6,
+            packets.len(),
+            contents.len(),
+            bench.runs,
+            bench.passes
+        );
+    }
+
+    bench.compare(
+        "read",
+        || packets.iter().map(|bytes| outside::read(bytes)).map(|p| u64::from(p.tid) + u64::from(p.number) + p.end() as u64).sum(),
+        || {
+            packets
+                .iter()
+                .map(|bytes| match packet::read(bytes) {
+                    Packet::Message(m) => u64::from(m.tid) + u64::from(m.number) + m.length as u64,
+                    Packet::Link { length, .. } | Packet::Skipped { length, .. } => length as u64,
+                    _ => 0,
+                })
+                .sum()
+        },
+    );
+    bench.compare(
+        "read with fields",
+        || {
+            let mut sum = 0;
+            for bytes in &packets {
+                let p = outside::read(bytes);
+                if p.answer == outside::MESSAGE {
+                    let content = &bytes[p.start..p.start + p.len];
+                    let mut at = 0;
+                    loop {
+                        let field = outside::field_at(content, at);
+                        if field.found == 0 {
+                            break;
+                        }
+                        sum += u64::from(field.fid) + field.len as u64;
+                        at = field.start + field.len;
+                    }
+                }
+            }
+            sum
+        },
+        || {
+            let mut sum = 0;
+            for bytes in &packets {
+                if let Packet::Message(m) = packet::read(bytes) {
+                    for field in packet::fields(m.content).flatten() {
+                        sum += u64::from(field.fid) + field.value.len() as u64;
+                    }
+                }
+            }
+            sum
+        },
+    );
+    bench.compare(
+        "fields by index",
+        || packets.iter().map(|bytes| (0..8).map(|i| outside::field(bytes, i).len as u64).sum::<u64>()).sum(),
+        || {
+            let one = |bytes, i| packet::field(bytes, i).map_or(0, |value| value.len() as u64);
+            packets.iter().map(|bytes| (0..8).map(|i| one(bytes, i)).sum::<u64>()).sum()
+        },
+    );
+    bench.compare(
+        "check (7 to 10)",
+        || contents.iter().map(|(tid, direction, content)| u64::from(outside::check(*tid, *direction, content, 4080))).sum(),
+        || {
+            contents
+                .iter()
+                .map(|(tid, direction, content)| u64::from(makeup::check(*tid, *direction, content, 4080).err().unwrap_or(0)))
+                .sum()
+        },
+    );
+
+    // Long messages: market data, many short fields, few long ones. The library writes into an output that is there and isn't
+    // cleared, the reader behind a vector that keeps its room.
+    let mut r = Random::new(2);
+    let market = MESSAGES.iter().find(|m| m.tid == 0x2004).expect("MarketMatchData");
+    let short: Vec<u8> = (0..1024).flat_map(|i| raw_field(0x4000, &[i as u8; 26])).collect();
+    let long: Vec<u8> = (0..32).flat_map(|i| raw_field(0x4000, &[i; 1018])).collect();
+    let market = content(&mut r, market, 32_768, true);
+    let header = Header { tid: 0x2004, series: 3, number: 1_000_000, mark: Some(20_040_101) };
+    let mut out = vec![0; 40_000];
+    let mut vector = Vec::with_capacity(40_000);
+    for (name, content) in [("write, market data", &market), ("write, 1024 fields", &short), ("write, 32 fields", &long)] {
+        let times = if bench.only.is_some() { 100 } else { 1000 };
+        bench.compare(
+            name,
+            || (0..times).map(|_| outside::write(&header, black_box(content), &mut out).bytes as u64).sum(),
+            || {
+                let mut one = || {
+                    vector.clear();
+                    write_message(&mut vector, &header, black_box(content));
+                    vector.len() as u64
+                };
+                (0..times).map(|_| one()).sum()
+            },
+        );
+        if bench.only.is_none() {
+            println!("{:<24} {} bytes of content, written {times} times a pass", "", content.len());
+        }
+    }
+}

@@ -1,0 +1,131 @@
+//! Safe wrappers of the proved library: slices in, structs out. The declarations are those of tests/include/ftd.h; nothing but
+//! the tests here checks them against the library.
+
+use reader::cut::Header;
+use reader::makeup::Direction;
+
+pub mod compare;
+
+pub const SHORT: u8 = 0;
+pub const LINK: u8 = 1;
+pub const SKIPPED: u8 = 2;
+pub const MESSAGE: u8 = 3;
+pub const REFUSED: u8 = 4;
+
+/// What some bytes are. What an answer doesn't have is 0.
+#[repr(C)]
+#[derive(Clone, Copy, Debug, Default, PartialEq, Eq)]
+pub struct Packet {
+    pub extension: usize,
+    pub extent: usize,
+    pub start: usize,
+    pub len: usize,
+    pub tid: u32,
+    pub number: u32,
+    pub date: u32,
+    pub series: u16,
+    pub fields: u16,
+    pub answer: u8,
+    pub refusal: u8,
+    pub kind: u8,
+    pub chain: u8,
+    pub dated: u8,
+}
+
+impl Packet {
+    /// Where the packet ends; 0 where there is none.
+    pub fn end(&self) -> usize {
+        match self.answer {
+            LINK => self.extension + self.extent,
+            SKIPPED | MESSAGE => self.start + self.len,
+            _ => 0,
+        }
+    }
+}
+
+#[repr(C)]
+#[derive(Clone, Copy, Debug, Default, PartialEq, Eq)]
+pub struct Field {
+    pub start: usize,
+    pub len: usize,
+    pub fid: u32,
+    pub found: u8,
+}
+
+#[repr(C)]
+#[derive(Clone, Copy, Debug)]
+struct Message {
+    tid: u32,
+    number: u32,
+    date: u32,
+    series: u16,
+    dated: u8,
+}
+
+impl Message {
+    fn of(header: &Header) -> Self {
+        Message {
+            tid: header.tid,
+            number: header.number,
+            date: header.mark.unwrap_or(0),
+            series: header.series,
+            dated: header.mark.is_some().into(),
+        }
+    }
+}
+
+#[repr(C)]
+#[derive(Clone, Copy, Debug, Default, PartialEq, Eq)]
+pub struct Size {
+    pub packets: usize,
+    pub bytes: usize,
+    pub refusal: u8,
+}
+
+#[repr(C)]
+#[derive(Clone, Copy, Debug, Default, PartialEq, Eq)]
+pub struct Written {
+    pub bytes: usize,
+    pub refusal: u8,
+}
+
+extern "C" {
+    fn ftd_read(bytes: *const u8, count: usize) -> Packet;
+    fn ftd_field(bytes: *const u8, count: usize, i: usize) -> Field;
+    fn ftd_field_at(content: *const u8, count: usize, at: usize) -> Field;
+    fn ftd_check(tid: u32, direction: u8, content: *const u8, count: usize, limit: usize) -> u8;
+    fn ftd_size(message: Message, content: *const u8, count: usize) -> Size;
+    fn ftd_write(message: Message, content: *const u8, count: usize, output: *mut u8, room: usize) -> Written;
+}
+
+// No call has a precondition: each takes any bytes and numbers. The slices give the pointers and lengths, and a `&mut` slice
+// overlaps no other.
+
+pub fn read(bytes: &[u8]) -> Packet {
+    unsafe { ftd_read(bytes.as_ptr(), bytes.len()) }
+}
+
+pub fn field(bytes: &[u8], i: usize) -> Field {
+    unsafe { ftd_field(bytes.as_ptr(), bytes.len(), i) }
+}
+
+pub fn field_at(content: &[u8], at: usize) -> Field {
+    unsafe { ftd_field_at(content.as_ptr(), content.len(), at) }
+}
+
+/// 0, or the number of the refusal.
+pub fn check(tid: u32, direction: Direction, content: &[u8], limit: usize) -> u8 {
+    let direction = match direction {
+        Direction::Up => 0,
+        Direction::Down => 1,
+    };
+    unsafe { ftd_check(tid, direction, content.as_ptr(), content.len(), limit) }
+}
+
+pub fn size(header: &Header, content: &[u8]) -> Size {
+    unsafe { ftd_size(Message::of(header), content.as_ptr(), content.len()) }
+}
+
+pub fn write(header: &Header, content: &[u8], output: &mut [u8]) -> Written {
+    unsafe { ftd_write(Message::of(header), content.as_ptr(), content.len(), output.as_mut_ptr(), output.len()) }
+}

@@ -1,0 +1,11 @@
+//! An independent reader of the FTD protocol (JR/T 0016-2004), for tests. It is written from the papers alone and
+//! shares no code, table or generated file with the program that it tests.
+
+pub mod cut;
+pub mod generate;
+pub mod items;
+pub mod lister;
+pub mod makeup;
+pub mod packet;
+#[rustfmt::skip]
+pub mod tables;

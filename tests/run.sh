@@ -1,0 +1,37 @@
+#!/usr/bin/env bash
+# The outside tests: builds the static library, the lister and the Rust side, compares the proved library with the independent reader
+# on generated inputs and captures, shows that deliberate faults are found, and times both sides. Any failure makes it fail.
+#   tests/run.sh           all of it, some minutes on top of the proofs
+#   tests/run.sh --quick   the comparison alone, on fewer inputs: under a minute where the crates are proved already
+# Needs the Rattle kit (rt) and cargo; no network. The benchmark says nothing where the machine is busy.
+set -euo pipefail
+cd "$(dirname "$0")/.."
+root=$PWD
+quick=0
+[ "${1:-}" = --quick ] && quick=1
+
+if ! command -v cargo >/dev/null 2>&1; then
+    echo "outside tests: there is no command cargo"
+    exit 1
+fi
+rt check ftdlist | tail -1
+rt staticlib exports | tail -1
+
+# The header is C, and says what the Rust side says.
+if command -v cc >/dev/null 2>&1; then
+    cc -std=c99 -Wall -Wextra -Werror -o target/header tests/include/header.c target/staticlib/libexports.a -Itests/include
+    target/header
+fi
+
+(cd tests/reader && cargo test --offline --quiet)
+(cd tests/outside && cargo build --release --offline --quiet)
+outside=$root/tests/outside/target/release
+if [ "$quick" -eq 1 ]; then
+    "$outside/differ" 200000 1 "$root/target/bin/ftdlist"
+else
+    "$outside/differ" 2000000 1 "$root/target/bin/ftdlist"
+    "$outside/differ" 1000000 2 "$root/target/bin/ftdlist"
+    bash tests/faults.sh
+    "$outside/bench"
+fi
+echo "outside tests: ok"
