@@ -20,9 +20,9 @@ use Rattle.ftd.specs.declared.fields.FieldPlace.{FieldPlace}
 use Rattle.ftd.specs.declared.fields.FieldPlace.the-variants.{NoField, Field}
 use Rattle.ftd.specs.declared.composition.Direction.{Direction}
 use Rattle.ftd.specs.declared.composition.Direction.the-variants.{Up, Down}
-use Rattle.ftd.specs.declared.items.Verdict.{Verdict}
-use Rattle.ftd.specs.declared.items.Verdict.the-variants.{Passed}
-use Rattle.ftd.specs.declared.items.Verdict.the-variants.{Refused as Against}
+use Rattle.ftd.specs.declared.items.Checked.{Checked}
+use Rattle.ftd.specs.declared.items.Checked.the-variants.{Passed}
+use Rattle.ftd.specs.declared.items.Checked.the-variants.{Refused as Against}
 use Rattle.ftd.specs.declared.chain.Message.{Message as Outgoing}
 use Rattle.ftd.specs.declared.chain.ChainSize.{ChainSize}
 use Rattle.ftd.specs.declared.chain.ChainSize.the-variants.{Takes}
@@ -149,7 +149,7 @@ fieldAt content at =
 unfoldable pub directionFor : ℕ → Direction
 directionFor d = cond (eqb d 0) Up Down
 
-abbrev pub verdictNumber : Verdict → ℕ
+abbrev pub verdictNumber : Checked → ℕ
 verdictNumber Passed = 0
 verdictNumber (Against r) = numberOf r
 

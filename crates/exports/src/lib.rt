@@ -20,7 +20,7 @@ use ftd::composition::Direction;
 use ftd::content::check_content;
 use ftd::fields::FieldPlace;
 use ftd::fields::field_size;
-use ftd::items::Verdict;
+use ftd::items::Checked;
 use ftd::packet::Header;
 use ftd::packet::Packet;
 use ftd::packet::Span;
@@ -300,8 +300,8 @@ pub extern "C" fn ftd_check(tid: u32, direction: u8, content: &[u8], limit: usiz
     ensures { λ r. ⌜ r ≡ verdictNumber (contentOf tid (directionFor direction) (now (content .entry)) limit) ⌝ }
 {
     match check_content(tid, direction_for(direction), content, limit) {
-        Verdict::Passed => 0,
-        Verdict::Refused(r) => number(r),
+        Checked::Passed => 0,
+        Checked::Refused(r) => number(r),
     }
 }
 
