@@ -9,6 +9,7 @@ use crate::bytes::size16;
 // The last FID of Appendix D.
 pub(crate) const LAST_FID: u32 = 46;
 
+// The kind of each row (specs/Table.antt says which number is which type, and names the rows).
 const KIND: [u8; 379] = [
     3,
     8,
@@ -391,6 +392,7 @@ const KIND: [u8; 379] = [
     3,
 ];
 
+// The width of each row, in bytes.
 const WIDTH: [u16; 379] = [
     3,
     1,
@@ -773,6 +775,7 @@ const WIDTH: [u16; 379] = [
     20,
 ];
 
+// The decimals of each row: Float only, else 0.
 const SCALE: [u8; 379] = [
     0,
     0,
@@ -1155,6 +1158,7 @@ const SCALE: [u8; 379] = [
     0,
 ];
 
+// The first row of each field, by FID; 0 is no FID.
 const START: [u16; 47] = [
     0,
     0,
@@ -1205,6 +1209,7 @@ const START: [u16; 47] = [
     47,
 ];
 
+// How many rows each field has, by FID.
 const COUNT: [u8; 47] = [
     0,
     8,
@@ -1255,6 +1260,7 @@ const COUNT: [u8; 47] = [
     2,
 ];
 
+// The width of each field in bytes, by FID.
 const WIDE: [u16; 47] = [
     0,
     822,
