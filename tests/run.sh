@@ -2,7 +2,7 @@
 # The outside tests: builds the static library, the lister and the Rust side, compares the proved library with the independent reader
 # on generated inputs and captures, shows that deliberate faults are found, and times both sides. Any failure makes it fail.
 #   tests/run.sh           all of it, some minutes on top of the proofs
-#   tests/run.sh --quick   the comparison alone, on fewer inputs: under a minute where the crates are proved already
+#   tests/run.sh --quick   the comparison alone, on a million inputs: a minute or so where the crates are proved already
 # Needs the Rattle kit (rt) and cargo; no network. The benchmark says nothing where the machine is busy.
 set -euo pipefail
 cd "$(dirname "$0")/.."
@@ -27,7 +27,7 @@ fi
 (cd tests/outside && cargo build --release --offline --quiet)
 outside=$root/tests/outside/target/release
 if [ "$quick" -eq 1 ]; then
-    "$outside/differ" 200000 1 "$root/target/bin/ftdlist"
+    "$outside/differ" 1000000 1 "$root/target/bin/ftdlist"
 else
     "$outside/differ" 2000000 1 "$root/target/bin/ftdlist"
     "$outside/differ" 1000000 2 "$root/target/bin/ftdlist"

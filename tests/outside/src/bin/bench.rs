@@ -1,13 +1,31 @@
 //! The benchmark: `bench [RUNS [PASSES [ONLY]]]`. Both sides in turn on the same bytes. A ratio is the reader's time over the
-//! library's: above 1 the library is faster. Each run gives the ratio of the best passes and that of the medians.
+//! library's: above 1 the library is faster. Each run gives the ratio of the best passes and that of the medians; printed are the
+//! median of the runs and their range. Times are processor time of this thread, so that other work on the machine counts less.
 
-use reader::cut::{write_message, Header};
+use reader::cut::{cut, write_message, Header};
 use reader::generate::{capture, content, raw_field, Random};
 use reader::makeup::{self, Direction};
 use reader::packet::{self, Packet};
 use reader::tables::MESSAGES;
 use std::hint::black_box;
-use std::time::Instant;
+
+#[repr(C)]
+struct Time {
+    seconds: i64,
+    nanoseconds: i64,
+}
+
+extern "C" {
+    fn clock_gettime(clock: i32, time: *mut Time) -> i32;
+}
+
+/// Processor time of this thread, in milliseconds (Linux).
+fn now() -> f64 {
+    const CLOCK_THREAD_CPUTIME_ID: i32 = 3;
+    let mut time = Time { seconds: 0, nanoseconds: 0 };
+    assert_eq!(unsafe { clock_gettime(CLOCK_THREAD_CPUTIME_ID, &mut time) }, 0);
+    time.seconds as f64 * 1e3 + time.nanoseconds as f64 / 1e6
+}
 
 struct Bench {
     runs: usize,
@@ -33,9 +51,9 @@ impl Bench {
         }
         assert_eq!(library(), reader(), "{name}: both sides give the same");
         let time = |side: &mut dyn FnMut() -> u64| {
-            let start = Instant::now();
+            let start = now();
             black_box(side());
-            start.elapsed().as_secs_f64() * 1e3
+            now() - start
         };
         let (mut bests, mut medians) = (vec![], vec![]);
         let (mut library_best, mut reader_best) = (f64::MAX, f64::MAX);
@@ -61,6 +79,47 @@ impl Bench {
             spread(&medians)
         );
     }
+}
+
+/// The reader as a function that isn't inlined and gives the library's struct.
+#[inline(never)]
+fn called_read(bytes: &[u8]) -> outside::Packet {
+    outside::compare::numbers(bytes)
+}
+
+#[inline(never)]
+fn called_field_at(content: &[u8], at: usize) -> outside::Field {
+    match content.get(at..).and_then(|left| packet::fields(left).next()) {
+        Some(Ok(one)) => {
+            outside::Field { start: at + packet::FIELD_HEADER, len: one.value.len(), fid: one.fid, found: 1 }
+        }
+        _ => outside::Field::default(),
+    }
+}
+
+/// Packets with their fields, by one side's functions.
+fn walked(
+    packets: &[&[u8]],
+    read: impl Fn(&[u8]) -> outside::Packet,
+    field_at: impl Fn(&[u8], usize) -> outside::Field,
+) -> u64 {
+    let mut sum = 0;
+    for bytes in packets {
+        let p = read(bytes);
+        if p.answer == outside::MESSAGE {
+            let content = &bytes[p.start..p.start + p.len];
+            let mut at = 0;
+            loop {
+                let field = field_at(content, at);
+                if field.found == 0 {
+                    break;
+                }
+                sum += u64::from(field.fid) + field.len as u64;
+                at = field.start + field.len;
+            }
+        }
+    }
+    sum
 }
 
 fn main() {
@@ -102,7 +161,13 @@ fn main() {
 
     bench.compare(
         "read",
-        || packets.iter().map(|bytes| outside::read(bytes)).map(|p| u64::from(p.tid) + u64::from(p.number) + p.end() as u64).sum(),
+        || {
+            packets
+                .iter()
+                .map(|bytes| outside::read(bytes))
+                .map(|p| u64::from(p.tid) + u64::from(p.number) + p.end() as u64)
+                .sum()
+        },
         || {
             packets
                 .iter()
@@ -116,25 +181,7 @@ fn main() {
     );
     bench.compare(
         "read with fields",
-        || {
-            let mut sum = 0;
-            for bytes in &packets {
-                let p = outside::read(bytes);
-                if p.answer == outside::MESSAGE {
-                    let content = &bytes[p.start..p.start + p.len];
-                    let mut at = 0;
-                    loop {
-                        let field = outside::field_at(content, at);
-                        if field.found == 0 {
-                            break;
-                        }
-                        sum += u64::from(field.fid) + field.len as u64;
-                        at = field.start + field.len;
-                    }
-                }
-            }
-            sum
-        },
+        || walked(&packets, outside::read, outside::field_at),
         || {
             let mut sum = 0;
             for bytes in &packets {
@@ -147,6 +194,29 @@ fn main() {
             sum
         },
     );
+    // The same with the reader behind the library's boundary: its functions are called, and give the library's structs.
+    bench.compare(
+        "read, as a call",
+        || {
+            packets
+                .iter()
+                .map(|bytes| outside::read(bytes))
+                .map(|p| u64::from(p.tid) + u64::from(p.number) + p.end() as u64)
+                .sum()
+        },
+        || {
+            packets
+                .iter()
+                .map(|bytes| called_read(bytes))
+                .map(|p| u64::from(p.tid) + u64::from(p.number) + p.end() as u64)
+                .sum()
+        },
+    );
+    bench.compare(
+        "with fields, as calls",
+        || walked(&packets, outside::read, outside::field_at),
+        || walked(&packets, called_read, called_field_at),
+    );
     bench.compare(
         "fields by index",
         || packets.iter().map(|bytes| (0..8).map(|i| outside::field(bytes, i).len as u64).sum::<u64>()).sum(),
@@ -157,11 +227,18 @@ fn main() {
     );
     bench.compare(
         "check (7 to 10)",
-        || contents.iter().map(|(tid, direction, content)| u64::from(outside::check(*tid, *direction, content, 4080))).sum(),
         || {
             contents
                 .iter()
-                .map(|(tid, direction, content)| u64::from(makeup::check(*tid, *direction, content, 4080).err().unwrap_or(0)))
+                .map(|(tid, direction, content)| u64::from(outside::check(*tid, *direction, content, 4080)))
+                .sum()
+        },
+        || {
+            contents
+                .iter()
+                .map(|(tid, direction, content)| {
+                    u64::from(makeup::check(*tid, *direction, content, 4080).err().unwrap_or(0))
+                })
                 .sum()
         },
     );
@@ -176,7 +253,9 @@ fn main() {
     let header = Header { tid: 0x2004, series: 3, number: 1_000_000, mark: Some(20_040_101) };
     let mut out = vec![0; 40_000];
     let mut vector = Vec::with_capacity(40_000);
-    for (name, content) in [("write, market data", &market), ("write, 1024 fields", &short), ("write, 32 fields", &long)] {
+    for (name, content) in
+        [("write, market data", &market), ("write, 1024 fields", &short), ("write, 32 fields", &long)]
+    {
         let times = if bench.only.is_some() { 100 } else { 1000 };
         bench.compare(
             name,
@@ -189,6 +268,12 @@ fn main() {
                 };
                 (0..times).map(|_| one()).sum()
             },
+        );
+        // Without the bytes: where the cuts are.
+        bench.compare(
+            &name.replace("write", "cut"),
+            || (0..times).map(|_| outside::size(&header, black_box(content)).packets as u64).sum(),
+            || (0..times).map(|_| cut(black_box(content)).map_or(0, |parts| parts.len() as u64)).sum(),
         );
         if bench.only.is_none() {
             println!("{:<24} {} bytes of content, written {times} times a pass", "", content.len());

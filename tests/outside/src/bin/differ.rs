@@ -3,7 +3,9 @@
 
 use outside::compare::{self, hex, Asked};
 use outside::{Packet, LINK, MESSAGE, SKIPPED};
-use reader::generate::{capture, capture_input, content_input, header, message_content, packet_input, Form, Random, FORMS};
+use reader::generate::{
+    capture, capture_input, content_input, header, message_content, packet_input, Form, Random, FORMS,
+};
 use reader::lister;
 use reader::makeup::Direction;
 use reader::tables::TIDS;
@@ -51,7 +53,8 @@ impl Run {
         if rest.is_ok() && packet.answer == MESSAGE {
             let content = &bytes[packet.start..packet.start + packet.len];
             for direction in [Direction::Up, Direction::Down] {
-                rest = rest.and_then(|()| compare::check(&mut self.asked, packet.tid, direction, content, 4080).map(|_| ()));
+                rest = rest
+                    .and_then(|()| compare::check(&mut self.asked, packet.tid, direction, content, 4080).map(|_| ()));
             }
         }
         self.note(what, bytes, rest);
@@ -73,7 +76,11 @@ impl Run {
                 let all = given
                     .and_then(|_| compare::checks(&mut self.asked, input.tid, &input.content))
                     .and_then(|()| compare::place(&mut self.asked, &input.content, at));
-                self.note(&format!("a content ({form:?}), {:#06x} {:?}", input.tid, input.direction), &input.content, all);
+                self.note(
+                    &format!("a content ({form:?}), {:#06x} {:?}", input.tid, input.direction),
+                    &input.content,
+                    all,
+                );
             }
             _ => {
                 // Every other message is one of content that is right.
