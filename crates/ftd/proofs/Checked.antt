@@ -59,6 +59,22 @@ module _ (k : Class) (s : List ℕ) (i to : ℕ) (fits : to ≤ length s) (t : B
     pub every-turn : r ≡ true → every (inClass k) (drop (i + 1) (take to s)) ≡ t
     every-turn w = rw (← q, w) at (step h)
 
+-- The same for a walk to the end: what was found so far, and the rest.
+module _ (k : Class) (s : List ℕ) (i to : ℕ) (fits : to ≤ length s) (t g : Bool) (inv : (g && every (inClass k) (drop i (take to s))) ≡ t) where
+  pub all-end : to ≤ i → g ≡ t
+  all-end h = go g (rw (← (every-end k s i to fits (every (inClass k) (drop i (take to s))) refl h)) at inv)
+    where
+      go : (x : Bool) → (x && true) ≡ t → x ≡ t
+      go true e = e
+      go false e = e
+
+  pub all-turn : i < to → (r : Bool) → r ≡ inClass k (getD s i 0) → (n : Bool) → n ≡ (g && r) → (n && every (inClass k) (drop (i + 1) (take to s))) ≡ t
+  all-turn h r q n p = rw p (go g r (every (inClass k) (drop (i + 1) (take to s))) (rw (← (rw (← q) at (step k s i to fits (every (inClass k) (drop i (take to s))) refl h))) at inv))
+    where
+      go : (x y z : Bool) → (x && (y && z)) ≡ t → ((x && y) && z) ≡ t
+      go true y z e = e
+      go false y z e = e
+
 pub every-append : (p : ℕ → Bool) (a b : List ℕ) → every p (a ++ b) ≡ (every p a && every p b)
 every-append p [] b = refl
 every-append p (x ∷ xs) b = go (p x) (every-append p xs b)

@@ -11,7 +11,7 @@ use lib.ListN.{length, getD, take, drop, List·getD-eq-default, List·getD-map, 
 use lib.Seq.{getD-take, getD-drop, drop-cons}
 use lib.Dec.{leb, ltb, eqb, T, eqb→eq, leb→le, ltb→lt}
 use Rattle.ftd.specs.Table.{Row, row, table, keep, total, rowsOf}
-use Rattle.ftd.specs.TableRule.{Place, place, places, placeOf, rowAt, rightForm, rowHolds, rowsHold, sameRow, sameRows, fieldHolds, allBelow, ruled, RowRule, FieldRule, TableRule}
+use Rattle.ftd.specs.TableRule.{kindColumn, widthColumn, scaleColumn, Place, place, places, placeOf, rowAt, rightForm, rowHolds, rowsHold, sameRow, sameRows, fieldHolds, allBelow, ruled, RowRule, FieldRule, TableRule}
 
 test : T ruled
 unfolding table rowsOf places
@@ -155,15 +155,6 @@ table-rule = record { each = row-rule; field = λ fid. go fid (ltb fid 47) refl 
 
 -- ─── The columns, as the code has them ───
 
-unfoldable pub kinds : List ℕ
-kinds = map (λ (r : Row). r .kind) table
-
-unfoldable pub widths : List ℕ
-widths = map (λ (r : Row). r .width) table
-
-unfoldable pub scales : List ℕ
-scales = map (λ (r : Row). r .scale) table
-
 unfoldable pub starts : List ℕ
 starts = map (λ (p : Place). p .start) places
 
@@ -174,16 +165,16 @@ unfoldable pub wides : List ℕ
 wides = map (λ (p : Place). p .wide) places
 
 module _ (i : ℕ) where
-  pub kind-col : getD kinds i 0 ≡ getD table i none .kind
-  unfolding kinds
+  pub kind-col : getD kindColumn i 0 ≡ getD table i none .kind
+  unfolding kindColumn
   kind-col = List·getD-map (λ (r : Row). r .kind) table i none
 
-  pub width-col : getD widths i 0 ≡ getD table i none .width
-  unfolding widths
+  pub width-col : getD widthColumn i 0 ≡ getD table i none .width
+  unfolding widthColumn
   width-col = List·getD-map (λ (r : Row). r .width) table i none
 
-  pub scale-col : getD scales i 0 ≡ getD table i none .scale
-  unfolding scales
+  pub scale-col : getD scaleColumn i 0 ≡ getD table i none .scale
+  unfolding scaleColumn
   scale-col = List·getD-map (λ (r : Row). r .scale) table i none
 
   pub start-col : getD starts i 0 ≡ placeOf i .start

@@ -2,7 +2,7 @@
 -- widths add up to the field's width, fields don't overlap. One test computes it over the whole table.
 use Prim.Native.Nat.{ℕ, zero, suc, _+_, _<_, _≤_}
 use mathlib.Core.Path.{_≡_}
-use mathlib.Core.List.{List, [], _∷_}
+use mathlib.Core.List.{List, [], _∷_, map}
 use mathlib.Core.Bool.{Bool, true, false, cond, _&&_}
 use lib.ListN.{getD, take, drop}
 use lib.Dec.{leb, ltb, eqb}
@@ -77,6 +77,16 @@ placeOf fid = getD places fid (place 0 0 0)
 -- Row i, counted from 0 over the whole table.
 abbrev pub rowAt : ℕ → Row
 rowAt i = getD table i (row 0 0 0 0)
+
+-- The columns of the table.
+unfoldable pub kindColumn : List ℕ
+kindColumn = map (λ (r : Row). r .kind) table
+
+unfoldable pub widthColumn : List ℕ
+widthColumn = map (λ (r : Row). r .width) table
+
+unfoldable pub scaleColumn : List ℕ
+scaleColumn = map (λ (r : Row). r .scale) table
 
 -- ─── The test ───
 

@@ -3,13 +3,16 @@ ghost use mathlib.Core.Bool.{true};
 ghost use mathlib.Core.Path.{_≡_};
 ghost use Prim.Native.Nat.{_+_, _<_, _≤_};
 ghost use lib.ListN.{length, take, drop};
-ghost use Rattle.ftd.specs.TableRule.{rowAt};
+ghost use Rattle.ftd.specs.TableRule.{rowAt, kindColumn, widthColumn, scaleColumn};
 ghost use Rattle.ftd.specs.Items.{otherWidth, wrongWidth, itemGood, walkOf, checkOf};
 use crate::bytes::be32;
 use crate::bytes::size32;
 use crate::fields::field_size;
 use crate::refusal::Refusal;
+use crate::table::KIND;
 use crate::table::LAST_FID;
+use crate::table::SCALE;
+use crate::table::WIDTH;
 use crate::table::count_of;
 use crate::table::end_of;
 use crate::table::kind_at;
@@ -56,21 +59,36 @@ pub fn wrong_width(content: &[u8]) -> bool
 }
 
 // The item of a row stands whole between two places, and is a value.
-fn item_good(content: &[u8], row: usize, pos: usize, end: usize) -> bool
-    requires { ⌜ (row < 379) × (pos ≤ end) × (end ≤ length (now content)) ⌝ }
+fn item_good(
+    content: &[u8],
+    kinds: &[u8; 379],
+    widths: &[u16; 379],
+    scales: &[u8; 379],
+    row: usize,
+    pos: usize,
+    end: usize,
+) -> bool
+    requires { ⌜ (now kinds ≡ kindColumn) × (now widths ≡ widthColumn) × (now scales ≡ scaleColumn) × (row < 379) × (pos ≤ end) × (end ≤ length (now content)) ⌝ }
     ensures { λ r. ⌜ (r ≡ itemGood (rowAt row) (drop pos (take end (now (content .entry))))) × (r ≡ true → pos + rowAt row .width ≤ end) ⌝ }
 {
-    let width = width_at(row);
+    let width = width_at(widths, row);
     if end - pos < width {
         return false;
     }
-    is_value(kind_at(row), scale_at(row), &content[pos..pos + width])
+    is_value(
+        kind_at(kinds, row),
+        scale_at(scales, row),
+        &content[pos..pos + width],
+    )
 }
 
 // Refusal 9: fields in order, items in each, up to the first item that is wrong. Fields with an unknown FID pass.
 pub fn walk_items(content: &[u8]) -> Checked
     ensures { λ r. ⌜ r ≡ walkOf (now (content .entry)) ⌝ }
 {
+    let kinds = KIND;
+    let widths = WIDTH;
+    let scales = SCALE;
     let mut at: usize = 0;
     'walk: loop {
         let n = field_size(content, at);
@@ -87,8 +105,8 @@ pub fn walk_items(content: &[u8]) -> Checked
         let mut row = start_of(size32(fid));
         let last = end_of(size32(fid));
         'items: while row < last {
-            if item_good(content, row, pos, end) {
-                pos += width_at(row);
+            if item_good(content, &kinds, &widths, &scales, row, pos, end) {
+                pos += width_at(&widths, row);
                 row += 1;
             } else {
                 break 'walk Checked::Refused(Refusal::Item);

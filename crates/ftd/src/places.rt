@@ -2,7 +2,10 @@
 ghost use mathlib.Core.Path.{_≡_};
 ghost use Rattle.ftd.specs.Places.{itemOf, itemBytes};
 use crate::bytes::size32;
+use crate::table::KIND;
 use crate::table::LAST_FID;
+use crate::table::SCALE;
+use crate::table::WIDTH;
 use crate::table::end_of;
 use crate::table::kind_at;
 use crate::table::scale_at;
@@ -27,6 +30,9 @@ pub fn item_place(fid: u32, i: usize) -> ItemPlace
     if LAST_FID < fid {
         return ItemPlace::NoItem;
     }
+    let kinds = KIND;
+    let widths = WIDTH;
+    let scales = SCALE;
     let mut row = start_of(size32(fid));
     let last = end_of(size32(fid));
     let mut at: usize = 0;
@@ -34,13 +40,13 @@ pub fn item_place(fid: u32, i: usize) -> ItemPlace
     while row < last {
         if left == 0 {
             return ItemPlace::Item {
-                kind: kind_at(row),
-                scale: scale_at(row),
+                kind: kind_at(&kinds, row),
+                scale: scale_at(&scales, row),
                 start: at,
-                width: width_at(row),
+                width: width_at(&widths, row),
             };
         }
-        at += width_at(row);
+        at += width_at(&widths, row);
         left -= 1;
         row += 1;
     }

@@ -2,7 +2,7 @@
 // A look-up takes no search: FIDs are 1 to 46, and START, COUNT and WIDE have an entry for each.
 ghost use mathlib.Core.Path.{_≡_};
 ghost use Prim.Native.Nat.{_+_, _<_, _≤_};
-ghost use Rattle.ftd.specs.TableRule.{placeOf, TableRule, rowAt};
+ghost use Rattle.ftd.specs.TableRule.{placeOf, TableRule, rowAt, kindColumn, widthColumn, scaleColumn};
 use crate::bytes::size8;
 use crate::bytes::size16;
 
@@ -10,7 +10,7 @@ use crate::bytes::size16;
 pub(crate) const LAST_FID: u32 = 46;
 
 // The kind of each row (specs/Table.antt says which number is which type, and names the rows).
-const KIND: [u8; 379] = [
+pub(crate) const KIND: [u8; 379] = [
     3,
     8,
     3,
@@ -393,7 +393,7 @@ const KIND: [u8; 379] = [
 ];
 
 // The width of each row, in bytes.
-const WIDTH: [u16; 379] = [
+pub(crate) const WIDTH: [u16; 379] = [
     3,
     1,
     8,
@@ -776,7 +776,7 @@ const WIDTH: [u16; 379] = [
 ];
 
 // The decimals of each row: Float only, else 0.
-const SCALE: [u8; 379] = [
+pub(crate) const SCALE: [u8; 379] = [
     0,
     0,
     0,
@@ -1348,24 +1348,24 @@ pub(crate) fn wide_of(fid: usize) -> usize
     size16(WIDE[fid])
 }
 
-// Kind, width and decimals of a row.
-pub(crate) fn kind_at(row: usize) -> u8
-    requires { ⌜ row < 379 ⌝ }
+// Kind, width and decimals of a row. The columns are lent: a constant array is laid out anew at each use.
+pub(crate) fn kind_at(column: &[u8; 379], row: usize) -> u8
+    requires { ⌜ (row < 379) × (now column ≡ kindColumn) ⌝ }
     ensures { λ r. ⌜ r ≡ rowAt row .kind ⌝ }
 {
-    KIND[row]
+    column[row]
 }
 
-pub(crate) fn width_at(row: usize) -> usize
-    requires { ⌜ row < 379 ⌝ }
+pub(crate) fn width_at(column: &[u16; 379], row: usize) -> usize
+    requires { ⌜ (row < 379) × (now column ≡ widthColumn) ⌝ }
     ensures { λ r. ⌜ (r ≡ rowAt row .width) × (r < 65536) ⌝ }
 {
-    size16(WIDTH[row])
+    size16(column[row])
 }
 
-pub(crate) fn scale_at(row: usize) -> u8
-    requires { ⌜ row < 379 ⌝ }
+pub(crate) fn scale_at(column: &[u8; 379], row: usize) -> u8
+    requires { ⌜ (row < 379) × (now column ≡ scaleColumn) ⌝ }
     ensures { λ r. ⌜ r ≡ rowAt row .scale ⌝ }
 {
-    SCALE[row]
+    column[row]
 }

@@ -1,4 +1,5 @@
 // Which bytes are a value of an item's type (Table 6, Appendix B).
+ghost use mathlib.Core.Bool.{_&&_};
 ghost use mathlib.Core.List.{_++_};
 ghost use mathlib.Core.Path.{_≡_};
 ghost use Prim.Native.Nat.{_+_, _-_, _<_, _≤_};
@@ -121,20 +122,28 @@ fn in_class(class: Class, b: u8) -> bool
     }
 }
 
-// All bytes of a part are of a class.
+// Both hold.
+fn both(a: bool, b: bool) -> bool
+    ensures { λ r. ⌜ r ≡ (a && b) ⌝ }
+{
+    if a {
+        return b;
+    }
+    false
+}
+
+// All bytes of a part are of a class. No early end: many bytes at once are faster.
 pub(crate) fn all_in(class: Class, s: &[u8], from: usize, to: usize) -> bool
     requires { ⌜ (from ≤ to) × (to ≤ length (now s)) ⌝ }
     ensures { λ r. ⌜ r ≡ every (inClass class) (drop from (take to (now (s .entry)))) ⌝ }
 {
+    let mut good = true;
     let mut i = from;
     while i < to {
-        if in_class(class, s[i]) {
-            i += 1;
-        } else {
-            return false;
-        }
+        good = both(good, in_class(class, s[i]));
+        i += 1;
     }
-    true
+    good
 }
 
 // The same of two parts: from `from` up to the point, and what stands behind it.

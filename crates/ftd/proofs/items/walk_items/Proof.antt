@@ -9,6 +9,7 @@ use Rattle.ftd.specs.declared.items.Checked.the-variants.{Refused}
 use Rattle.ftd.specs.declared.refusal.Refusal.the-variants.{Item}
 use Rattle.ftd.specs.Items.{itemsGood, walkFields, walkOf}
 use Rattle.ftd.specs.Table.{table}
+use Rattle.ftd.specs.TableRule.{kindColumn, widthColumn, scaleColumn}
 use Rattle.ftd.specs.Fields.{field}
 use Rattle.ftd.specs.Runs.{runOf}
 use Rattle.ftd.proofs.Walked.{items-end, items-wrong, items-turn, walk-over, walk-unknown, walk-items}
@@ -17,18 +18,18 @@ use Rattle.ftd.proofs.items.walk_items.Statement.{statement}
 use Rattle.ftd.proofs.items.walk_items.Tie as tie
 
 abbrev Inv-items : tie.InvT-items
-Inv-items content at n end fid pos₀ row₀ last pos row =
+Inv-items content kinds widths scales at n end fid pos₀ row₀ last pos row =
     (pos ≤ end) × (end ≤ length content) × (last ≤ 379)
     × (cond (itemsGood (take (last - row) (drop row table)) (drop pos (take end content))) (walkFields (runOf field (drop end content) .entries)) (Refused Item) ≡ walkOf content)
 
 abbrev μ-items : tie.MeasureT-items
-μ-items content at n end fid pos₀ row₀ last pos row = last - row
+μ-items content kinds widths scales at n end fid pos₀ row₀ last pos row = last - row
 
 abbrev Inv-walk : tie.InvT-walk
-Inv-walk content at₀ at = (at ≤ length content) × (walkFields (runOf field (drop at content) .entries) ≡ walkOf content)
+Inv-walk content kinds widths scales at₀ at = (at ≤ length content) × (walkFields (runOf field (drop at content) .entries) ≡ walkOf content)
 
 abbrev μ-walk : tie.MeasureT-walk
-μ-walk content at₀ at = length content - at
+μ-walk content kinds widths scales at₀ at = length content - at
 
 walk-holds : tie.Need-walk-holds Inv-items μ-items Inv-walk μ-walk
 unfolding walkOf
@@ -71,13 +72,15 @@ items-holds c = let h : 6 ≤ c .before .before .before .before .before .before 
     (omega arith, search needs, search needs, search (needs, walk-items))
 
 item-good-requires : tie.Need-item-good-requires Inv-items μ-items Inv-walk μ-walk
-item-good-requires c κs = search needs
+unfolding kindColumn widthColumn scaleColumn table
+item-good-requires c κs = (refl, refl, refl, search needs, search needs, search needs)
 
 width-at-requires : tie.Need-width-at-requires Inv-items μ-items Inv-walk μ-walk
-width-at-requires c κs = search needs
+unfolding widthColumn table
+width-at-requires c κs = (search needs, refl)
 
 add-pos-2 : tie.Need-add-pos-2 Inv-items μ-items Inv-walk μ-walk
-add-pos-2 c = omega (arith, c .before .before .item-good .ensures .1 (c .before .if3 .taken))
+add-pos-2 c = omega (arith, c .before .before .before .item-good .ensures .1 (c .before .before .if3 .taken))
 
 add-row : tie.Need-add-row Inv-items μ-items Inv-walk μ-walk
 add-row c = search needs
@@ -86,7 +89,7 @@ items-less : tie.Need-items-less Inv-items μ-items Inv-walk μ-walk
 items-less c = search needs
 
 items-again : tie.Need-items-again Inv-items μ-items Inv-walk μ-walk
-items-again c = (omega (arith, c .before .before .item-good .ensures .1 (c .before .if3 .taken)), search needs, search needs, search (needs, items-turn))
+items-again c = (omega (arith, c .before .before .before .item-good .ensures .1 (c .before .before .if3 .taken)), search needs, search needs, search (needs, items-turn))
 
 walk-less-2 : tie.Need-walk-less-2 Inv-items μ-items Inv-walk μ-walk
 walk-less-2 c = search needs

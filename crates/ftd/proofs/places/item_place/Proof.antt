@@ -1,19 +1,20 @@
 -- `places::item_place` meets its contract. Assumes nothing.
 use Prim.Native.Nat.{_-_, _≤_, _*_}
-use mathlib.Core.Path.{_≡_}
+use mathlib.Core.Path.{_≡_, refl}
 use borrow.Author.Needs.{needs}
 use lib.ListN.{take, drop}
 use Rattle.ftd.specs.Places.{itemIn, itemOf}
 use Rattle.ftd.specs.Table.{table}
+use Rattle.ftd.specs.TableRule.{kindColumn, widthColumn, scaleColumn}
 use Rattle.ftd.proofs.Placed.{place-unknown, place-start, place-end, place-here, place-turn}
 use Rattle.ftd.proofs.places.item_place.Statement.{statement}
 use Rattle.ftd.proofs.places.item_place.Tie as tie
 
 abbrev Inv-loop : tie.InvT-loop
-Inv-loop fid i row₀ last at₀ left₀ row at left = (last ≤ 379) × (at ≤ row * 65536) × (itemIn at (take (last - row) (drop row table)) left ≡ itemOf fid i)
+Inv-loop fid i kinds widths scales row₀ last at₀ left₀ row at left = (last ≤ 379) × (at ≤ row * 65536) × (itemIn at (take (last - row) (drop row table)) left ≡ itemOf fid i)
 
 abbrev μ-loop : tie.MeasureT-loop
-μ-loop fid i row₀ last at₀ left₀ row at left = last - row
+μ-loop fid i kinds widths scales row₀ last at₀ left₀ row at left = last - row
 
 returns : tie.Need-returns Inv-loop μ-loop
 returns c = search (needs, place-unknown)
@@ -34,19 +35,23 @@ loop-holds : tie.Need-loop-holds Inv-loop μ-loop
 loop-holds c = (search needs, search needs, search (needs, place-start))
 
 kind-at-requires : tie.Need-kind-at-requires Inv-loop μ-loop
-kind-at-requires c κs = search needs
+unfolding kindColumn table
+kind-at-requires c κs = (search needs, refl)
 
 scale-at-requires : tie.Need-scale-at-requires Inv-loop μ-loop
-scale-at-requires c κs = search needs
+unfolding scaleColumn table
+scale-at-requires c κs = (search needs, refl)
 
 width-at-requires : tie.Need-width-at-requires Inv-loop μ-loop
-width-at-requires c κs = search needs
+unfolding widthColumn table
+width-at-requires c κs = (search needs, refl)
 
 returns-2 : tie.Need-returns-2 Inv-loop μ-loop
 returns-2 c = search (needs, place-here)
 
 width-at-requires-2 : tie.Need-width-at-requires-2 Inv-loop μ-loop
-width-at-requires-2 c κs = search needs
+unfolding widthColumn table
+width-at-requires-2 c κs = (search needs, refl)
 
 add-at : tie.Need-add-at Inv-loop μ-loop
 add-at c = search needs

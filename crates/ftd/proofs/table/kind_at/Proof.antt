@@ -1,16 +1,14 @@
 -- `table::kind_at` meets its contract. Assumes nothing.
+use Rattle.ftd.proofs.TableRule.{kind-col}
 use borrow.Author.Needs.{needs}
-use Rattle.ftd.specs.Table.{table}
-use Rattle.ftd.proofs.TableRule.{kind-col, kinds}
 use Rattle.ftd.proofs.table.kind_at.Statement.{statement}
 use Rattle.ftd.proofs.table.kind_at.Tie as tie
 
-array-read-result : tie.Need-array-read-result
-array-read-result c = search needs
+element-copy-out-result : tie.Need-element-copy-out-result
+element-copy-out-result c = search needs
 
 returns : tie.Need-returns
-unfolding kinds table
-returns c = search (needs, kind-col)
+returns c = rw (c .before .pre .1) (kind-col (c .before .args .row))
 
 pub kind-at-spec : {M : Type 1} → statement M
-kind-at-spec = tie.close (tie.spec array-read-result returns)
+kind-at-spec = tie.close (tie.spec element-copy-out-result returns)

@@ -1,16 +1,14 @@
 -- `table::scale_at` meets its contract. Assumes nothing.
+use Rattle.ftd.proofs.TableRule.{scale-col}
 use borrow.Author.Needs.{needs}
-use Rattle.ftd.specs.Table.{table}
-use Rattle.ftd.proofs.TableRule.{scale-col, scales}
 use Rattle.ftd.proofs.table.scale_at.Statement.{statement}
 use Rattle.ftd.proofs.table.scale_at.Tie as tie
 
-array-read-result : tie.Need-array-read-result
-array-read-result c = search needs
+element-copy-out-result : tie.Need-element-copy-out-result
+element-copy-out-result c = search needs
 
 returns : tie.Need-returns
-unfolding scales table
-returns c = search (needs, scale-col)
+returns c = rw (c .before .pre .1) (scale-col (c .before .args .row))
 
 pub scale-at-spec : {M : Type 1} → statement M
-scale-at-spec = tie.close (tie.spec array-read-result returns)
+scale-at-spec = tie.close (tie.spec element-copy-out-result returns)
