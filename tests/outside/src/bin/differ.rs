@@ -203,6 +203,7 @@ fn main() {
                 from = pair[0];
             }
         }
+        run.listed(program, &bytes[from..]);
         // The most bytes that it takes, and one more; parts that end inside a packet.
         for n in [0, 1, 3, 4, 65_535, 65_536, 65_537, 100_000] {
             run.listed(program, &bytes[..n]);
