@@ -16,7 +16,7 @@ use Rattle.ftd.specs.Chains.{allSmall, shapely, Piece, none, with, pack,
 use Rattle.ftd.specs.declared.chain.Cut.{Cut}
 use Rattle.ftd.proofs.Runs.{run-over, run-next, entry-inside, entry-length}
 use Rattle.ftd.proofs.Turns.{some-field, field-head}
-use Rattle.ftd.proofs.Shapes.{shape-over, shape-turn, shapely-next}
+use Rattle.ftd.proofs.Shapes.{shape-over, shape-long, shape-turn, shapely-next}
 
 -- A piece that is begun at a place and has come to another.
 abbrev pub begun : List ℕ → ℕ → ℕ → ℕ → Piece
@@ -41,7 +41,7 @@ small-here l end n e z s = go (leb n 4080) refl (sym (shapely-next l end n e z) 
         no false x = let y : _≡_ {A = ℕ} 0 1 = cc in omega arith
 
 module _ (l : List ℕ) (at end count n : ℕ) (e : n ≡ front field (drop end l)) (low : at ≤ end) (high : end ≤ length l) (few : count ≤ end - at) (room : end ≤ at + 4080)
-    (s : shapely (runOf field (drop end l)) ≡ true) (inv : pack (begun l at end count) (fieldsOf (drop end l)) ≡ piecesOf (drop at l)) where
+    (s : shapely (runOf field (drop end l)) ≡ shapely (runOf field (drop at l))) (inv : pack (begun l at end count) (fieldsOf (drop end l)) ≡ piecesOf (drop at l)) where
   fits : n ≤ length l - end
   fits = entry-inside field some-field l end n e
 
@@ -60,29 +60,29 @@ module _ (l : List ℕ) (at end count n : ℕ) (e : n ≡ front field (drop end 
   pub cut-over : n ≡ 0 → NextPiece l at (record { end = end; count = count })
   cut-over z =
       let over : fieldsOf (drop end l) ≡ [] = ap (λ (r : Run). r .entries) (run-over field some-field l end n e z) in
-      let last : length l ≤ end = leb-true (length l) end (shape-over l end n e true s z) in
       record {
-        pieces = sym inv ∙ rw over;
+        pieces = λ w. sym inv ∙ rw over;
         low = low;
         high = high;
         small = room;
         few = few;
         left = s;
-        on = λ h. absurd (omega arith);
+        stuck = λ same h. sym (shape-over l end n e _ s z) ∙ lt-leb (length l) end h;
       }
 
   pub cut-full : (n ≡ 0 → ⊥) → 4080 < end + n - at → NextPiece l at (record { end = end; count = count })
   cut-full z h =
-      let k : n ≤ 4080 = small-here l end n e z s in
       record {
         pieces =
+            λ w.
+            let k : n ≤ 4080 = small-here l end n e z (s ∙ w) in
             sym inv ∙ rw (fields-next z, begun-length, entry-length field some-field l end n e, lt-leb (end - at + n) 4080 (omega arith), le-leb (0 + n) 4080 (omega arith));
         low = low;
         high = high;
         small = room;
         few = few;
         left = s;
-        on = λ w. omega arith;
+        stuck = λ same w. sym (shape-long l end n e _ s z (omega arith));
       }
 
   pub cut-turn : (n ≡ 0 → ⊥) → end + n - at ≤ 4080 → pack (begun l at (end + n) (count + 1)) (fieldsOf (drop (end + n) l)) ≡ piecesOf (drop at l)
@@ -90,5 +90,5 @@ module _ (l : List ℕ) (at end count n : ℕ) (e : n ≡ front field (drop end 
       rw (← longer)
       (rw (fields-next z, begun-length, entry-length field some-field l end n e, le-leb (end - at + n) 4080 (omega arith)) at inv)
 
-  pub cut-left : (n ≡ 0 → ⊥) → end + n - at ≤ 4080 → shapely (runOf field (drop (end + n) l)) ≡ true
-  cut-left z h = shape-turn l end n e true s z (small-here l end n e z s)
+  pub cut-left : (n ≡ 0 → ⊥) → end + n - at ≤ 4080 → shapely (runOf field (drop (end + n) l)) ≡ shapely (runOf field (drop at l))
+  cut-left z h = shape-turn l end n e _ s z (omega arith)

@@ -12,8 +12,9 @@ pub mod Numbers
 pub mod RoundTrip
 pub mod Shapes
 pub mod Cuts
-pub mod Filled
 pub mod Chained
+pub mod Rest
+pub mod Measured
 pub mod Joined
 pub mod Chains
 pub mod Counts

@@ -1,11 +1,11 @@
--- The laws of `put`: a run of stores is one put, a put keeps the length, and a put right behind a put is one put. Assumes nothing.
+-- The laws of `put`: a run of stores is one put, a put keeps the length, and a put right behind a put, or right before one, is one put. Assumes nothing.
 use Prim.Native.Nat.{ℕ, _+_, _-_, _<_, _≤_}
 use mathlib.Core.Path.{_≡_, refl, sym, ap, _∙_}
 use mathlib.Core.List.{List, [], _∷_, _++_, append-assoc, append-nil}
 use native.Mathlib.Omega.{arith}
 use native.Mathlib.Nat.{zero-add, add-assoc, add-zero}
 use lib.ListN.{length, take, drop, set, getD, length-append, length-take, length-drop, take-append-drop}
-use lib.Seq.{sets, sets-eq, paste, take-length, length-take-le, take-at, drop-at, drop-append-add, drop-drop}
+use lib.Seq.{sets, sets-eq, paste, take-length, length-take-le, take-at, drop-at, take-append-le, drop-append-le, drop-append-add, take-take, drop-drop}
 use Rattle.ftd.specs.Bytes.{put}
 
 pub sets-put : (vs l : List ℕ) (at : ℕ) → at + length vs ≤ length l → sets l at vs ≡ put l at vs
@@ -40,3 +40,26 @@ put-put l at vs ws h =
 pub put-nil : (l : List ℕ) (at : ℕ) → put l at [] ≡ l
 unfolding put
 put-nil l at = rw (append-nil, add-zero) (take-append-drop at l)
+
+-- A put right before a put is one put of both.
+module _ (l : List ℕ) (at next : ℕ) (vs ws : List ℕ) (e : at + length vs ≡ next) (h : next ≤ length l) where
+  front-kept : take at (put l next ws) ≡ take at l
+  unfolding put
+  front-kept =
+      take-append-le at (take next l ++ ws) (drop (next + length ws) l) (simp (length-append, length-take-le) (omega arith))
+      ∙ take-append-le at (take next l) ws (rw (length-take-le next l h) (omega arith)) ∙ take-take at next l (omega arith)
+
+  back-kept : drop next (put l next ws) ≡ ws ++ drop (next + length ws) l
+  unfolding put
+  back-kept =
+      drop-append-le next (take next l ++ ws) (drop (next + length ws) l) (simp (length-append, length-take-le) (omega arith))
+      ∙ ap (λ (r : List ℕ). r ++ drop (next + length ws) l) (drop-at (take next l) ws next (length-take-le next l h))
+
+  pub put-before : put (put l next ws) at vs ≡ put l at (vs ++ ws)
+  unfolding put
+  put-before = go (put l next ws) front-kept back-kept
+    where
+      go : (m : List ℕ) → take at m ≡ take at l → drop next m ≡ ws ++ drop (next + length ws) l → put m at vs ≡ put l at (vs ++ ws)
+      go m f b =
+          let k : at + length (vs ++ ws) ≡ next + length ws = rw length-append (omega arith) in
+          rw (e, f, b, k) (sym (append-assoc (take at l ++ vs) ws (drop (next + length ws) l)) ∙ ap (λ (r : List ℕ). r ++ drop (next + length ws) l) (append-assoc (take at l) vs ws))

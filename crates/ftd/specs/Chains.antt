@@ -5,7 +5,7 @@ use mathlib.Core.List.{List, [], _∷_, _++_, map}
 use mathlib.Core.Bool.{Bool, true, false, cond, _&&_}
 use lib.ListN.{length, getD, drop}
 use lib.Dec.{ltb, leb}
-use Rattle.ftd.specs.Bytes.{bytes32, part, joined}
+use Rattle.ftd.specs.Bytes.{bytes32, part, joined, put}
 use Rattle.ftd.specs.Runs.{Run, runOf, ended}
 use Rattle.ftd.specs.Fields.{field, fieldsOf}
 use Rattle.ftd.specs.Writing.{messageBytes, Verdict, fine, refuse, other}
@@ -73,21 +73,23 @@ othersOf (f ∷ fs) = pack none (f ∷ fs)
 abbrev pub pieceAt : List ℕ → ℕ → Cut → Piece
 pieceAt content at c = record { count = c .count; bytes = part content at (c .end - at) }
 
--- From a place on the content's first piece ends there, with so many fields; the others are those of what is left. It has at most
--- 4,080 bytes, and is empty only at the end.
+-- From a place on whole fields that a packet holds end there, so many of them; what is left is as shapely as the whole. Where that is
+-- shapely, they are the content's first piece, and the others are those of what is left; where it is not, sooner or later none is taken
+-- though bytes are left.
 pub record NextPiece (content : List ℕ) (at : ℕ) (c : Cut) : Type 0 where
-  pub pieces : piecesOf (drop at content) ≡ pieceAt content at c ∷ othersOf (fieldsOf (drop (c .end) content))
+  pub pieces : shapely (runOf field (drop at content)) ≡ true → piecesOf (drop at content) ≡ pieceAt content at c ∷ othersOf (fieldsOf (drop (c .end) content))
   pub low : at ≤ c .end
   pub high : c .end ≤ length content
   pub small : c .end ≤ at + 4080
   pub few : c .count ≤ c .end - at
-  pub left : shapely (runOf field (drop (c .end) content)) ≡ true
-  pub on : c .end < length content → at < c .end
+  pub left : shapely (runOf field (drop (c .end) content)) ≡ shapely (runOf field (drop at content))
+  pub stuck : c .end ≡ at → c .end < length content → shapely (runOf field (drop at content)) ≡ false
 
 -- Piece i of a content starts at a place and is the first piece from there on; or there are no more than i.
 abbrev pub FoundPiece : List ℕ → ℕ → PiecePlace → Type 0
 FoundPiece content i NoPiece = length (piecesOf content) ≤ i
-FoundPiece content i (Found at c) = NextPiece content at c × (drop i (piecesOf content) ≡ piecesOf (drop at content))
+FoundPiece content i (Found at c) =
+    NextPiece content at c × (shapely (runOf field (drop at content)) ≡ true) × (drop i (piecesOf content) ≡ piecesOf (drop at content))
 
 -- ─── The tags that an end writes ───
 
@@ -134,6 +136,17 @@ framed m first (p ∷ ps) = packetFor m (chainAt first (isNil ps)) p ∷ framed 
 unfoldable pub packetsOf : Message → List ℕ → List (List ℕ)
 packetsOf m content = framed m true (piecesOf content)
 
+-- The packets of a content from a place on, at a place of the output: how far they reach, 0 where the content is not shapely from there
+-- on; they are put where they fit, and otherwise the output stays.
+abbrev pub restOf : Message → Bool → List ℕ → ℕ → List ℕ
+restOf m first content at = joined (framed m first (piecesOf (drop at content)))
+
+pub record PutRest (m : Message) (first : Bool) (content : List ℕ) (at to : ℕ) (before after : List ℕ) (reach : ℕ) : Type 0 where
+  pub broken : shapely (runOf field (drop at content)) ≡ false → (reach ≡ 0) × (after ≡ before)
+  pub reaches : shapely (runOf field (drop at content)) ≡ true → reach ≡ to + length (restOf m first content at)
+  pub stays : shapely (runOf field (drop at content)) ≡ true → length before < reach → after ≡ before
+  pub puts : shapely (runOf field (drop at content)) ≡ true → reach ≤ length before → after ≡ put before to (restOf m first content at)
+
 -- ─── What the writers refuse ───
 
 -- A message has at most 32,768 content bytes.
@@ -150,6 +163,11 @@ placeVerdict m content i = cond (shaped content 32768) (cond (ltb i (length (pac
 abbrev pub sizeOf : ℕ → List Piece → ℕ
 sizeOf ext [] = 0
 sizeOf ext (p ∷ ps) = 4 + ext + (16 + length (p .bytes)) + sizeOf ext ps
+
+-- Pieces measured; refused where the content is not shapely.
+unfoldable pub measureOf : ℕ → List ℕ → ChainSize
+measureOf ext content =
+    cond (shapely (runOf field content)) (Takes (record { packets = length (piecesOf content); bytes = sizeOf ext (piecesOf content) })) (Refused FieldRun)
 
 -- How many packets, and how many bytes in all.
 unfoldable pub sizeAnswer : Message → List ℕ → ChainSize

@@ -1,15 +1,15 @@
 // A message cut into packets of whole fields, and written straight into the output.
 ghost use mathlib.Core.Bool.{true};
-ghost use mathlib.Core.List.{[], _++_};
+ghost use mathlib.Core.List.{[]};
 ghost use mathlib.Core.Path.{_≡_};
-ghost use Prim.Native.Nat.{_+_, _-_, _<_, _≤_};
-ghost use lib.ListN.{length, getD, drop};
+ghost use Prim.Native.Nat.{_+_, _-_, _*_, _≤_};
+ghost use lib.ListN.{length, getD};
 ghost use Rattle.ftd.specs.Bytes.{put, joined};
 ghost use Rattle.ftd.specs.Runs.{runOf};
 ghost use Rattle.ftd.specs.Fields.{field};
 ghost use Rattle.ftd.specs.Writing.{messageBytes, answerOf, outputOf};
 ghost use Rattle.ftd.specs.ChainLaws.{ChainLaws};
-ghost use Rattle.ftd.specs.Chains.{shapely, shaped, NextPiece, FoundPiece, pieceAt, piecesOf, sizeOf, tagsFor, extensionBytes, chainAt, packetFor, packetsOf, sizeAnswer, chainVerdict, placeVerdict};
+ghost use Rattle.ftd.specs.Chains.{shapely, shaped, NextPiece, FoundPiece, pieceAt, tagsFor, extensionBytes, chainAt, packetFor, packetsOf, PutRest, measureOf, sizeAnswer, chainVerdict, placeVerdict};
 use crate::bytes::copy_at;
 use crate::bytes::put8;
 use crate::bytes::put32;
@@ -128,7 +128,7 @@ fn chain_at(first: bool, last: bool) -> Chain
 
 // The next piece from a place in the content: as many whole fields as 4,080 bytes hold.
 pub(crate) fn next_piece(content: &[u8], at: usize) -> Cut
-    requires { ⌜ (at ≤ length (now content)) × (shapely (runOf field (drop at (now content))) ≡ true) ⌝ }
+    requires { ⌜ at ≤ length (now content) ⌝ }
     ensures { λ r. ⌜ NextPiece (now (content .entry)) at r ⌝ }
 {
     let mut end = at;
@@ -178,10 +178,11 @@ fn put_piece(
     put_tagged(out, to, h, date, &content[at..end]);
 }
 
-// How many packets a message takes, and how many bytes in all, with tags of so many bytes.
-fn measure(content: &[u8], tags: usize) -> Size
-    requires { ⌜ (length (now content) ≤ 32768) × (shapely (runOf field (now content)) ≡ true) × (tags ≤ 6) ⌝ }
-    ensures { λ r. ⌜ (r .packets ≡ length (piecesOf (now (content .entry)))) × (r .bytes ≡ sizeOf tags (piecesOf (now (content .entry)))) ⌝ }
+// How many packets a message takes, and how many bytes in all, with tags of so many bytes; refused where its content is not whole
+// fields. One walk: where no field is taken though bytes are left, one is broken or too long.
+fn measure(content: &[u8], tags: usize) -> ChainSize
+    requires { ⌜ (length (now content) ≤ 32768) × (tags ≤ 6) ⌝ }
+    ensures { λ r. ⌜ r ≡ measureOf tags (now (content .entry)) ⌝ }
 {
     let mut at: usize = 0;
     let mut packets: usize = 0;
@@ -192,36 +193,55 @@ fn measure(content: &[u8], tags: usize) -> Size
         packets += 1;
         bytes = bytes + (4 + tags + (16 + (end - at)));
         if end == content.len() {
-            return Size {
+            return ChainSize::Takes(Size {
                 packets: packets,
                 bytes: bytes,
-            };
+            });
+        }
+        if end == at {
+            return ChainSize::Refused(Refusal::FieldRun);
         }
         at = end;
     }
 }
 
-// All packets, from the start of the output on, in one pass.
-fn put_chain(out: &mut [u8], m: Message, content: &[u8], tags: usize) -> usize
-    requires { ⌜ (length (now content) ≤ 32768) × (shapely (runOf field (now content)) ≡ true) × (tags ≡ length (extensionBytes (tagsFor (m .date)))) × (tags ≤ 6) × (sizeOf tags (piecesOf (now content)) ≤ length (now out)) ⌝ }
-    ensures { λ r. ⌜ (r ≡ sizeOf tags (piecesOf (now (content .entry)))) × (now (out .exit) ≡ joined (packetsOf m (now (content .entry))) ++ drop (sizeOf tags (piecesOf (now (content .entry)))) (now (out .entry))) ⌝ }
+// The packets from a place in the content on, at a place of the output: how far they reach, or 0 where the content is not whole fields.
+// One walk finds the pieces down to the last; only then, if all fit, they are put, the last one first. As two neighbouring pieces have
+// more than 4,080 bytes, there are at most 17.
+fn put_rest(
+    out: &mut [u8],
+    to: usize,
+    m: Message,
+    first: bool,
+    content: &[u8],
+    at: usize,
+    tags: usize,
+) -> usize
+    requires { ⌜ (length (now content) ≤ 32768) × (at ≤ length (now content)) × (to ≤ 27 * at) × (tags ≡ length (extensionBytes (tagsFor (m .date)))) × (tags ≤ 6) ⌝ }
+    ensures { λ r. ⌜ PutRest m first (now (content .entry)) at to (now (out .entry)) (now (out .exit)) r ⌝ }
 {
-    let mut at: usize = 0;
-    let mut to: usize = 0;
-    let mut first = true;
-    loop {
-        let c = next_piece(content, at);
-        let end = c.end;
-        let next = to + (4 + tags + (16 + (end - at)));
-        if end == content.len() {
-            put_piece(out, to, m, first, true, content, at, c);
+    let c = next_piece(content, at);
+    let end = c.end;
+    let next = to + (4 + tags + (16 + (end - at)));
+    if end == content.len() {
+        if out.len() < next {
             return next;
         }
-        put_piece(out, to, m, first, false, content, at, c);
-        to = next;
-        at = end;
-        first = false;
+        put_piece(out, to, m, first, true, content, at, c);
+        return next;
     }
+    if end == at {
+        return 0;
+    }
+    let reach = put_rest(out, next, m, false, content, end, tags);
+    if reach == 0 {
+        return 0;
+    }
+    if out.len() < reach {
+        return reach;
+    }
+    put_piece(out, to, m, first, false, content, at, c);
+    reach
 }
 
 // What a whole message takes; refused with 7 where its content is not whole fields that fit.
@@ -229,10 +249,10 @@ pub fn chain_size(m: Message, content: &[u8]) -> ChainSize
     ensures { λ r. ⌜ r ≡ sizeAnswer m (now (content .entry)) ⌝ }
 {
     let date = m.date;
-    if is_shaped(content, 32768) {
-        return ChainSize::Takes(measure(content, tags_len(date)));
+    if 32768 < content.len() {
+        return ChainSize::Refused(Refusal::FieldRun);
     }
-    ChainSize::Refused(Refusal::FieldRun)
+    measure(content, tags_len(date))
 }
 
 // All packets of a message, one behind the other.
@@ -240,15 +260,17 @@ pub fn write_chain(m: Message, content: &[u8], out: &mut [u8]) -> Written
     ensures { λ r. ⌜ (r ≡ answerOf (chainVerdict (now (content .entry))) (joined (packetsOf m (now (content .entry)))) (now (out .entry))) × (now (out .exit) ≡ outputOf (chainVerdict (now (content .entry))) (joined (packetsOf m (now (content .entry)))) (now (out .entry))) ⌝ }
 {
     let date = m.date;
-    if is_shaped(content, 32768) {
-        let tags = tags_len(date);
-        let s = measure(content, tags);
-        if out.len() < s.bytes {
-            return Written::Refused(Refusal::TooSmall);
-        }
-        return Written::Bytes(put_chain(out, m, content, tags));
+    if 32768 < content.len() {
+        return Written::Refused(Refusal::FieldRun);
     }
-    Written::Refused(Refusal::FieldRun)
+    let n = put_rest(out, 0, m, true, content, 0, tags_len(date));
+    if n == 0 {
+        return Written::Refused(Refusal::FieldRun);
+    }
+    if out.len() < n {
+        return Written::Refused(Refusal::TooSmall);
+    }
+    Written::Bytes(n)
 }
 
 // Piece i of a content, counted from 0.

@@ -1,6 +1,6 @@
 use borrow.Author.Needs.{needs}
 use Prim.Native.Nat.{_+_, _-_, _<_, _≤_}
-use mathlib.Core.Path.{_≡_, refl}
+use mathlib.Core.Path.{_≡_, _∙_}
 use mathlib.Core.Bool.{true}
 use native.Mathlib.Nat.{sub-self}
 use native.Mathlib.Omega.{arith}
@@ -8,7 +8,7 @@ use lib.ListN.{length, drop}
 use Rattle.ftd.specs.Chains.{shapely, piecesOf}
 use Rattle.ftd.specs.Runs.{runOf}
 use Rattle.ftd.specs.Fields.{field}
-use Rattle.ftd.proofs.Chained.{piece-here, piece-none, piece-turn}
+use Rattle.ftd.proofs.Chained.{piece-moves, piece-here, piece-none, piece-turn}
 use Rattle.ftd.proofs.chain.find_piece.Statement.{statement}
 use Rattle.ftd.proofs.chain.find_piece.Tie as tie
 use Rattle.ftd.proofs.chain.find_piece.Reads as reads
@@ -32,7 +32,7 @@ next-piece-requires c κs = search needs
 
 -- src/chain.rt:263:13
 returns : tie.Need-returns Inv-loop μ-loop
-returns c = (search needs, search (needs, piece-here))
+returns c = (search needs, search needs, search (needs, piece-here))
 
 -- src/chain.rt:267:13
 returns-2 : tie.Need-returns-2 Inv-loop μ-loop
@@ -44,14 +44,11 @@ sub-left c = search needs
 
 -- src/chain.rt:260:5
 loop-less : tie.Need-loop-less Inv-loop μ-loop
-loop-less c =
-    let n = c .before .before .next-piece in
-    let h : n .result .end < length (c .before .before .before .before .before .args .content .now) = omega arith in
-    omega (arith, n .ensures .on h)
+loop-less c = omega (arith, piece-moves _ _ _ (c .before .before .next-piece .ensures) (c .before .before .before .loop .inv .2) (c .if2 .left))
 
 -- src/chain.rt:260:5
 loop-again : tie.Need-loop-again Inv-loop μ-loop
-loop-again c = (search needs, search needs, search needs, search (needs, piece-turn))
+loop-again c = (search needs, search needs, c .before .before .next-piece .ensures .left ∙ c .before .before .before .loop .inv .2, search (needs, piece-turn))
 
 pub find-piece-spec : {M : Type 1} → statement M
 find-piece-spec =

@@ -1,7 +1,6 @@
 use borrow.Author.Needs.{needs}
 use Prim.Native.Nat.{_+_, _-_, _≤_}
 use mathlib.Core.Path.{_≡_, refl}
-use mathlib.Core.Bool.{true}
 use native.Mathlib.Omega.{arith}
 use lib.ListN.{length, drop}
 use Rattle.ftd.specs.Chains.{shapely, pack, piecesOf}
@@ -17,7 +16,7 @@ use Rattle.ftd.proofs.fields.field_size.Reads as field-size-reads
 
 abbrev Inv-loop : tie.InvT-loop
 Inv-loop content at end₀ count₀ end count =
-    (at ≤ end) × (end ≤ length content) × (count ≤ end - at) × (end ≤ at + 4080) × (shapely (runOf field (drop end content)) ≡ true)
+    (at ≤ end) × (end ≤ length content) × (count ≤ end - at) × (end ≤ at + 4080) × (shapely (runOf field (drop end content)) ≡ shapely (runOf field (drop at content)))
     × (pack (begun content at end count) (fieldsOf (drop end content)) ≡ piecesOf (drop at content))
 
 abbrev μ-loop : tie.MeasureT-loop
@@ -25,7 +24,7 @@ abbrev μ-loop : tie.MeasureT-loop
 
 -- src/chain.rt:118:5
 loop-holds : tie.Need-loop-holds Inv-loop μ-loop
-loop-holds c = (search needs, search needs, search needs, search needs, search needs, begun-none (c .before .args .content .now) (c .before .args .at))
+loop-holds c = (search needs, search needs, search needs, search needs, refl, begun-none (c .before .args .content .now) (c .before .args .at))
 
 -- src/chain.rt:119:13
 field-size-requires : tie.Need-field-size-requires Inv-loop μ-loop

@@ -79,8 +79,8 @@ returns-2 c =
     let a = i .before .before .before .args in
     let f = rw (g .1) at (p .find-piece .ensures) in
     by-room _ _ _
-    (rw (← (i .is-shaped .ensures), p .before .if1 .taken, lt-ltb (a .i) _ (packet-here (a .m) (a .content .now) (a .i) (g .0 .0) (g .0 .1 .0) (f .0) (f .1) .1)))
-    _ (packet-size (a .m) (a .content .now) (a .i) (g .0 .0) (g .0 .1 .0) (f .0) (f .1) (c .before .tags-len .result) (c .before .tags-len .ensures .0)) (c .if2 .taken)
+    (rw (← (i .is-shaped .ensures), p .before .if1 .taken, lt-ltb (a .i) _ (packet-here (a .m) (a .content .now) (a .i) (g .0 .0) (g .0 .1 .0) (f .0) (f .1) (f .2) .1)))
+    _ (packet-size (a .m) (a .content .now) (a .i) (g .0 .0) (g .0 .1 .0) (f .0) (f .1) (f .2) (c .before .tags-len .result) (c .before .tags-len .ensures .0)) (c .if2 .taken)
 
 -- src/chain.rt:290:17
 put-piece-requires : tie.Need-put-piece-requires
@@ -105,9 +105,9 @@ returns-3 c =
     let i = p .before .before in
     let a = i .before .before .before .args in
     let f = rw (g .1) at (p .find-piece .ensures) in
-    let h = packet-here (a .m) (a .content .now) (a .i) (g .0 .0) (g .0 .1 .0) (f .0) (f .1) in
+    let h = packet-here (a .m) (a .content .now) (a .i) (g .0 .0) (g .0 .1 .0) (f .0) (f .1) (f .2) in
     by-writing _ _ _ (rw (← (i .is-shaped .ensures), p .before .if1 .taken, lt-ltb (a .i) _ (h .1)))
-    _ (packet-size (a .m) (a .content .now) (a .i) (g .0 .0) (g .0 .1 .0) (f .0) (f .1) (t .tags-len .result) (t .tags-len .ensures .0)) _
+    _ (packet-size (a .m) (a .content .now) (a .i) (g .0 .0) (g .0 .1 .0) (f .0) (f .1) (f .2) (t .tags-len .result) (t .tags-len .ensures .0)) _
     (w .before .before .if2 .left) (rw (h .0) (w .put-piece .ensures))
 
 -- src/chain.rt:275:1
