@@ -47,6 +47,13 @@ struct ftd_field {
     uint8_t found;
 };
 
+/* A data field at a place that the caller knows. Where found is 0 there is none, and all is 0. */
+struct ftd_step {
+    size_t len; /* how many bytes it has, without FID and length */
+    uint32_t fid;
+    uint8_t found;
+};
+
 /* What all packets of a message bear. */
 struct ftd_message {
     uint32_t tid;
@@ -81,9 +88,9 @@ struct ftd_packet ftd_read(const uint8_t *bytes, size_t count);
  * from the field count on, and none where the bytes are no message packet. Each call reads the packet anew. */
 struct ftd_field ftd_field(const uint8_t *bytes, size_t count, size_t i);
 
-/* The data field at a place of a content; its start counts from the content's first byte. None where no whole field stands there.
- * The next field is at start + len. */
-struct ftd_field ftd_field_at(const uint8_t *content, size_t count, size_t at);
+/* The data field at a place of a content: its bytes start at `at` + 6, the next field at `at` + 6 + len. None where no whole field
+ * stands there. */
+struct ftd_step ftd_field_at(const uint8_t *content, size_t count, size_t at);
 
 /* The content check for a message: 0, or the first refusal of 7, 8, 9, 10. direction: 0 up (sent by the member), any other number
  * down (sent by the exchange). limit: the most bytes that the content may have: 32768 for a whole message, 4080 for a packet, 4068

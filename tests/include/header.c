@@ -20,18 +20,20 @@ int main(void) {
     struct ftd_message message = {0x2004, 2, 9, 1, 1};
     uint8_t out[64];
     struct ftd_packet p = ftd_read(packet, sizeof packet);
-    struct ftd_field f = ftd_field(packet, sizeof packet, 0), g = ftd_field_at(content, 8, 0);
+    struct ftd_field f = ftd_field(packet, sizeof packet, 0);
+    struct ftd_step g = ftd_field_at(content, 8, 0);
     struct ftd_size size = ftd_size(message, content, 8);
     struct ftd_written written = ftd_write(message, content, 8, out, sizeof out);
 
-    expect(sizeof p == 56 && sizeof f == 24 && sizeof message == 16 && sizeof size == 24 && sizeof written == 16, "sizes of structs");
+    expect(sizeof p == 56 && sizeof f == 24 && sizeof g == 16 && sizeof message == 16 && sizeof size == 24 && sizeof written == 16, "sizes of structs");
     expect(p.answer == FTD_MESSAGE && p.refusal == 0 && p.kind == 1 && p.extension == 4 && p.extent == 6, "ftd_read: packet");
     expect(p.tid == 0x2004 && p.chain == 'S' && p.series == 1 && p.number == 2 && p.fields == 1, "ftd_read: header");
     expect(p.start == 26 && p.len == 8 && p.dated == 1 && p.date == 9, "ftd_read: content and date");
     expect(ftd_read(packet, 33).answer == FTD_SHORT, "ftd_read: short");
     expect(f.found == 1 && f.fid == 0x4000 && f.start == 32 && f.len == 2, "ftd_field");
     expect(ftd_field(packet, sizeof packet, 1).found == 0, "ftd_field: none");
-    expect(g.found == 1 && g.fid == 0x4000 && g.start == 6 && g.len == 2, "ftd_field_at");
+    expect(g.found == 1 && g.fid == 0x4000 && g.len == 2, "ftd_field_at");
+    expect(ftd_field_at(content, 8, 1).found == 0, "ftd_field_at: none");
     expect(ftd_check(0x2004, 1, content, 8, 4080) == 0 && ftd_check(0x2004, 1, content, 8, 7) == 7, "ftd_check");
     expect(ftd_check(0x2003, 1, content, 8, 4080) == 10 && ftd_check(0x2003, 0, content, 8, 4080) == 0, "ftd_check: direction");
     expect(size.refusal == 0 && size.packets == 1 && size.bytes == sizeof packet, "ftd_size");

@@ -1,5 +1,5 @@
 -- What `ftd` answers, as the numbers that C and Rust get (tests/include/ftd.h).
-use Prim.Native.Nat.{ℕ, _+_, _-_}
+use Prim.Native.Nat.{ℕ, _-_}
 use mathlib.Core.List.{List}
 use mathlib.Core.Bool.{cond}
 use lib.ListN.{drop}
@@ -32,6 +32,7 @@ use Rattle.ftd.specs.declared.write.Written.the-variants.{Bytes, NotPlain, NoPa
 use Rattle.ftd.specs.declared.write.Written.the-variants.{Refused as NotWritten}
 use Rattle.exports.specs.declared.FtdPacket.{FtdPacket}
 use Rattle.exports.specs.declared.FtdField.{FtdField}
+use Rattle.exports.specs.declared.FtdStep.{FtdStep}
 use Rattle.exports.specs.declared.FtdMessage.{FtdMessage}
 use Rattle.exports.specs.declared.FtdSize.{FtdSize}
 use Rattle.exports.specs.declared.FtdWritten.{FtdWritten}
@@ -139,10 +140,12 @@ abbrev pub fieldNumbers : FieldPlace → FtdField
 fieldNumbers NoField = record { start = 0; len = 0; fid = 0; found = 0 }
 fieldNumbers (Field fid start len) = record { start = start; len = len; fid = fid; found = 1 }
 
--- The field at a place of a content, if one stands there whole.
-unfoldable pub fieldAt : List ℕ → ℕ → FieldPlace
-fieldAt content at =
-    cond (eqb (front field (drop at content)) 0) NoField (Field (be32Of content at) (at + 6) (front field (drop at content) - 6))
+-- The field at a place of a content, if one stands there whole: 1, its FID and the length of its bytes, or all 0.
+unfoldable pub stepOf : List ℕ → ℕ → FtdStep
+stepOf content at =
+    cond (eqb (front field (drop at content)) 0)
+    (record { len = 0; fid = 0; found = 0 })
+    (record { len = front field (drop at content) - 6; fid = be32Of content at; found = 1 })
 
 -- ─── The content check: 0, or the number of the refusal ───
 

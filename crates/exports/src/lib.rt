@@ -10,7 +10,7 @@ ghost use Rattle.ftd.specs.Laws.{Inside};
 ghost use Rattle.ftd.specs.Content.{contentOf};
 ghost use Rattle.ftd.specs.Writing.{answerOf, outputOf};
 ghost use Rattle.ftd.specs.Chains.{packetsOf, sizeAnswer, chainVerdict};
-ghost use Rattle.exports.specs.Numbers.{datedOf, dateOf, plainNumbers, linkNumbers, skippedNumbers, messageNumbers, packetNumbers, fieldNumbers, fieldAt, directionFor, verdictNumber, dateFor, messageFor, sizeNumbers, writtenNumbers};
+ghost use Rattle.exports.specs.Numbers.{datedOf, dateOf, plainNumbers, linkNumbers, skippedNumbers, messageNumbers, packetNumbers, fieldNumbers, stepOf, directionFor, verdictNumber, dateFor, messageFor, sizeNumbers, writtenNumbers};
 use ftd::bytes::be32;
 use ftd::chain::ChainSize;
 use ftd::chain::Message;
@@ -55,6 +55,14 @@ pub struct FtdPacket {
 #[repr(C)]
 pub struct FtdField {
     pub start: usize,
+    pub len: usize,
+    pub fid: u32,
+    pub found: u8,
+}
+
+// A field at a known place, small enough for two registers: its bytes lie behind the six of FID and length.
+#[repr(C)]
+pub struct FtdStep {
     pub len: usize,
     pub fid: u32,
     pub found: u8,
@@ -264,20 +272,18 @@ pub extern "C" fn ftd_field(p: &[u8], i: usize) -> FtdField
 
 // The field at a place of a content: for whoever walks from field to field.
 #[no_mangle]
-pub extern "C" fn ftd_field_at(content: &[u8], at: usize) -> FtdField
-    ensures { λ r. ⌜ r ≡ fieldNumbers (fieldAt (now (content .entry)) at) ⌝ }
+pub extern "C" fn ftd_field_at(content: &[u8], at: usize) -> FtdStep
+    ensures { λ r. ⌜ r ≡ stepOf (now (content .entry)) at ⌝ }
 {
     let n = field_size(content, at);
     if n == 0 {
-        return FtdField {
-            start: 0,
+        return FtdStep {
             len: 0,
             fid: 0,
             found: 0,
         };
     }
-    FtdField {
-        start: at + 6,
+    FtdStep {
         len: n - 6,
         fid: be32(content, at),
         found: 1,

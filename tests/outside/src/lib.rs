@@ -52,6 +52,14 @@ pub struct Field {
     pub found: u8,
 }
 
+/// A field at a known place: its bytes lie behind the six of FID and length.
+#[repr(C)]
+struct Step {
+    len: usize,
+    fid: u32,
+    found: u8,
+}
+
 #[repr(C)]
 #[derive(Clone, Copy, Debug)]
 struct Message {
@@ -92,7 +100,7 @@ pub struct Written {
 extern "C" {
     fn ftd_read(bytes: *const u8, count: usize) -> Packet;
     fn ftd_field(bytes: *const u8, count: usize, i: usize) -> Field;
-    fn ftd_field_at(content: *const u8, count: usize, at: usize) -> Field;
+    fn ftd_field_at(content: *const u8, count: usize, at: usize) -> Step;
     fn ftd_check(tid: u32, direction: u8, content: *const u8, count: usize, limit: usize) -> u8;
     fn ftd_size(message: Message, content: *const u8, count: usize) -> Size;
     fn ftd_write(message: Message, content: *const u8, count: usize, output: *mut u8, room: usize) -> Written;
@@ -110,7 +118,9 @@ pub fn field(bytes: &[u8], i: usize) -> Field {
 }
 
 pub fn field_at(content: &[u8], at: usize) -> Field {
-    unsafe { ftd_field_at(content.as_ptr(), content.len(), at) }
+    let step = unsafe { ftd_field_at(content.as_ptr(), content.len(), at) };
+    let start = if step.found == 0 { 0 } else { at + reader::packet::FIELD_HEADER };
+    Field { start, len: step.len, fid: step.fid, found: step.found }
 }
 
 /// 0, or the number of the refusal.
