@@ -1,8 +1,9 @@
 -- The extension of a packet (4.1; 01, "Packet"): a run of tags, each a kind byte, a length byte and that many bytes of data.
-use Prim.Native.Nat.{ℕ, _+_, _-_, _≤_}
-use mathlib.Core.List.{List, [], _∷_}
+use Prim.Native.Nat.{ℕ, _+_, _-_, _<_, _≤_}
+use mathlib.Core.List.{List, [], _∷_, map}
+use mathlib.Core.Path.{_≡_}
 use mathlib.Core.Bool.{Bool, true, false, cond, _&&_}
-use lib.ListN.{length, getD}
+use lib.ListN.{length, getD, drop}
 use lib.Dec.{leb, eqb}
 use Rattle.ftd.specs.Bytes.{be32Of}
 use Rattle.ftd.specs.Runs.{Form, Run, runOf, ended}
@@ -46,6 +47,12 @@ rightIn (k ∷ ks) kind len = cond (eqb (k .kind) kind) (eqb (k .length) len) (r
 
 unfoldable pub lengthRight : ℕ → ℕ → Bool
 lengthRight kind len = rightIn knownTags kind len
+
+-- The first row of a kind: its place in the list, or 7 where the list does not have it. From there on the list says the same.
+pub record KnownRow (kind row : ℕ) : Type 0 where
+  pub low : row ≤ 7
+  pub here : row < 7 → getD (map (λ (k : Known). k .kind) knownTags) row 0 ≡ kind
+  pub same : (len : ℕ) → rightIn (drop row knownTags) kind len ≡ lengthRight kind len
 
 -- ─── Refusal 2: the extension check ───
 

@@ -1,12 +1,16 @@
 // The extension of a packet: a run of tags, each a kind byte, a length byte and that many bytes of data (4.1).
 ghost use mathlib.Core.Path.{_≡_};
-ghost use Prim.Native.Nat.{ℕ, _+_, _-_, _≤_};
+ghost use Prim.Native.Nat.{_+_, _-_, _≤_};
 ghost use lib.ListN.{length, drop};
-ghost use lib.Dec.{eqb};
 ghost use Rattle.ftd.specs.Runs.{front};
-ghost use Rattle.ftd.specs.Tags.{tag, lengthRight, countDate, goodTags, tagPlace, TagInside, tradeDateOf, keepAliveOf};
+ghost use Rattle.ftd.specs.Tags.{tag, KnownRow, lengthRight, countDate, goodTags, tagPlace, TagInside, tradeDateOf, keepAliveOf};
 use crate::bytes::be32;
 use crate::bytes::size8;
+
+// The known tags: kinds, and the length of each one's data.
+const KIND: [u8; 7] = [0x00, 0x01, 0x02, 0x03, 0x04, 0x05, 0x06];
+
+const LENGTH: [u8; 7] = [0, 4, 1, 1, 0, 4, 2];
 
 // Where the data of a tag lies in the extension.
 pub enum TagPlace {
@@ -38,40 +42,29 @@ pub fn tag_size(extension: &[u8], at: usize) -> usize
     n
 }
 
-// The length of a known kind's data: 0x00 to 0x06.
-fn known_length(kind: u8) -> u8
-    requires { ⌜ kind ≤ 6 ⌝ }
-    ensures { λ r. ⌜ ((len : ℕ) → eqb r len ≡ lengthRight kind len) ⌝ }
+// The row of a kind in the table; 7 where it has none.
+fn row_of(kind: u8) -> usize
+    ensures { λ r. ⌜ KnownRow kind r ⌝ }
 {
-    if kind == 0x01 {
-        return 4;
+    let mut i: usize = 0;
+    while i < 7 {
+        if KIND[i] == kind {
+            return i;
+        }
+        i += 1;
     }
-    if kind == 0x02 {
-        return 1;
-    }
-    if kind == 0x03 {
-        return 1;
-    }
-    if kind == 0x04 {
-        return 0;
-    }
-    if kind == 0x05 {
-        return 4;
-    }
-    if kind == 0x06 {
-        return 2;
-    }
-    0
+    7
 }
 
 // A known kind has the length of the table; of any other kind each length is right.
 pub fn length_right(kind: u8, len: u8) -> bool
     ensures { λ r. ⌜ r ≡ lengthRight kind len ⌝ }
 {
-    if 6 < kind {
+    let row = row_of(kind);
+    if row == 7 {
         return true;
     }
-    known_length(kind) == len
+    LENGTH[row] == len
 }
 
 // One more where the kind is the trade date's.

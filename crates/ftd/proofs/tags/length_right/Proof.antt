@@ -1,17 +1,22 @@
 -- `tags::length_right` meets its contract. Assumes nothing.
 use borrow.Author.Needs.{needs}
-use Rattle.ftd.proofs.Known.{right-over}
+use Rattle.ftd.specs.Tags.{knownTags}
+use Rattle.ftd.proofs.Known.{lengths, right-over, right-row}
 use Rattle.ftd.proofs.tags.length_right.Statement.{statement}
 use Rattle.ftd.proofs.tags.length_right.Tie as tie
+
+row-of-requires : tie.Need-row-of-requires
+row-of-requires c κs = search needs
 
 returns : tie.Need-returns
 returns c = search (needs, right-over)
 
-known-length-requires : tie.Need-known-length-requires
-known-length-requires c κs = search needs
+array-read-result : tie.Need-array-read-result
+array-read-result c = search needs
 
 returns-2 : tie.Need-returns-2
-returns-2 c = c .known-length .ensures _
+unfolding lengths knownTags
+returns-2 c = search (needs, right-row)
 
 pub length-right-spec : {M : Type 1} → statement M
-length-right-spec = tie.close (tie.spec returns known-length-requires returns-2)
+length-right-spec = tie.close (tie.spec row-of-requires returns array-read-result returns-2)
