@@ -1,10 +1,10 @@
 -- The laws of a message's packets. Assumes nothing.
-use Prim.Native.Nat.{ℕ, zero, suc, _+_, _-_, _<_, _≤_}
+use Prim.Native.Nat.{ℕ, zero, suc, _+_, _-_, _*_, _<_, _≤_}
 use mathlib.Core.Path.{_≡_, refl, sym, ap, _∙_}
 use mathlib.Core.List.{List, [], _∷_, _++_, map, append-assoc, append-nil}
 use mathlib.Core.Bool.{Bool, true, false, cond, _&&_}
 use native.Mathlib.Omega.{arith}
-use borrow.Author.Tests.{le-ltb, le-leb, leb-true, eq-eqb}
+use borrow.Author.Tests.{le-ltb, le-leb, leb-true, leb-false, eq-eqb}
 use lib.ListN.{length, getD, take, drop, length-append, length-take}
 use lib.Seq.{getD-take}
 use lib.Dec.{leb, eqb, eqb·suc-suc, eqb·suc-zero, eqb·zero-suc}
@@ -25,7 +25,7 @@ use Rattle.ftd.specs.declared.packet.Packet.the-variants.{Message as Rea
 use Rattle.ftd.specs.declared.chain.Message.{Message}
 use Rattle.ftd.proofs.Lists.{byte-append, be16-append}
 use Rattle.ftd.proofs.Numbers.{back32}
-use Rattle.ftd.proofs.Runs.{run-whole}
+use Rattle.ftd.proofs.Runs.{run-joined, run-whole}
 use Rattle.ftd.proofs.Turns.{some-tag, some-field}
 use Rattle.ftd.proofs.Heads.{front-whole}
 use Rattle.ftd.proofs.Joined.{Entry, Entries, run-of, Local, run-entries}
@@ -144,6 +144,20 @@ pack-joined p (f ∷ fs) =
 pieces-joined : (content : List ℕ) (limit : ℕ) → shaped content limit ≡ true → joined (map (λ (p : Piece). p .bytes) (piecesOf content)) ≡ content
 unfolding piecesOf
 pieces-joined content limit s = pack-joined none (fieldsOf content) ∙ run-whole field content (whole-content content limit s .0)
+
+-- A piece and the first field of the next have more than 4,080 bytes.
+pack-few : (p : Piece) (fs : List (List ℕ)) → 4081 * length (pack p fs) ≤ 4081 + length (p .bytes) + 2 * length (joined fs)
+pack-few p [] = omega arith
+pack-few p (f ∷ fs) =
+    by-test (λ (ps : List Piece). 4081 * length ps ≤ 4081 + length (p .bytes) + 2 * length (f ++ joined fs)) (leb (length (p .bytes) + length f) 4080)
+    (λ b. omega (arith, pack-few (with p f) fs, length-append (p .bytes) f, length-append f (joined fs)))
+    (λ b. omega (arith, leb-false (length (p .bytes) + length f) 4080 b, pack-few (with none f) fs, length-append f (joined fs)))
+
+few : (content : List ℕ) → length content ≤ 32768 → length (piecesOf content) ≤ 17
+unfolding piecesOf
+few content h =
+    let whole = sym (length-append (joined (fieldsOf content)) (runOf field content .rest)) ∙ ap length (run-joined field content) in
+    omega (arith, whole, pack-few none (fieldsOf content))
 
 -- ─── Packets by place ───
 
@@ -272,6 +286,7 @@ chain-laws =
       pieces-joined = pieces-joined;
       piece-whole = λ content limit i s h. good-at (piecesOf content) i (pieces-good content limit s) h;
       as-many = as-many;
+      few = few;
       read-back = read-back;
       mark-back = mark-back;
       piece-back = piece-back;

@@ -42,6 +42,8 @@ pub record ChainLaws : Type 0 where
       → (length (pieceOf content i .bytes) ≤ 4080) × (exactRun (pieceOf content i .bytes) (pieceOf content i .count) ≡ true)
   -- There are as many packets as pieces, one at least.
   pub as-many : (m : Message) (content : List ℕ) → (length (packetsOf m content) ≡ length (piecesOf content)) × (0 < length (packetsOf m content))
+  -- Two neighbours have more than 4,080 bytes together, so that a message has at most 17.
+  pub few : (content : List ℕ) → length content ≤ 32768 → length (piecesOf content) ≤ 17
   -- Each packet, with anything behind it, is read back: TID, series and number of the message, the letter of its place, its piece and the mark.
   pub read-back : (m : Message) (content : List ℕ) (limit i : ℕ) (q : List ℕ) → shaped content limit ≡ true → i < length (packetsOf m content)
       → readOf (packetOf m content i ++ q)

@@ -206,8 +206,7 @@ fn measure(content: &[u8], tags: usize) -> ChainSize
 }
 
 // The packets from a place in the content on, at a place of the output: how far they reach, or 0 where the content is not whole fields.
-// One walk finds the pieces down to the last; only then, if all fit, they are put, the last one first. As two neighbouring pieces have
-// more than 4,080 bytes, there are at most 17.
+// One walk finds the pieces down to the last, at most 17 (ChainLaws, `few`); only then, if all fit, they are put, the last one first.
 fn put_rest(
     out: &mut [u8],
     to: usize,

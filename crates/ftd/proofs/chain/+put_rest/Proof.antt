@@ -23,205 +23,69 @@ abbrev put-rest-below : ℕ → In 2 put-rest-kinds.ps
 put-rest-below t =
     and 2 put-rest-kinds.ps (falls 2 put-rest-kinds.ps _<_ μ-put-rest t) put-rest.Pre
 
-put-rest-next-piece-requires : (t : ℕ) → put-rest-lts.Need-next-piece-requires (
-  next-piece-reads.Asked,
-  next-piece-reads.Learnt,
-  put-piece-reads.Asked,
-  put-piece-reads.Learnt,
-  put-rest-below t,
-  put-rest.Post,
-) (put-rest-at t) put-rest.Post
+-- What the calls ask and give.
+abbrev claims : ℕ → put-rest-lts.Claims
+claims t = (next-piece-reads.Asked, next-piece-reads.Learnt, put-piece-reads.Asked, put-piece-reads.Learnt, put-rest-below t, put-rest.Post)
+
+put-rest-next-piece-requires : (t : ℕ) → put-rest-lts.Need-next-piece-requires (claims t) (put-rest-at t) put-rest.Post
 put-rest-next-piece-requires t c κs = search needs
 
-put-rest-add-next : (t : ℕ) → put-rest-lts.Need-add-next (
-  next-piece-reads.Asked,
-  next-piece-reads.Learnt,
-  put-piece-reads.Asked,
-  put-piece-reads.Learnt,
-  put-rest-below t,
-  put-rest.Post,
-) (put-rest-at t) put-rest.Post
+put-rest-add-next : (t : ℕ) → put-rest-lts.Need-add-next (claims t) (put-rest-at t) put-rest.Post
 put-rest-add-next t c = search needs
 
-put-rest-sub-next : (t : ℕ) → put-rest-lts.Need-sub-next (
-  next-piece-reads.Asked,
-  next-piece-reads.Learnt,
-  put-piece-reads.Asked,
-  put-piece-reads.Learnt,
-  put-rest-below t,
-  put-rest.Post,
-) (put-rest-at t) put-rest.Post
+put-rest-sub-next : (t : ℕ) → put-rest-lts.Need-sub-next (claims t) (put-rest-at t) put-rest.Post
 put-rest-sub-next t c = search needs
 
-put-rest-add-next-2 : (t : ℕ) → put-rest-lts.Need-add-next-2 (
-  next-piece-reads.Asked,
-  next-piece-reads.Learnt,
-  put-piece-reads.Asked,
-  put-piece-reads.Learnt,
-  put-rest-below t,
-  put-rest.Post,
-) (put-rest-at t) put-rest.Post
+put-rest-add-next-2 : (t : ℕ) → put-rest-lts.Need-add-next-2 (claims t) (put-rest-at t) put-rest.Post
 put-rest-add-next-2 t c = search needs
 
-put-rest-add-next-3 : (t : ℕ) → put-rest-lts.Need-add-next-3 (
-  next-piece-reads.Asked,
-  next-piece-reads.Learnt,
-  put-piece-reads.Asked,
-  put-piece-reads.Learnt,
-  put-rest-below t,
-  put-rest.Post,
-) (put-rest-at t) put-rest.Post
+put-rest-add-next-3 : (t : ℕ) → put-rest-lts.Need-add-next-3 (claims t) (put-rest-at t) put-rest.Post
 put-rest-add-next-3 t c = search needs
 
-put-rest-add-next-4 : (t : ℕ) → put-rest-lts.Need-add-next-4 (
-  next-piece-reads.Asked,
-  next-piece-reads.Learnt,
-  put-piece-reads.Asked,
-  put-piece-reads.Learnt,
-  put-rest-below t,
-  put-rest.Post,
-) (put-rest-at t) put-rest.Post
+put-rest-add-next-4 : (t : ℕ) → put-rest-lts.Need-add-next-4 (claims t) (put-rest-at t) put-rest.Post
 put-rest-add-next-4 t c = search needs
 
-put-rest-returns : (t : ℕ) → put-rest-lts.Need-returns (
-  next-piece-reads.Asked,
-  next-piece-reads.Learnt,
-  put-piece-reads.Asked,
-  put-piece-reads.Learnt,
-  put-rest-below t,
-  put-rest.Post,
-) (put-rest-at t) put-rest.Post
+put-rest-returns : (t : ℕ) → put-rest-lts.Need-returns (claims t) (put-rest-at t) put-rest.Post
 put-rest-returns t c = search (needs, last-small)
 
-put-rest-put-piece-requires : (t : ℕ) → put-rest-lts.Need-put-piece-requires (
-  next-piece-reads.Asked,
-  next-piece-reads.Learnt,
-  put-piece-reads.Asked,
-  put-piece-reads.Learnt,
-  put-rest-below t,
-  put-rest.Post,
-) (put-rest-at t) put-rest.Post
+put-rest-put-piece-requires : (t : ℕ) → put-rest-lts.Need-put-piece-requires (claims t) (put-rest-at t) put-rest.Post
 put-rest-put-piece-requires t c κs = search needs
 
-put-rest-same-length : (t : ℕ) → put-rest-lts.Need-same-length (
-  next-piece-reads.Asked,
-  next-piece-reads.Learnt,
-  put-piece-reads.Asked,
-  put-piece-reads.Learnt,
-  put-rest-below t,
-  put-rest.Post,
-) (put-rest-at t) put-rest.Post
+put-rest-same-length : (t : ℕ) → put-rest-lts.Need-same-length (claims t) (put-rest-at t) put-rest.Post
 put-rest-same-length t c = search needs
 
-put-rest-returns-2 : (t : ℕ) → put-rest-lts.Need-returns-2 (
-  next-piece-reads.Asked,
-  next-piece-reads.Learnt,
-  put-piece-reads.Asked,
-  put-piece-reads.Learnt,
-  put-rest-below t,
-  put-rest.Post,
-) (put-rest-at t) put-rest.Post
+put-rest-returns-2 : (t : ℕ) → put-rest-lts.Need-returns-2 (claims t) (put-rest-at t) put-rest.Post
 put-rest-returns-2 t c = search (needs, last-put)
 
-put-rest-returns-3 : (t : ℕ) → put-rest-lts.Need-returns-3 (
-  next-piece-reads.Asked,
-  next-piece-reads.Learnt,
-  put-piece-reads.Asked,
-  put-piece-reads.Learnt,
-  put-rest-below t,
-  put-rest.Post,
-) (put-rest-at t) put-rest.Post
+put-rest-returns-3 : (t : ℕ) → put-rest-lts.Need-returns-3 (claims t) (put-rest-at t) put-rest.Post
 put-rest-returns-3 t c = search (needs, none-here)
 
-put-rest-put-rest-requires : (t : ℕ) → put-rest-lts.Need-put-rest-requires (
-  next-piece-reads.Asked,
-  next-piece-reads.Learnt,
-  put-piece-reads.Asked,
-  put-piece-reads.Learnt,
-  put-rest-below t,
-  put-rest.Post,
-) (put-rest-at t) put-rest.Post
+put-rest-put-rest-requires : (t : ℕ) → put-rest-lts.Need-put-rest-requires (claims t) (put-rest-at t) put-rest.Post
 put-rest-put-rest-requires t c κs = search needs
 
-put-rest-same-length-2 : (t : ℕ) → put-rest-lts.Need-same-length-2 (
-  next-piece-reads.Asked,
-  next-piece-reads.Learnt,
-  put-piece-reads.Asked,
-  put-piece-reads.Learnt,
-  put-rest-below t,
-  put-rest.Post,
-) (put-rest-at t) put-rest.Post
+put-rest-same-length-2 : (t : ℕ) → put-rest-lts.Need-same-length-2 (claims t) (put-rest-at t) put-rest.Post
 put-rest-same-length-2 t c = search needs
 
-put-rest-returns-4 : (t : ℕ) → put-rest-lts.Need-returns-4 (
-  next-piece-reads.Asked,
-  next-piece-reads.Learnt,
-  put-piece-reads.Asked,
-  put-piece-reads.Learnt,
-  put-rest-below t,
-  put-rest.Post,
-) (put-rest-at t) put-rest.Post
+put-rest-returns-4 : (t : ℕ) → put-rest-lts.Need-returns-4 (claims t) (put-rest-at t) put-rest.Post
 put-rest-returns-4 t c = search (needs, more-broken)
 
-put-rest-same-length-3 : (t : ℕ) → put-rest-lts.Need-same-length-3 (
-  next-piece-reads.Asked,
-  next-piece-reads.Learnt,
-  put-piece-reads.Asked,
-  put-piece-reads.Learnt,
-  put-rest-below t,
-  put-rest.Post,
-) (put-rest-at t) put-rest.Post
+put-rest-same-length-3 : (t : ℕ) → put-rest-lts.Need-same-length-3 (claims t) (put-rest-at t) put-rest.Post
 put-rest-same-length-3 t c = search needs
 
-put-rest-returns-5 : (t : ℕ) → put-rest-lts.Need-returns-5 (
-  next-piece-reads.Asked,
-  next-piece-reads.Learnt,
-  put-piece-reads.Asked,
-  put-piece-reads.Learnt,
-  put-rest-below t,
-  put-rest.Post,
-) (put-rest-at t) put-rest.Post
+put-rest-returns-5 : (t : ℕ) → put-rest-lts.Need-returns-5 (claims t) (put-rest-at t) put-rest.Post
 put-rest-returns-5 t c = search (needs, more-small)
 
-put-rest-put-piece-requires-2 : (t : ℕ) → put-rest-lts.Need-put-piece-requires-2 (
-  next-piece-reads.Asked,
-  next-piece-reads.Learnt,
-  put-piece-reads.Asked,
-  put-piece-reads.Learnt,
-  put-rest-below t,
-  put-rest.Post,
-) (put-rest-at t) put-rest.Post
+put-rest-put-piece-requires-2 : (t : ℕ) → put-rest-lts.Need-put-piece-requires-2 (claims t) (put-rest-at t) put-rest.Post
 put-rest-put-piece-requires-2 t c κs = (search needs, search (needs, more-fits))
 
-put-rest-same-length-4 : (t : ℕ) → put-rest-lts.Need-same-length-4 (
-  next-piece-reads.Asked,
-  next-piece-reads.Learnt,
-  put-piece-reads.Asked,
-  put-piece-reads.Learnt,
-  put-rest-below t,
-  put-rest.Post,
-) (put-rest-at t) put-rest.Post
+put-rest-same-length-4 : (t : ℕ) → put-rest-lts.Need-same-length-4 (claims t) (put-rest-at t) put-rest.Post
 put-rest-same-length-4 t c = search needs
 
-put-rest-returns-6 : (t : ℕ) → put-rest-lts.Need-returns-6 (
-  next-piece-reads.Asked,
-  next-piece-reads.Learnt,
-  put-piece-reads.Asked,
-  put-piece-reads.Learnt,
-  put-rest-below t,
-  put-rest.Post,
-) (put-rest-at t) put-rest.Post
+put-rest-returns-6 : (t : ℕ) → put-rest-lts.Need-returns-6 (claims t) (put-rest-at t) put-rest.Post
 put-rest-returns-6 t c = search (needs, more-put)
 
 pub +put-rest-spec : {M : Type 1} → statement M
-+put-rest-spec = close μ-put-rest λ t. put-rest-lts.spec (
-  next-piece-reads.Asked,
-  next-piece-reads.Learnt,
-  put-piece-reads.Asked,
-  put-piece-reads.Learnt,
-  put-rest-below t,
-  put-rest.Post,
-)
++put-rest-spec = close μ-put-rest λ t. put-rest-lts.spec (claims t)
     (put-rest-at t)
     put-rest.Post
     (put-rest-next-piece-requires t)
