@@ -5,7 +5,9 @@ pub mod Runs
 pub mod Heads
 pub mod Turns
 pub mod Known
+pub mod Marked
 pub mod Decided
+pub mod Dating
 pub mod Reading
 pub mod Written
 pub mod Numbers

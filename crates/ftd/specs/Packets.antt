@@ -6,7 +6,7 @@ use mathlib.Core.Bool.{Bool, true, false, cond, not, _&&_, _||_}
 use lib.ListN.{length, getD}
 use lib.Dec.{ltb, leb, eqb}
 use Rattle.ftd.specs.Bytes.{be16Of, be32Of, part}
-use Rattle.ftd.specs.Tags.{goodTags}
+use Rattle.ftd.specs.Tags.{goodTags, tradeDateOf}
 use Rattle.ftd.specs.Fields.{exactRun, fieldsOf, placeOf}
 use Rattle.ftd.specs.declared.fields.FieldPlace.{FieldPlace}
 use Rattle.ftd.specs.declared.fields.FieldPlace.the-variants.{NoField, Field}
@@ -15,6 +15,9 @@ use Rattle.ftd.specs.declared.packet.Span.{Span}
 use Rattle.ftd.specs.declared.packet.Chain.{Chain}
 use Rattle.ftd.specs.declared.packet.Chain.the-variants.{Single, First, Middle, Last}
 use Rattle.ftd.specs.declared.packet.Header.{Header}
+use Rattle.ftd.specs.declared.tags.TradeDate.{TradeDate}
+use Rattle.ftd.specs.declared.tags.TradeDate.the-variants.{None}
+use Rattle.ftd.specs.declared.packet.Dated.{Dated}
 use Rattle.ftd.specs.declared.packet.Packet.{Packet}
 use Rattle.ftd.specs.declared.packet.Packet.the-variants.{Short, Link, Skipped, Message, Refused}
 
@@ -187,6 +190,20 @@ readOf p =
     (cond (wrongBody (kindOf p) (bodyLength p)) (Refused BodyLength)
     (cond (restMissing p) Short
     (wholeOf p))))
+
+-- A link packet and a message packet bear the mark of their extension; nothing else bears one.
+abbrev pub bearsMark : Packet → Bool
+bearsMark Short = false
+bearsMark (Link kind extension) = true
+bearsMark (Skipped kind extension body) = false
+bearsMark (Message h extension content) = true
+bearsMark (Refused r) = false
+
+unfoldable pub withMark : Packet → TradeDate → Dated
+withMark packet d = record { packet = packet; date = cond (bearsMark packet) d None }
+
+unfoldable pub datedOf : List ℕ → Dated
+datedOf p = withMark (readOf p) (tradeDateOf (extensionOf p))
 
 -- Bytes are missing.
 abbrev pub isShort : Packet → Bool

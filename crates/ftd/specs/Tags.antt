@@ -9,6 +9,8 @@ use Rattle.ftd.specs.Bytes.{be32Of}
 use Rattle.ftd.specs.Runs.{Form, Run, runOf, ended}
 use Rattle.ftd.specs.declared.tags.TagPlace.{TagPlace}
 use Rattle.ftd.specs.declared.tags.TagPlace.the-variants.{NoTag, Data}
+use Rattle.ftd.specs.declared.tags.TagRun.{TagRun}
+use Rattle.ftd.specs.declared.tags.TagRun.the-variants.{Broken, Good}
 use Rattle.ftd.specs.declared.tags.TradeDate.{TradeDate}
 use Rattle.ftd.specs.declared.tags.TradeDate.the-variants.{None, At}
 
@@ -98,6 +100,14 @@ dateAt extension (Data start len) = cond (eqb len 4) (At (be32Of extension start
 
 unfoldable pub tradeDateOf : List ℕ → TradeDate
 tradeDateOf extension = dateAt extension (tagPlace extension 5)
+
+-- The extension check and the mark as one answer.
+unfoldable pub tagRunOf : List ℕ → TagRun
+tagRunOf extension = cond (goodTags extension) (Good (tradeDateOf extension)) Broken
+
+-- Where the data of the trade date lies that is seen last.
+unfoldable pub markPlace : ℕ → ℕ → ℕ → ℕ
+markPlace kind place at = cond (eqb kind 5) (at + 2) place
 
 -- The keep-alive tag 0x04 is there.
 abbrev pub isThere : TagPlace → Bool

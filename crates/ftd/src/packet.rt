@@ -6,7 +6,8 @@ ghost use lib.ListN.{length};
 ghost use Rattle.ftd.specs.Bench.{Bench};
 ghost use Rattle.ftd.specs.Fields.{FieldInside};
 ghost use Rattle.ftd.specs.Laws.{ReadLaws};
-ghost use Rattle.ftd.specs.Packets.{saidIn, Said, kindOf, extensionLength, wrongBody, isSkipped, isLetter, chainOf, chainLetter, headerOf, acceptedOf, messageOf, wholeOf, readOf, FitsIn, movedBy, fieldOf, fieldBytes};
+ghost use Rattle.ftd.specs.Tags.{tradeDateOf};
+ghost use Rattle.ftd.specs.Packets.{saidIn, Said, kindOf, extensionLength, wrongBody, isSkipped, isLetter, chainOf, chainLetter, headerOf, acceptedOf, messageOf, wholeOf, readOf, extensionOf, bearsMark, withMark, datedOf, FitsIn, movedBy, fieldOf, fieldBytes};
 use crate::bytes::be16;
 use crate::bytes::be32;
 use crate::bytes::size8;
@@ -15,7 +16,9 @@ use crate::fields::FieldPlace;
 use crate::fields::exact_run;
 use crate::fields::field_place;
 use crate::refusal::Refusal;
-use crate::tags::good_tags;
+use crate::tags::TagRun;
+use crate::tags::TradeDate;
+use crate::tags::read_tags;
 
 // A part of a packet: where it starts, and how many bytes it has.
 pub struct Span {
@@ -59,6 +62,12 @@ pub enum Packet {
         content: Span,
     },
     Refused(Refusal),
+}
+
+// What the bytes are, and the mark that it bears.
+pub struct Dated {
+    pub packet: Packet,
+    pub date: TradeDate,
 }
 
 // As many bytes as the first four say; 0 where they are not there.
@@ -195,54 +204,125 @@ fn read_message(p: &[u8], ext: usize, body: usize) -> Packet
     Packet::Refused(Refusal::ChainLetter)
 }
 
+// A link packet or a message packet.
+fn bears_mark(packet: Packet) -> bool
+    ensures { λ r. ⌜ r ≡ bearsMark packet ⌝ }
+{
+    match packet {
+        Packet::Short => false,
+        Packet::Link {
+            kind: _,
+            extension: _,
+        } => true,
+        Packet::Skipped {
+            kind: _,
+            extension: _,
+            body: _,
+        } => false,
+        Packet::Message {
+            header: _,
+            extension: _,
+            content: _,
+        } => true,
+        Packet::Refused(_) => false,
+    }
+}
+
+// The mark goes with what bears one.
+fn with_mark(packet: Packet, date: TradeDate) -> Dated
+    ensures { λ r. ⌜ r ≡ withMark packet date ⌝ }
+{
+    if bears_mark(packet) {
+        return Dated {
+            packet: packet,
+            date: date,
+        };
+    }
+    Dated {
+        packet: packet,
+        date: TradeDate::None,
+    }
+}
+
 // A packet that is there whole: skipped, refused with 2, a link packet or a message packet.
-fn read_whole(p: &[u8], kind: u8, ext: usize, body: usize) -> Packet
+fn read_whole(p: &[u8], kind: u8, ext: usize, body: usize) -> Dated
     requires { ⌜ Said (now p) ext body × (kind ≡ kindOf (now p)) × (4 + ext + body ≤ length (now p)) × (wrongBody kind body ≡ false) ⌝ }
-    ensures { λ r. ⌜ r ≡ wholeOf (now (p .entry)) ⌝ }
+    ensures { λ r. ⌜ r ≡ withMark (wholeOf (now (p .entry))) (tradeDateOf (extensionOf (now (p .entry)))) ⌝ }
 {
     let at = 4 + ext;
     if is_skipped(kind, body) {
-        return Packet::Skipped {
-            kind: kind,
-            extension: Span { start: 4, len: ext },
-            body: Span {
-                start: at,
-                len: body,
-            },
-        };
-    }
-    if good_tags(&p[4..at]) {
-        if body == 0 {
-            return Packet::Link {
+        return Dated {
+            packet: Packet::Skipped {
                 kind: kind,
                 extension: Span { start: 4, len: ext },
-            };
-        }
-        return read_message(p, ext, body);
+                body: Span {
+                    start: at,
+                    len: body,
+                },
+            },
+            date: TradeDate::None,
+        };
     }
-    Packet::Refused(Refusal::BrokenTag)
+    match read_tags(&p[4..at]) {
+        TagRun::Broken => Dated {
+            packet: Packet::Refused(Refusal::BrokenTag),
+            date: TradeDate::None,
+        },
+        TagRun::Good(date) => {
+            if body == 0 {
+                return Dated {
+                    packet: Packet::Link {
+                        kind: kind,
+                        extension: Span { start: 4, len: ext },
+                    },
+                    date: date,
+                };
+            }
+            with_mark(read_message(p, ext, body), date)
+        }
+    }
+}
+
+// What the bytes from the front on are, with the mark of a link packet or a message packet: the tags are walked once.
+pub fn read_dated(p: &[u8]) -> Dated
+    ensures { λ r. ⌜ r ≡ datedOf (now (p .entry)) ⌝ }
+{
+    if p.len() < 4 {
+        return Dated {
+            packet: Packet::Short,
+            date: TradeDate::None,
+        };
+    }
+    let kind = p[0];
+    let ext = size8(p[1]);
+    let body = size16(be16(p, 2));
+    if 127 < ext {
+        return Dated {
+            packet: Packet::Refused(Refusal::LongExtension),
+            date: TradeDate::None,
+        };
+    }
+    if wrong_body(kind, body) {
+        return Dated {
+            packet: Packet::Refused(Refusal::BodyLength),
+            date: TradeDate::None,
+        };
+    }
+    if p.len() < 4 + ext + body {
+        return Dated {
+            packet: Packet::Short,
+            date: TradeDate::None,
+        };
+    }
+    read_whole(p, kind, ext, body)
 }
 
 // What the bytes from the front on are. Bytes behind the packet are not looked at.
 pub fn read(p: &[u8]) -> Packet
     ensures { λ r. ⌜ r ≡ readOf (now (p .entry)) ⌝ }
 {
-    if p.len() < 4 {
-        return Packet::Short;
-    }
-    let kind = p[0];
-    let ext = size8(p[1]);
-    let body = size16(be16(p, 2));
-    if 127 < ext {
-        return Packet::Refused(Refusal::LongExtension);
-    }
-    if wrong_body(kind, body) {
-        return Packet::Refused(Refusal::BodyLength);
-    }
-    if p.len() < 4 + ext + body {
-        return Packet::Short;
-    }
-    read_whole(p, kind, ext, body)
+    let d = read_dated(p);
+    d.packet
 }
 
 // A place in a part that starts at `base`, as a place in the whole.

@@ -3,7 +3,7 @@ ghost use mathlib.Core.Path.{_≡_};
 ghost use Prim.Native.Nat.{_+_, _-_, _≤_};
 ghost use lib.ListN.{length, drop};
 ghost use Rattle.ftd.specs.Runs.{front};
-ghost use Rattle.ftd.specs.Tags.{tag, KnownRow, lengthRight, countDate, goodTags, tagPlace, TagInside, tradeDateOf, keepAliveOf};
+ghost use Rattle.ftd.specs.Tags.{tag, KnownRow, lengthRight, countDate, markPlace, goodTags, tagRunOf, tagPlace, TagInside, tradeDateOf, keepAliveOf};
 use crate::bytes::be32;
 use crate::bytes::size8;
 
@@ -22,6 +22,12 @@ pub enum TagPlace {
 pub enum TradeDate {
     None,
     At(u32),
+}
+
+// What the extension check finds: refusal 2, or the mark.
+pub enum TagRun {
+    Broken,
+    Good(TradeDate),
 }
 
 // How many bytes the tag at a place takes; 0 where none stands there whole.
@@ -78,26 +84,55 @@ fn count_date(kind: u8, dates: usize) -> usize
     dates
 }
 
-// The extension check, refusal 2 aside: tags end with the extension, known ones have their lengths, 0x05 stands once at most.
-pub fn good_tags(extension: &[u8]) -> bool
-    ensures { λ r. ⌜ r ≡ goodTags (now (extension .entry)) ⌝ }
+// The place of a trade date's data, or the one seen before.
+fn mark_place(kind: u8, place: usize, at: usize) -> usize
+    requires { ⌜ at + 2 ≤ 18446744073709551615 ⌝ }
+    ensures { λ r. ⌜ r ≡ markPlace kind place at ⌝ }
+{
+    if kind == 0x05 {
+        return at + 2;
+    }
+    place
+}
+
+// The extension check, and the mark, in one walk: tags end with the extension, known ones have their lengths, 0x05 stands once at most.
+pub fn read_tags(extension: &[u8]) -> TagRun
+    ensures { λ r. ⌜ r ≡ tagRunOf (now (extension .entry)) ⌝ }
 {
     let mut at: usize = 0;
     let mut dates: usize = 0;
+    let mut place: usize = 0;
     loop {
         let n = tag_size(extension, at);
         if n == 0 {
             if at < extension.len() {
-                return false;
+                return TagRun::Broken;
             }
-            return dates <= 1;
+            if dates == 0 {
+                return TagRun::Good(TradeDate::None);
+            }
+            if dates == 1 {
+                return TagRun::Good(TradeDate::At(be32(extension, place)));
+            }
+            return TagRun::Broken;
         }
         if length_right(extension[at], extension[at + 1]) {
             dates = count_date(extension[at], dates);
+            place = mark_place(extension[at], place, at);
             at += n;
         } else {
-            return false;
+            return TagRun::Broken;
         }
+    }
+}
+
+// The extension check alone.
+pub fn good_tags(extension: &[u8]) -> bool
+    ensures { λ r. ⌜ r ≡ goodTags (now (extension .entry)) ⌝ }
+{
+    match read_tags(extension) {
+        TagRun::Broken => false,
+        TagRun::Good(_) => true,
     }
 }
 

@@ -1,73 +1,15 @@
 -- `packet::read` meets its contract. Assumes nothing.
-use mathlib.Core.Path.{refl, sym, _∙_}
 use borrow.Author.Needs.{needs}
-use Rattle.ftd.proofs.Decided.{read-head-missing, read-long, read-body, read-rest-missing, read-there}
+use Rattle.ftd.specs.Packets.{withMark, datedOf}
 use Rattle.ftd.proofs.packet.read.Statement.{statement}
 use Rattle.ftd.proofs.packet.read.Tie as tie
 
+read-dated-requires : tie.Need-read-dated-requires
+read-dated-requires c κs = search needs
+
 returns : tie.Need-returns
-returns c = search (needs, read-head-missing)
-
-shared-slice-read-kind : tie.Need-shared-slice-read-kind
-shared-slice-read-kind c = search needs
-
-shared-slice-read-size8 : tie.Need-shared-slice-read-size8
-shared-slice-read-size8 c = search needs
-
-size8-requires : tie.Need-size8-requires
-size8-requires c κs = search needs
-
-be16-requires : tie.Need-be16-requires
-be16-requires c κs = search needs
-
-size16-requires : tie.Need-size16-requires
-size16-requires c κs = search needs
-
-returns-2 : tie.Need-returns-2
-returns-2 c = search (needs, read-long)
-
-wrong-body-requires : tie.Need-wrong-body-requires
-wrong-body-requires c κs = search needs
-
-returns-3 : tie.Need-returns-3
-returns-3 c = search (needs, read-body)
-
-add-if4 : tie.Need-add-if4
-add-if4 c = search needs
-
-add-if4-2 : tie.Need-add-if4-2
-add-if4-2 c = search needs
-
-returns-4 : tie.Need-returns-4
-returns-4 c = search (needs, read-rest-missing)
-
-read-whole-requires : tie.Need-read-whole-requires
-read-whole-requires c κs =
-    let h = c .before .before .before .before in (
-      (h .before .before .size8 .ensures .0, h .size16 .ensures .0 ∙ h .before .be16 .ensures),
-      refl,
-      c .if4 .left,
-      sym (c .before .before .wrong-body .ensures) ∙ c .before .if3 .left,
-    )
-
-returns-5 : tie.Need-returns-5
-returns-5 c = search (needs, read-there)
+unfolding withMark datedOf
+returns c = rw (c .read-dated .ensures)
 
 pub read-spec : {M : Type 1} → statement M
-read-spec =
-    tie.close
-    (tie.spec
-    returns
-    shared-slice-read-kind
-    shared-slice-read-size8
-    size8-requires
-    be16-requires
-    size16-requires
-    returns-2
-    wrong-body-requires
-    returns-3
-    add-if4
-    add-if4-2
-    returns-4
-    read-whole-requires
-    returns-5)
+read-spec = tie.close (tie.spec read-dated-requires returns)

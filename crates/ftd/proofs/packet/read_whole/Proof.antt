@@ -1,6 +1,7 @@
 -- `packet::read_whole` meets its contract. Assumes nothing.
 use borrow.Author.Needs.{needs}
-use Rattle.ftd.proofs.Decided.{body-least, whole-skipped, whole-broken, whole-link, whole-message}
+use Rattle.ftd.proofs.Decided.{body-least}
+use Rattle.ftd.proofs.Dating.{dated-skipped, dated-broken, dated-link, dated-message}
 use Rattle.ftd.proofs.packet.read_whole.Statement.{statement}
 use Rattle.ftd.proofs.packet.read_whole.Tie as tie
 
@@ -11,31 +12,40 @@ is-skipped-requires : tie.Need-is-skipped-requires
 is-skipped-requires c κs = search needs
 
 returns : tie.Need-returns
-returns c = search (needs, whole-skipped)
+returns c = search (needs, dated-skipped)
 
-sub-good-tags : tie.Need-sub-good-tags
-sub-good-tags c = search needs
+sub-read-tags : tie.Need-sub-read-tags
+sub-read-tags c = search needs
 
-part-good-tags-start : tie.Need-part-good-tags-start
-part-good-tags-start c = search needs
+part-read-tags-start : tie.Need-part-read-tags-start
+part-read-tags-start c = search needs
 
-part-good-tags-end : tie.Need-part-good-tags-end
-part-good-tags-end c = search needs
+part-read-tags-end : tie.Need-part-read-tags-end
+part-read-tags-end c = search needs
 
-good-tags-requires : tie.Need-good-tags-requires
-good-tags-requires c κs = search needs
+read-tags-requires : tie.Need-read-tags-requires
+read-tags-requires c κs = search needs
+
+enum-told : tie.Need-enum-told
+enum-told c = search needs
+
+enum-known-date : tie.Need-enum-known-date
+enum-known-date c = search needs
 
 returns-2 : tie.Need-returns-2
-returns-2 c = search (needs, whole-link)
+returns-2 c = search (needs, dated-link)
 
 read-message-requires : tie.Need-read-message-requires
 read-message-requires c κs = search (needs, body-least)
 
+with-mark-requires : tie.Need-with-mark-requires
+with-mark-requires c κs = search needs
+
 returns-3 : tie.Need-returns-3
-returns-3 c = search (needs, whole-message)
+returns-3 c = search (needs, dated-broken)
 
 returns-4 : tie.Need-returns-4
-returns-4 c = search (needs, whole-broken)
+returns-4 c = search (needs, dated-message)
 
 pub read-whole-spec : {M : Type 1} → statement M
 read-whole-spec =
@@ -44,11 +54,14 @@ read-whole-spec =
     add-at
     is-skipped-requires
     returns
-    sub-good-tags
-    part-good-tags-start
-    part-good-tags-end
-    good-tags-requires
+    sub-read-tags
+    part-read-tags-start
+    part-read-tags-end
+    read-tags-requires
+    enum-told
+    enum-known-date
     returns-2
     read-message-requires
+    with-mark-requires
     returns-3
     returns-4)

@@ -1,83 +1,24 @@
 -- `tags::good_tags` meets its contract. Assumes nothing.
-use Prim.Native.Nat.{_-_, _≤_}
-use mathlib.Core.Path.{_≡_, refl}
-use native.Mathlib.Omega.{arith}
+use mathlib.Core.Path.{sym}
 use borrow.Author.Needs.{needs}
-use lib.ListN.{length, drop}
-use Rattle.ftd.specs.Runs.{runOf}
-use Rattle.ftd.specs.Tags.{tag, goodRun, goodTags}
-use Rattle.ftd.proofs.Turns.{tag-head, tags-stop, tags-end, tags-wrong, tags-turn}
+use Rattle.ftd.proofs.Marked.{run-broken, run-good}
 use Rattle.ftd.proofs.tags.good_tags.Statement.{statement}
 use Rattle.ftd.proofs.tags.good_tags.Tie as tie
 
-abbrev Inv-loop : tie.InvT-loop
-Inv-loop extension at₀ dates₀ at dates = (at ≤ length extension) × (dates ≤ at) × (goodRun (runOf tag (drop at extension)) dates ≡ goodTags extension)
+read-tags-requires : tie.Need-read-tags-requires
+read-tags-requires c κs = search needs
 
-abbrev μ-loop : tie.MeasureT-loop
-μ-loop extension at₀ dates₀ at dates = length extension - at
+enum-told : tie.Need-enum-told
+enum-told c = search needs
 
-loop-holds : tie.Need-loop-holds Inv-loop μ-loop
-unfolding goodTags
-loop-holds c = (search needs, search needs, refl)
+enum-told-2 : tie.Need-enum-told-2
+enum-told-2 c = search needs
 
-tag-size-requires : tie.Need-tag-size-requires Inv-loop μ-loop
-tag-size-requires c κs = search needs
+returns : tie.Need-returns
+returns c = sym (run-broken _ _ (c .before .before .read-tags .ensures) (c .enum-told .given .1))
 
-returns : tie.Need-returns Inv-loop μ-loop
-returns c = search (needs, tags-stop)
-
-returns-2 : tie.Need-returns-2 Inv-loop μ-loop
-returns-2 c = search (needs, tags-end)
-
-shared-slice-read-length-right : tie.Need-shared-slice-read-length-right Inv-loop μ-loop
-shared-slice-read-length-right c = search needs
-
-add-length-right : tie.Need-add-length-right Inv-loop μ-loop
-add-length-right c = search needs
-
-shared-slice-read-length-right-2 : tie.Need-shared-slice-read-length-right-2 Inv-loop μ-loop
-shared-slice-read-length-right-2 c =
-    let h : 2 ≤ c .before .before .before .tag-size .result = search (needs, tag-head) in
-    omega arith
-
-length-right-requires : tie.Need-length-right-requires Inv-loop μ-loop
-length-right-requires c κs = search needs
-
-shared-slice-read-count-date : tie.Need-shared-slice-read-count-date Inv-loop μ-loop
-shared-slice-read-count-date c = search needs
-
-count-date-requires : tie.Need-count-date-requires Inv-loop μ-loop
-count-date-requires c κs = search needs
-
-add-at : tie.Need-add-at Inv-loop μ-loop
-add-at c = search needs
-
-loop-less : tie.Need-loop-less Inv-loop μ-loop
-loop-less c = search needs
-
-loop-again : tie.Need-loop-again Inv-loop μ-loop
-loop-again c = (search needs, search needs, search (needs, tags-turn))
-
-returns-3 : tie.Need-returns-3 Inv-loop μ-loop
-returns-3 c = search (needs, tags-wrong)
+returns-2 : tie.Need-returns-2
+returns-2 c = sym (run-good _ _ _ (c .before .before .read-tags .ensures) (c .enum-told2 .given .1))
 
 pub good-tags-spec : {M : Type 1} → statement M
-good-tags-spec =
-    tie.close
-    (tie.spec
-    Inv-loop
-    μ-loop
-    loop-holds
-    tag-size-requires
-    returns
-    returns-2
-    shared-slice-read-length-right
-    add-length-right
-    shared-slice-read-length-right-2
-    length-right-requires
-    shared-slice-read-count-date
-    count-date-requires
-    add-at
-    loop-less
-    loop-again
-    returns-3)
+good-tags-spec = tie.close (tie.spec read-tags-requires enum-told enum-told-2 returns returns-2)
