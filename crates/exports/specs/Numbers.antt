@@ -4,10 +4,9 @@ use mathlib.Core.List.{List}
 use mathlib.Core.Bool.{cond}
 use lib.ListN.{drop}
 use lib.Dec.{eqb}
-use Rattle.ftd.specs.Bytes.{be32Of, part}
+use Rattle.ftd.specs.Bytes.{be32Of}
 use Rattle.ftd.specs.Runs.{front}
 use Rattle.ftd.specs.Refusals.{numberOf}
-use Rattle.ftd.specs.Tags.{tradeDateOf}
 use Rattle.ftd.specs.Fields.{field}
 use Rattle.ftd.specs.Packets.{chainLetter}
 use Rattle.ftd.specs.declared.tags.TradeDate.{TradeDate}
@@ -15,6 +14,7 @@ use Rattle.ftd.specs.declared.tags.TradeDate.the-variants.{None, At}
 use Rattle.ftd.specs.declared.packet.Span.{Span}
 use Rattle.ftd.specs.declared.packet.Header.{Header}
 use Rattle.ftd.specs.declared.packet.Packet.{Packet}
+use Rattle.ftd.specs.declared.packet.Dated.{Dated}
 use Rattle.ftd.specs.declared.packet.Packet.the-variants.{Short, Link, Skipped, Message, Refused}
 use Rattle.ftd.specs.declared.fields.FieldPlace.{FieldPlace}
 use Rattle.ftd.specs.declared.fields.FieldPlace.the-variants.{NoField, Field}
@@ -39,9 +39,9 @@ use Rattle.exports.specs.declared.FtdWritten.{FtdWritten}
 
 -- ─── The trade date: 1 and its value, or 0 and 0 ───
 
-abbrev pub datedOf : TradeDate → ℕ
-datedOf None = 0
-datedOf (At d) = 1
+abbrev pub datedFlag : TradeDate → ℕ
+datedFlag None = 0
+datedFlag (At d) = 1
 
 abbrev pub dateOf : TradeDate → ℕ
 dateOf None = 0
@@ -84,7 +84,7 @@ linkNumbers kind e d =
       refusal = 0;
       kind = kind;
       chain = 0;
-      dated = datedOf d;
+      dated = datedFlag d;
     }
 
 -- The extension of a skipped packet is not read, so it has no trade date.
@@ -123,16 +123,19 @@ messageNumbers h e content d =
       refusal = 0;
       kind = 1;
       chain = chainLetter (h .chain);
-      dated = datedOf d;
+      dated = datedFlag d;
     }
 
--- The trade date is that of the extension, as a part of the bytes p.
-abbrev pub packetNumbers : List ℕ → Packet → FtdPacket
-packetNumbers p Short = plainNumbers 0 0
-packetNumbers p (Link kind e) = linkNumbers kind e (tradeDateOf (part p (e .start) (e .len)))
-packetNumbers p (Skipped kind e body) = skippedNumbers kind e body
-packetNumbers p (Message h e content) = messageNumbers h e content (tradeDateOf (part p (e .start) (e .len)))
-packetNumbers p (Refused r) = plainNumbers 4 (numberOf r)
+abbrev pub packetNumbers : Packet → TradeDate → FtdPacket
+packetNumbers Short d = plainNumbers 0 0
+packetNumbers (Link kind e) d = linkNumbers kind e d
+packetNumbers (Skipped kind e body) d = skippedNumbers kind e body
+packetNumbers (Message h e content) d = messageNumbers h e content d
+packetNumbers (Refused r) d = plainNumbers 4 (numberOf r)
+
+-- A packet with the mark that it bears.
+abbrev pub datedNumbers : Dated → FtdPacket
+datedNumbers x = packetNumbers (x .packet) (x .date)
 
 -- ─── A field: 1, its FID and its place, or all 0 ───
 

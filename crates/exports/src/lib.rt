@@ -1,16 +1,12 @@
 // The library for C and Rust: a handful of functions on numbers and byte slices. Each calls `ftd` and gives its answer as numbers.
 // tests/include/ftd.h says what the numbers mean.
 ghost use mathlib.Core.Path.{_≡_};
-ghost use Prim.Native.Nat.{_+_, _≤_};
-ghost use lib.ListN.{length};
-ghost use Rattle.ftd.specs.Bytes.{part, joined};
-ghost use Rattle.ftd.specs.Tags.{tradeDateOf};
-ghost use Rattle.ftd.specs.Packets.{readOf, fieldOf};
-ghost use Rattle.ftd.specs.Laws.{Inside};
+ghost use Rattle.ftd.specs.Bytes.{joined};
+ghost use Rattle.ftd.specs.Packets.{datedOf, fieldOf};
 ghost use Rattle.ftd.specs.Content.{contentOf};
 ghost use Rattle.ftd.specs.Writing.{answerOf, outputOf};
 ghost use Rattle.ftd.specs.Chains.{packetsOf, sizeAnswer, chainVerdict};
-ghost use Rattle.exports.specs.Numbers.{datedOf, dateOf, plainNumbers, linkNumbers, skippedNumbers, messageNumbers, packetNumbers, fieldNumbers, stepOf, directionFor, verdictNumber, dateFor, messageFor, sizeNumbers, writtenNumbers};
+ghost use Rattle.exports.specs.Numbers.{datedFlag, dateOf, plainNumbers, linkNumbers, skippedNumbers, messageNumbers, packetNumbers, datedNumbers, fieldNumbers, stepOf, directionFor, verdictNumber, dateFor, messageFor, sizeNumbers, writtenNumbers};
 use ftd::bytes::be32;
 use ftd::chain::ChainSize;
 use ftd::chain::Message;
@@ -26,10 +22,9 @@ use ftd::packet::Packet;
 use ftd::packet::Span;
 use ftd::packet::find_field;
 use ftd::packet::letter;
-use ftd::packet::read;
+use ftd::packet::read_dated;
 use ftd::refusal::number;
 use ftd::tags::TradeDate;
-use ftd::tags::trade_date;
 use ftd::write::Written;
 
 // What some bytes are: places, header values, the trade date, which answer it is, and the number of the refusal.
@@ -95,7 +90,7 @@ pub struct FtdWritten {
 
 // 1 where there is a trade date.
 fn dated(d: TradeDate) -> u8
-    ensures { λ r. ⌜ r ≡ datedOf d ⌝ }
+    ensures { λ r. ⌜ r ≡ datedFlag d ⌝ }
 {
     match d {
         TradeDate::None => 0,
@@ -111,14 +106,6 @@ fn date(d: TradeDate) -> u32
         TradeDate::None => 0,
         TradeDate::At(x) => x,
     }
-}
-
-// The trade date of an extension that lies there.
-fn date_in(p: &[u8], start: usize, len: usize) -> TradeDate
-    requires { ⌜ start + len ≤ length (now p) ⌝ }
-    ensures { λ r. ⌜ r ≡ tradeDateOf (part (now (p .entry)) start len) ⌝ }
-{
-    trade_date(&p[start..start + len])
 }
 
 // An answer with no packet: short, or refused.
@@ -211,17 +198,12 @@ fn message(h: Header, e: Span, content: Span, d: TradeDate) -> FtdPacket
 }
 
 // What was read, as numbers.
-fn numbers(p: &[u8], found: Packet) -> FtdPacket
-    requires { ⌜ Inside (now p) found ⌝ }
-    ensures { λ r. ⌜ r ≡ packetNumbers (now (p .entry)) found ⌝ }
+fn numbers(found: Packet, d: TradeDate) -> FtdPacket
+    ensures { λ r. ⌜ r ≡ packetNumbers found d ⌝ }
 {
     match found {
         Packet::Short => plain(0, 0),
-        Packet::Link { kind, extension } => link(
-            kind,
-            extension,
-            date_in(p, extension.start, extension.len),
-        ),
+        Packet::Link { kind, extension } => link(kind, extension, d),
         Packet::Skipped {
             kind,
             extension,
@@ -231,12 +213,7 @@ fn numbers(p: &[u8], found: Packet) -> FtdPacket
             header,
             extension,
             content,
-        } => message(
-            header,
-            extension,
-            content,
-            date_in(p, extension.start, extension.len),
-        ),
+        } => message(header, extension, content, d),
         Packet::Refused(r) => plain(4, number(r)),
     }
 }
@@ -244,9 +221,12 @@ fn numbers(p: &[u8], found: Packet) -> FtdPacket
 // What the bytes from the front on are.
 #[no_mangle]
 pub extern "C" fn ftd_read(p: &[u8]) -> FtdPacket
-    ensures { λ r. ⌜ r ≡ packetNumbers (now (p .entry)) (readOf (now (p .entry))) ⌝ }
+    ensures { λ r. ⌜ r ≡ datedNumbers (datedOf (now (p .entry))) ⌝ }
 {
-    numbers(p, read(p))
+    let d = read_dated(p);
+    let found = d.packet;
+    let date = d.date;
+    numbers(found, date)
 }
 
 // Field i of a message packet, counted from 0.

@@ -1,17 +1,16 @@
--- `ftd_read` meets its contract: each place that was read lies inside the bytes. Assumes nothing.
-use Rattle.ftd.proofs.Reading.{inside}
+-- `ftd_read` meets its contract. Assumes nothing.
 use borrow.Author.Needs.{needs}
 use Rattle.exports.proofs.ftd_read.Statement.{statement}
 use Rattle.exports.proofs.ftd_read.Tie as tie
 
-read-requires : tie.Need-read-requires
-read-requires c κs = search needs
+read-dated-requires : tie.Need-read-dated-requires
+read-dated-requires c κs = search needs
 
 numbers-requires : tie.Need-numbers-requires
-numbers-requires c κs = rw (c .read .ensures) (inside _)
+numbers-requires c κs = search needs
 
 returns : tie.Need-returns
-returns c = rw (← (c .before .read .ensures)) (c .numbers .ensures)
+returns c = rw (← (c .before .read-dated .ensures)) (c .numbers .ensures)
 
 pub ftd-read-spec : {M : Type 1} → statement M
-ftd-read-spec = tie.close (tie.spec read-requires numbers-requires returns)
+ftd-read-spec = tie.close (tie.spec read-dated-requires numbers-requires returns)

@@ -1,5 +1,4 @@
 -- `numbers` meets its contract, case by case. Assumes nothing.
-use native.Mathlib.Omega.{arith}
 use borrow.Author.Needs.{needs}
 use Rattle.exports.proofs.numbers.Statement.{statement}
 use Rattle.exports.proofs.numbers.Tie as tie
@@ -13,11 +12,6 @@ plain-requires c κs = search needs
 enum-known-found : tie.Need-enum-known-found
 enum-known-found c = search needs
 
-date-in-requires : tie.Need-date-in-requires
-date-in-requires c κs =
-    let i = rw (c .before .found .given .1) at (c .before .before .before .before .pre) in
-    omega (arith, i .0, i .1)
-
 link-requires : tie.Need-link-requires
 link-requires c κs = search needs
 
@@ -29,11 +23,6 @@ skipped-requires c κs = search needs
 
 enum-known-found-3 : tie.Need-enum-known-found-3
 enum-known-found-3 c = search needs
-
-date-in-requires-2 : tie.Need-date-in-requires-2
-date-in-requires-2 c κs =
-    let i = rw (c .before .found3 .given .1) at (c .before .before .before .before .pre) in
-    omega (arith, i .0, i .1, i .2)
 
 message-requires : tie.Need-message-requires
 message-requires c κs = search needs
@@ -51,13 +40,13 @@ returns : tie.Need-returns
 returns c = rw (c .before .enum-told .given .1) (c .plain .ensures)
 
 returns-2 : tie.Need-returns-2
-returns-2 c = rw (c .before .before .before .found .given .1, ← (c .before .date-in .ensures)) (c .link .ensures)
+returns-2 c = rw (c .before .before .found .given .1) (c .link .ensures)
 
 returns-3 : tie.Need-returns-3
 returns-3 c = rw (c .before .before .found2 .given .1) (c .skipped .ensures)
 
 returns-4 : tie.Need-returns-4
-returns-4 c = rw (c .before .before .before .found3 .given .1, ← (c .before .date-in2 .ensures)) (c .message .ensures)
+returns-4 c = rw (c .before .before .found3 .given .1) (c .message .ensures)
 
 returns-5 : tie.Need-returns-5
 returns-5 c = rw (c .before .before .before .found4 .given .1, ← (c .before .number .ensures)) (c .plain2 .ensures)
@@ -69,12 +58,10 @@ numbers-spec =
     enum-told
     plain-requires
     enum-known-found
-    date-in-requires
     link-requires
     enum-known-found-2
     skipped-requires
     enum-known-found-3
-    date-in-requires-2
     message-requires
     enum-known-found-4
     number-requires
