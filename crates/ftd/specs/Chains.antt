@@ -73,9 +73,9 @@ othersOf (f ∷ fs) = pack none (f ∷ fs)
 abbrev pub pieceAt : List ℕ → ℕ → Cut → Piece
 pieceAt content at c = record { count = c .count; bytes = part content at (c .end - at) }
 
--- From a place on whole fields that a packet holds end there, so many of them; what is left is as shapely as the whole. Where that is
--- shapely, they are the content's first piece, and the others are those of what is left; where it is not, sooner or later none is taken
--- though bytes are left.
+-- From a place on whole fields that a packet holds end there, so many of them; what is left is as shapely as all from the place on. Where
+-- that is shapely, they are the content's first piece, and the others are those of what is left. Where none is taken though bytes are left,
+-- it is not.
 pub record NextPiece (content : List ℕ) (at : ℕ) (c : Cut) : Type 0 where
   pub pieces : shapely (runOf field (drop at content)) ≡ true → piecesOf (drop at content) ≡ pieceAt content at c ∷ othersOf (fieldsOf (drop (c .end) content))
   pub low : at ≤ c .end
