@@ -138,10 +138,6 @@ unfolding sizeAnswer shaped
 size-over m content h = rw (lt-leb (length content) 32768 h)
 
 module _ (m : Message) (content : List ℕ) (tags : ℕ) (e : tags ≡ length (extensionBytes (tagsFor (m .date)))) where
-  pub chain-long : length (joined (packetsOf m content)) ≡ sizeOf tags (piecesOf content)
-  unfolding packetsOf
-  chain-long = rw e (framed-size m true (piecesOf content))
-
   pub size-is : length content ≤ 32768 → measureOf tags content ≡ sizeAnswer m content
   unfolding measureOf sizeAnswer shaped packetsOf
   size-is h = rw (le-leb (length content) 32768 h, framed-count m true (piecesOf content), framed-size m true (piecesOf content), ← e)
