@@ -1,17 +1,17 @@
 -- The pieces of a content and the packets of a message, one at a time. Assumes nothing.
 use Prim.Native.Nat.{ℕ, zero, suc, _+_, _-_, _<_, _≤_}
 use mathlib.Core.Path.{_≡_, refl, sym, ap, _∙_}
-use mathlib.Core.List.{List, [], _∷_, _++_}
-use mathlib.Core.Bool.{Bool, true, false, cond, _&&_}
+use mathlib.Core.List.{List, [], _∷_}
+use mathlib.Core.Bool.{Bool, true, false, _&&_}
 use native.Mathlib.Omega.{arith}
 use borrow.Author.Tests.{leb-true, le-leb, lt-leb, eqb-true, eqb-false}
-use lib.ListN.{length, getD, take, drop, length-drop, length-take, length-append, drop-of-length-le}
+use lib.ListN.{length, getD, drop, length-drop, length-take, length-append, drop-of-length-le}
 use lib.Seq.{drop-drop}
 use lib.Dec.{leb, eqb, eqb·suc-zero}
 use Rattle.ftd.specs.Bytes.{part, joined}
-use Rattle.ftd.specs.Runs.{Run, runOf, ended}
+use Rattle.ftd.specs.Runs.{runOf}
 use Rattle.ftd.specs.Fields.{field, fieldsOf}
-use Rattle.ftd.specs.Chains.{allSmall, shapely, Piece, none, with, pack, shaped, piecesOf, othersOf, pieceAt, NextPiece, tagsFor, extensionBytes, chainAt, headerFor, packetFor, isNil, framed, packetsOf, sizeOf, measureOf, sizeAnswer}
+use Rattle.ftd.specs.Chains.{shapely, Piece, none, with, pack, shaped, piecesOf, othersOf, pieceAt, NextPiece, tagsFor, extensionBytes, chainAt, packetFor, isNil, framed, packetsOf, sizeOf, measureOf, sizeAnswer}
 use Rattle.ftd.specs.declared.refusal.Refusal.the-variants.{FieldRun}
 use Rattle.ftd.specs.declared.packet.Chain.{Chain}
 use Rattle.ftd.specs.declared.chain.ChainSize.the-variants.{Refused}

@@ -2,28 +2,26 @@
 use Prim.Native.Nat.{ℕ, zero, suc, _+_, _-_, _*_, _<_, _≤_}
 use mathlib.Core.Path.{_≡_, refl, sym, ap, _∙_}
 use mathlib.Core.List.{List, [], _∷_, _++_, map, append-assoc, append-nil}
-use mathlib.Core.Bool.{Bool, true, false, cond, _&&_}
+use mathlib.Core.Bool.{Bool, true, false, _&&_}
 use native.Mathlib.Omega.{arith}
-use borrow.Author.Tests.{le-ltb, le-leb, leb-true, leb-false, eq-eqb}
-use lib.ListN.{length, getD, take, drop, length-append, length-take}
+use borrow.Author.Tests.{le-ltb, leb-true, leb-false, eq-eqb}
+use lib.ListN.{length, getD, take, length-append, length-take}
 use lib.Seq.{getD-take}
 use lib.Dec.{leb, eqb, eqb·suc-suc, eqb·suc-zero, eqb·zero-suc}
-use Rattle.ftd.specs.Bytes.{be16Of, be32Of, part, joined, bytes32}
-use Rattle.ftd.specs.Runs.{Form, front, Run, runOf, ended}
+use Rattle.ftd.specs.Bytes.{be16Of, be32Of, part, joined}
+use Rattle.ftd.specs.Runs.{front, runOf, ended}
 use Rattle.ftd.specs.Tags.{tag, lengthRight, knownTags, countDate, goodTags, tagPlace, tradeDateOf}
 use Rattle.ftd.specs.Fields.{field, fieldsOf, exactRun}
-use Rattle.ftd.specs.Packets.{extensionLength, bodyLength, span, readOf}
-use Rattle.ftd.specs.Writing.{packetBytes, messageBytes, fine, messageVerdict}
-use Rattle.ftd.specs.Chains.{Tag, tagBytes, allSmall, shapely, shaped, Piece, none, with, pack, piecesOf, tagsFor, extensionBytes, chainAt, headerFor, packetFor, isNil, framed, packetsOf}
+use Rattle.ftd.specs.Packets.{span, readOf}
+use Rattle.ftd.specs.Writing.{packetBytes, messageBytes, messageVerdict}
+use Rattle.ftd.specs.Chains.{Tag, tagBytes, allSmall, shaped, Piece, none, with, pack, piecesOf, tagsFor, extensionBytes, chainAt, headerFor, packetFor, isNil, framed, packetsOf}
 use Rattle.ftd.specs.ChainLaws.{packet, pieceOf, packetOf, letterAt, ChainLaws}
 use Rattle.ftd.specs.declared.tags.TradeDate.{TradeDate}
 use Rattle.ftd.specs.declared.tags.TradeDate.the-variants.{None, At}
 use Rattle.ftd.specs.declared.packet.Chain.{Chain}
-use Rattle.ftd.specs.declared.packet.Header.{Header}
-use Rattle.ftd.specs.declared.packet.Packet.{Packet}
 use Rattle.ftd.specs.declared.packet.Packet.the-variants.{Message as Read}
 use Rattle.ftd.specs.declared.chain.Message.{Message}
-use Rattle.ftd.proofs.Lists.{byte-append, be16-append}
+use Rattle.ftd.proofs.Lists.{byte-append}
 use Rattle.ftd.proofs.Numbers.{back32}
 use Rattle.ftd.proofs.Runs.{run-joined, run-whole}
 use Rattle.ftd.proofs.Turns.{some-tag, some-field}
@@ -31,7 +29,7 @@ use Rattle.ftd.proofs.Heads.{front-whole}
 use Rattle.ftd.proofs.Joined.{Entry, Entries, run-of, Local, run-entries}
 use Rattle.ftd.proofs.Reading.{by-test}
 use Rattle.ftd.proofs.RoundTrip.{message-back, message-places}
-use Rattle.ftd.proofs.Written.{length-packet, length-message}
+use Rattle.ftd.proofs.Written.{length-packet}
 use Rattle.ftd.proofs.Chained.{shaped-facts, framed-count, pieces-some}
 
 -- ─── The mark ───

@@ -1,15 +1,14 @@
 -- The rule of Appendix E's table, computed once over the whole table. Assumes nothing.
 use Prim.Native.Nat.{ℕ, zero, suc, _<_}
-use mathlib.Core.Path.{_≡_, refl, sym, ap, _∙_}
+use mathlib.Core.Path.{_≡_, refl}
 use mathlib.Core.List.{List, [], _∷_}
 use mathlib.Core.Bool.{Bool, true, false, not, _&&_}
 use native.Mathlib.Omega.{arith}
 use borrow.Author.Tests.{not-true}
 use lib.ListN.{length, getD}
-use lib.Dec.{T}
 use Rattle.ftd.specs.Table.{table, rowsOf}
 use Rattle.ftd.specs.Modes.{tids}
-use Rattle.ftd.specs.Composition.{Listed, appendixE, lineAt}
+use Rattle.ftd.specs.Composition.{Listed, appendixE}
 use Rattle.ftd.specs.CompositionRule.{again, noneAgain, lineRight, tableRight, CompositionRule}
 use Rattle.ftd.proofs.Counts.{noLine, lines, line-is}
 

@@ -1,17 +1,15 @@
 -- One turn of counting a field, and of the walk over Appendix E, over plain variables. Assumes nothing.
 use Prim.Native.Nat.{ℕ, _+_, _<_, _≤_}
-use mathlib.Core.Path.{_≡_, refl, sym, ap, _∙_}
-use mathlib.Core.List.{List, [], _∷_, map}
-use mathlib.Core.Bool.{Bool, true, false, cond, _&&_}
+use mathlib.Core.Path.{_≡_, refl, _∙_}
+use mathlib.Core.List.{List}
+use mathlib.Core.Bool.{Bool, true, false, _&&_}
 use native.Mathlib.Numerals.{add-one}
-use native.Mathlib.Omega.{arith}
 use borrow.Author.Tests.{eq-eqb, ne-eqb}
 use lib.ListN.{length, getD, take, drop, drop-of-length-le, List·getD-map}
 use lib.Seq.{drop-cons}
-use lib.Dec.{eqb}
 use Rattle.ftd.specs.Bytes.{be32Of}
-use Rattle.ftd.specs.Runs.{Run, front, runOf}
-use Rattle.ftd.specs.Fields.{field, fieldsOf, fidOf}
+use Rattle.ftd.specs.Runs.{front, runOf}
+use Rattle.ftd.specs.Fields.{field, fidOf}
 use Rattle.ftd.specs.Composition.{Listed, appendixE, tids, directions, fids, leasts, mosts, lineAt, oneIf, counted, countOf, inRange, lineHolds, allHold}
 use Rattle.ftd.proofs.Runs.{run-over, run-next}
 use Rattle.ftd.proofs.Turns.{some-field, be32-entry, field-head}

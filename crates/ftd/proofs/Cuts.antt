@@ -1,21 +1,19 @@
 -- One turn of the cutting, over plain variables. Assumes nothing.
-use Prim.Native.Nat.{ℕ, zero, suc, _+_, _-_, _<_, _≤_}
+use Prim.Native.Nat.{ℕ, _+_, _-_, _<_, _≤_}
 use mathlib.Core.Path.{_≡_, refl, sym, ap, _∙_}
-use mathlib.Core.List.{List, [], _∷_, _++_, append-nil}
-use mathlib.Core.Bool.{Bool, true, false, cond, _&&_}
-use native.Mathlib.Nat.{sub-self, zero-add}
+use mathlib.Core.List.{List, [], _∷_, _++_}
+use mathlib.Core.Bool.{Bool, true, false, _&&_}
 use native.Mathlib.Omega.{arith}
-use borrow.Author.Tests.{le-leb, lt-leb, leb-true, eqb-true}
+use borrow.Author.Tests.{le-leb, lt-leb, leb-true}
 use lib.ListN.{length, take, drop, length-drop, length-take}
 use lib.Seq.{take-add, drop-drop}
-use lib.Dec.{leb, eqb}
+use lib.Dec.{leb}
 use Rattle.ftd.specs.Bytes.{part}
-use Rattle.ftd.specs.Runs.{Run, front, behind, runOf, ended}
+use Rattle.ftd.specs.Runs.{Run, front, runOf, ended}
 use Rattle.ftd.specs.Fields.{field, fieldsOf}
-use Rattle.ftd.specs.Chains.{allSmall, shapely, Piece, none, with, pack, piecesOf, othersOf, NextPiece}
-use Rattle.ftd.specs.declared.chain.Cut.{Cut}
+use Rattle.ftd.specs.Chains.{allSmall, shapely, Piece, pack, piecesOf, NextPiece}
 use Rattle.ftd.proofs.Runs.{run-over, run-next, entry-inside, entry-length}
-use Rattle.ftd.proofs.Turns.{some-field, field-head}
+use Rattle.ftd.proofs.Turns.{some-field}
 use Rattle.ftd.proofs.Shapes.{shape-over, shape-long, shape-turn, shapely-next}
 
 -- A piece that is begun at a place and has come to another.

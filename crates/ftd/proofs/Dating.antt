@@ -1,11 +1,11 @@
 -- What each way through the reading functions decides of the mark, over plain variables. Assumes nothing.
 use Prim.Native.Nat.{ℕ, _+_, _-_, _<_, _≤_}
-use mathlib.Core.Path.{_≡_, refl, sym, ap, _∙_}
+use mathlib.Core.Path.{_≡_, refl, ap, _∙_}
 use mathlib.Core.List.{List}
 use mathlib.Core.Bool.{Bool, true, false}
 use native.Mathlib.Omega.{arith}
 use lib.ListN.{length, take, drop}
-use Rattle.ftd.specs.Tags.{goodTags, tradeDateOf, tagRunOf}
+use Rattle.ftd.specs.Tags.{tradeDateOf, tagRunOf}
 use Rattle.ftd.specs.Packets.{Said, kindOf, bodyLength, extensionLength, extensionOf, wrongBody, isSkipped, span, messageOf, wholeOf, readOf, bearsMark, withMark, datedOf}
 use Rattle.ftd.specs.declared.refusal.Refusal.the-variants.{LongExtension, BrokenTag, BodyLength}
 use Rattle.ftd.specs.declared.tags.TagRun.{TagRun}

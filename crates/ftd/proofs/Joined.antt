@@ -1,16 +1,16 @@
 -- Entries joined are cut into the same entries, and those of a run are such entries. Assumes nothing.
 use Prim.Native.Nat.{ℕ, zero, suc, _+_, _<_, _≤_}
-use mathlib.Core.Path.{_≡_, refl, sym, ap, _∙_}
+use mathlib.Core.Path.{_≡_, refl, ap, _∙_}
 use mathlib.Core.List.{List, [], _∷_, _++_}
 use mathlib.Core.Bool.{Bool, true, false, cond}
 use native.Mathlib.Omega.{arith}
 use borrow.Author.Tests.{le-leb, leb-true}
-use lib.ListN.{length, getD, take, drop, length-append, length-take, length-drop}
+use lib.ListN.{length, take, drop, length-append, length-take}
 use lib.Seq.{take-append-seam, drop-append-seam}
 use lib.Dec.{leb}
 use Rattle.ftd.specs.Bytes.{joined}
 use Rattle.ftd.specs.Runs.{Form, front, Run, behind, cutOff, runIn, runOf}
-use Rattle.ftd.proofs.Runs.{run-step, front-inside}
+use Rattle.ftd.proofs.Runs.{run-step}
 
 -- Some bytes are an entry: at the front of any bytes they are the entry there.
 pub record Entry (F : Form) (e : List ℕ) : Type 0 where

@@ -1,10 +1,10 @@
 -- The laws of `put`: a run of stores is one put, a put keeps the length, and a put right behind a put, or right before one, is one put. Assumes nothing.
-use Prim.Native.Nat.{ℕ, _+_, _-_, _<_, _≤_}
-use mathlib.Core.Path.{_≡_, refl, sym, ap, _∙_}
-use mathlib.Core.List.{List, [], _∷_, _++_, append-assoc, append-nil}
+use Prim.Native.Nat.{ℕ, _+_, _-_, _≤_}
+use mathlib.Core.Path.{_≡_, sym, ap, _∙_}
+use mathlib.Core.List.{List, [], _++_, append-assoc, append-nil}
 use native.Mathlib.Omega.{arith}
 use native.Mathlib.Nat.{zero-add, add-assoc, add-zero}
-use lib.ListN.{length, take, drop, set, getD, length-append, length-take, length-drop, take-append-drop}
+use lib.ListN.{length, take, drop, length-append, length-take, length-drop, take-append-drop}
 use lib.Seq.{sets, sets-eq, paste, take-length, length-take-le, take-at, drop-at, take-append-le, drop-append-le, drop-append-add, take-take, drop-drop}
 use Rattle.ftd.specs.Bytes.{put}
 

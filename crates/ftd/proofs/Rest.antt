@@ -9,7 +9,7 @@ use lib.ListN.{length, drop, length-append}
 use Rattle.ftd.specs.Bytes.{put, joined}
 use Rattle.ftd.specs.Runs.{runOf}
 use Rattle.ftd.specs.Fields.{field}
-use Rattle.ftd.specs.Chains.{shapely, shaped, Piece, piecesOf, pieceAt, NextPiece, tagsFor, extensionBytes, chainAt, packetFor, isNil, framed, packetsOf, restOf, PutRest, chainVerdict, sizeOf}
+use Rattle.ftd.specs.Chains.{shapely, shaped, Piece, piecesOf, pieceAt, NextPiece, tagsFor, extensionBytes, chainAt, packetFor, isNil, packetsOf, restOf, PutRest, chainVerdict, sizeOf}
 use Rattle.ftd.specs.Writing.{fine, refuse, answerOf, outputOf}
 use Rattle.ftd.specs.declared.refusal.Refusal.the-variants.{FieldRun, TooSmall}
 use Rattle.ftd.specs.declared.write.Written.the-variants.{Bytes, Refused}

@@ -1,26 +1,23 @@
 -- The laws of the start field. Assumes nothing.
-use Prim.Native.Nat.{ℕ, _+_, _-_, _<_, _≤_}
+use Prim.Native.Nat.{ℕ, _+_, _-_, _≤_}
 use mathlib.Core.Path.{_≡_, refl, sym, ap, _∙_}
-use mathlib.Core.List.{List, [], _∷_, _++_, append-nil, append-assoc}
+use mathlib.Core.List.{List, [], _∷_, _++_, append-nil}
 use mathlib.Core.Bool.{Bool, true, false, cond}
 use native.Mathlib.Omega.{arith}
-use borrow.Author.Tests.{le-ltb, eqb-true}
-use lib.ListN.{length, getD, take, drop, length-append}
+use lib.ListN.{length, length-append}
 use lib.Seq.{drop-append-seam}
 use lib.Dec.{eqb}
-use Rattle.ftd.specs.Bytes.{be16Of, be32Of, bytes16, bytes32, joined}
-use Rattle.ftd.specs.Runs.{Form, front, Run, runOf, ended}
+use Rattle.ftd.specs.Bytes.{be16Of, be32Of, joined}
+use Rattle.ftd.specs.Runs.{Run, runOf, ended}
 use Rattle.ftd.specs.Fields.{field, fieldsOf, fidOf}
 use Rattle.ftd.specs.Composition.{oneIf, counted, countOf}
-use Rattle.ftd.specs.Resume.{firstIn, firstOf, resumeAt, resumeOf, resumeBytes, ResumeLaws}
-use Rattle.ftd.specs.declared.fields.FieldPlace.{FieldPlace}
-use Rattle.ftd.specs.declared.fields.FieldPlace.the-variants.{NoField, Field}
-use Rattle.ftd.specs.declared.resume.Resume.{Resume}
+use Rattle.ftd.specs.Resume.{firstIn, firstOf, resumeOf, resumeBytes, ResumeLaws}
+use Rattle.ftd.specs.declared.fields.FieldPlace.the-variants.{Field}
 use Rattle.ftd.specs.declared.resume.Resume.the-variants.{Next}
 use Rattle.ftd.proofs.Runs.{run-whole}
 use Rattle.ftd.proofs.Heads.{be16-drop, be32-drop, front-whole}
 use Rattle.ftd.proofs.Turns.{some-field}
-use Rattle.ftd.proofs.Joined.{Entry, Entries, run-of}
+use Rattle.ftd.proofs.Joined.{Entry, run-of}
 use Rattle.ftd.proofs.Chains.{joined-append, entries-snoc, fields-entries}
 
 -- The field of twelve bytes is an entry.

@@ -1,14 +1,14 @@
 -- Both round trips, and what the reader says of what a writer refuses. Assumes nothing.
 use Prim.Native.Nat.{ℕ, _+_, _-_, _<_, _≤_}
 use mathlib.Core.Path.{_≡_, refl, sym, ap, _∙_}
-use mathlib.Core.List.{List, [], _∷_, _++_, append-assoc, append-nil}
+use mathlib.Core.List.{List, [], _∷_, _++_, append-assoc}
 use mathlib.Core.Bool.{Bool, true, false, cond, not, _&&_, _||_}
 use native.Mathlib.Nat.{add-zero}
 use native.Mathlib.Omega.{arith}
-use borrow.Author.Tests.{lt-ltb, le-ltb, eq-eqb, ne-eqb, ltb-true, ltb-false, eqb-true, eqb-false, not-true, not-false}
+use borrow.Author.Tests.{lt-ltb, le-ltb, ne-eqb, ltb-true, ltb-false, eqb-true, eqb-false}
 use lib.ListN.{length, getD, take, drop, length-append, length-take, length-drop}
-use lib.Seq.{take-at, drop-at, take-length, take-add, drop-drop, getD-drop, take-append-seam, take-append-le}
-use lib.Dec.{ltb, leb, eqb}
+use lib.Seq.{drop-at, take-length, take-add, drop-drop, getD-drop, take-append-seam}
+use lib.Dec.{ltb, eqb}
 use Rattle.ftd.specs.Bytes.{be16Of, be32Of, part, Bytes, bytes16, bytes32}
 use Rattle.ftd.specs.Tags.{goodTags}
 use Rattle.ftd.specs.Fields.{exactRun}
@@ -21,7 +21,7 @@ use Rattle.ftd.specs.declared.packet.Chain.{Chain}
 use Rattle.ftd.specs.declared.packet.Chain.the-variants.{Single, First, Middle, Last}
 use Rattle.ftd.specs.declared.packet.Header.{Header}
 use Rattle.ftd.specs.declared.packet.Packet.{Packet}
-use Rattle.ftd.specs.declared.packet.Packet.the-variants.{Short, Link, Skipped, Message, Refused}
+use Rattle.ftd.specs.declared.packet.Packet.the-variants.{Link, Skipped, Message, Refused}
 use Rattle.ftd.specs.declared.write.Written.{Written}
 use Rattle.ftd.specs.WriteLaws.{at, plainOf, WriteLaws}
 use Rattle.ftd.proofs.Lists.{part-append, be16-width}
@@ -29,7 +29,7 @@ use Rattle.ftd.proofs.Heads.{be16-drop, be32-drop}
 use Rattle.ftd.proofs.Numbers.{back16, back32, one-byte, two-bytes, four-bytes}
 use Rattle.ftd.proofs.Written.{length-header, length-packet, length-message}
 use Rattle.ftd.proofs.Decided.{header-made, accepted-made, fields-wrong, message-good, whole-skipped, whole-broken, whole-link, whole-message, read-long, read-body, read-there}
-use Rattle.ftd.proofs.Reading.{by-test, There, Accepted, accepted, Linked, linked, Passed, passed, stays}
+use Rattle.ftd.proofs.Reading.{by-test, There, Accepted, accepted, linked, passed, stays}
 
 -- ─── A packet of any kind ───
 

@@ -1,15 +1,14 @@
 -- One turn of the shape check, over plain variables. Assumes nothing.
 use Prim.Native.Nat.{ℕ, _+_, _-_, _<_, _≤_}
-use mathlib.Core.Path.{_≡_, refl, sym, ap, _∙_}
-use mathlib.Core.List.{List, [], _∷_}
+use mathlib.Core.Path.{_≡_, refl, sym, _∙_}
+use mathlib.Core.List.{List}
 use mathlib.Core.Bool.{Bool, true, false, _&&_}
-use native.Mathlib.Omega.{arith}
 use borrow.Author.Tests.{le-leb, lt-leb, leb-true, leb-false}
-use lib.ListN.{length, take, drop}
+use lib.ListN.{length, drop}
 use lib.Dec.{leb, eqb}
-use Rattle.ftd.specs.Runs.{Run, front, behind, runOf, ended}
+use Rattle.ftd.specs.Runs.{front, runOf, ended}
 use Rattle.ftd.specs.Fields.{field}
-use Rattle.ftd.specs.Chains.{allSmall, shapely, shaped}
+use Rattle.ftd.specs.Chains.{allSmall, shapely}
 use Rattle.ftd.proofs.Runs.{run-over, run-next, entry-length}
 use Rattle.ftd.proofs.Turns.{and-false, not-ended, is-ended, some-field}
 

@@ -11,7 +11,6 @@ use Rattle.ftd.specs.Bytes.{bytes16, bytes32}
 use Rattle.ftd.specs.Refusals.{numberOf}
 use Rattle.ftd.specs.Packets.{letterOf, chainLetter, readOf}
 use Rattle.ftd.specs.Chains.{packetsOf}
-use Rattle.ftd.specs.declared.chain.Message.{Message as Outgoing}
 use Rattle.ftd.specs.declared.tags.TradeDate.the-variants.{None}
 use Rattle.ftd.specs.Packets.{chainLetter, readOf}
 use Rattle.ftd.specs.Items.{checkOf}

@@ -2,19 +2,18 @@
 -- back as what was meant, and the packets are found again in what was written by their first four bytes.
 use Prim.Native.Nat.{ℕ, _+_, _≤_, _<_}
 use mathlib.Core.Path.{_≡_}
-use mathlib.Core.List.{List, [], _∷_, _++_, map}
-use mathlib.Core.Bool.{Bool, true, false}
+use mathlib.Core.List.{List, [], _++_, map}
+use mathlib.Core.Bool.{true}
 use lib.ListN.{length, getD}
 use lib.Dec.{eqb}
 use Rattle.ftd.specs.Bytes.{part, joined}
-use Rattle.ftd.specs.Runs.{Form, Run, runOf}
+use Rattle.ftd.specs.Runs.{Form, runOf}
 use Rattle.ftd.specs.Tags.{tag, tradeDateOf}
 use Rattle.ftd.specs.Fields.{exactRun}
 use Rattle.ftd.specs.Packets.{extensionLength, bodyLength, span, readOf}
 use Rattle.ftd.specs.Chains.{shaped, Tag, tagBytes, Piece, none, piecesOf, tagsFor, extensionBytes, chainAt, headerFor, packetsOf}
 use Rattle.ftd.specs.declared.chain.Message.{Message}
 use Rattle.ftd.specs.declared.packet.Chain.{Chain}
-use Rattle.ftd.specs.declared.packet.Packet.{Packet}
 use Rattle.ftd.specs.declared.packet.Packet.the-variants.{Message as Accepted}
 
 -- Bytes cut by the packets' first four bytes.

@@ -3,27 +3,24 @@ use Prim.Native.Nat.{ℕ, _+_, _-_, _<_, _≤_}
 use mathlib.Core.Path.{_≡_}
 use mathlib.Core.List.{List, [], _∷_, _++_, map}
 use mathlib.Core.Bool.{Bool, true, false, cond, _&&_}
-use lib.ListN.{length, getD, drop}
+use lib.ListN.{length, drop}
 use lib.Dec.{ltb, leb}
 use Rattle.ftd.specs.Bytes.{bytes32, part, joined, put}
 use Rattle.ftd.specs.Runs.{Run, runOf, ended}
 use Rattle.ftd.specs.Fields.{field, fieldsOf}
 use Rattle.ftd.specs.Writing.{messageBytes, Verdict, fine, refuse, other}
-use Rattle.ftd.specs.declared.refusal.Refusal.{Refusal}
 use Rattle.ftd.specs.declared.refusal.Refusal.the-variants.{FieldRun}
 use Rattle.ftd.specs.declared.tags.TradeDate.{TradeDate}
 use Rattle.ftd.specs.declared.tags.TradeDate.the-variants.{None, At}
 use Rattle.ftd.specs.declared.packet.Chain.{Chain}
 use Rattle.ftd.specs.declared.packet.Chain.the-variants.{Single, First, Middle, Last}
 use Rattle.ftd.specs.declared.packet.Header.{Header}
-use Rattle.ftd.specs.declared.write.Written.{Written}
 use Rattle.ftd.specs.declared.write.Written.the-variants.{NoPacket}
 use Rattle.ftd.specs.declared.chain.Cut.{Cut}
 use Rattle.ftd.specs.declared.chain.PiecePlace.{PiecePlace}
 use Rattle.ftd.specs.declared.chain.PiecePlace.the-variants.{NoPiece}
 use Rattle.ftd.specs.declared.chain.PiecePlace.the-variants.{At as Found}
 use Rattle.ftd.specs.declared.chain.Message.{Message}
-use Rattle.ftd.specs.declared.chain.Size.{Size}
 use Rattle.ftd.specs.declared.chain.ChainSize.{ChainSize}
 use Rattle.ftd.specs.declared.chain.ChainSize.the-variants.{Takes, Refused}
 

@@ -1,8 +1,8 @@
 -- Make-up (01, "Typed items", row 10): how often each field occurs in a message, by Appendix E.
 use Prim.Native.Nat.{ℕ, _+_}
 use mathlib.Core.List.{List, [], _∷_, map}
-use mathlib.Core.Bool.{Bool, true, false, cond, _&&_, _||_}
-use lib.ListN.{length, getD}
+use mathlib.Core.Bool.{Bool, true, cond, _&&_, _||_}
+use lib.ListN.{getD}
 use lib.Dec.{leb, eqb}
 use Rattle.ftd.specs.Fields.{fieldsOf, fidOf}
 use Rattle.ftd.specs.declared.composition.Direction.{Direction}

@@ -3,11 +3,11 @@ use Prim.Native.Nat.{ℕ, _<_}
 use mathlib.Core.Path.{_≡_}
 use mathlib.Core.List.{List, [], _∷_}
 use mathlib.Core.Bool.{Bool, true, false, not, _&&_}
-use lib.Dec.{eqb, T}
+use lib.Dec.{eqb}
 use Rattle.ftd.specs.Table.{known}
 use Rattle.ftd.specs.Values.{among}
 use Rattle.ftd.specs.Modes.{tids}
-use Rattle.ftd.specs.Composition.{Listed, appendixE, lineAt}
+use Rattle.ftd.specs.Composition.{Listed, lineAt}
 
 -- Two lines list the same field for the same message.
 abbrev pub again : Listed → Listed → Bool

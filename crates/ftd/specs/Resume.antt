@@ -2,11 +2,11 @@
 use Prim.Native.Nat.{ℕ, _+_, _-_}
 use mathlib.Core.Path.{_≡_}
 use mathlib.Core.List.{List, [], _∷_, _++_}
-use mathlib.Core.Bool.{Bool, true, cond}
+use mathlib.Core.Bool.{true, cond}
 use lib.ListN.{length}
 use lib.Dec.{ltb, eqb}
 use Rattle.ftd.specs.Bytes.{be16Of, be32Of, bytes16, bytes32}
-use Rattle.ftd.specs.Runs.{Run, runOf, ended}
+use Rattle.ftd.specs.Runs.{runOf, ended}
 use Rattle.ftd.specs.Fields.{field, fieldsOf, fidOf}
 use Rattle.ftd.specs.Composition.{countOf}
 use Rattle.ftd.specs.declared.fields.FieldPlace.{FieldPlace}

@@ -7,7 +7,7 @@ use mathlib.Core.Bool.{cond}
 use lib.ListN.{length, take}
 use Rattle.ftd.specs.Bytes.{Bytes, part}
 use Rattle.ftd.specs.Packets.{saidLength, isSkipped, span, readOf}
-use Rattle.ftd.specs.Writing.{packetBytes, messageBytes, Verdict, fine, refuse, plainVerdict, messageVerdict}
+use Rattle.ftd.specs.Writing.{packetBytes, messageBytes, fine, refuse, plainVerdict, messageVerdict}
 use Rattle.ftd.specs.declared.refusal.Refusal.{Refusal}
 use Rattle.ftd.specs.declared.packet.Span.{Span}
 use Rattle.ftd.specs.declared.packet.Header.{Header}

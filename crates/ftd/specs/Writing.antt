@@ -1,7 +1,7 @@
 -- Packets as they are written (4.1, 4.2; 01, "Packet", "Message packet" and demand 2), and what a writer answers.
 use Prim.Native.Nat.{ℕ, _+_}
-use mathlib.Core.List.{List, [], _∷_, _++_}
-use mathlib.Core.Bool.{Bool, true, false, cond, not, _&&_, _||_}
+use mathlib.Core.List.{List, _∷_, _++_}
+use mathlib.Core.Bool.{Bool, cond, not, _&&_, _||_}
 use lib.ListN.{length, drop}
 use lib.Dec.{ltb, eqb}
 use Rattle.ftd.specs.Bytes.{bytes16, bytes32}
@@ -12,7 +12,7 @@ use Rattle.ftd.specs.declared.refusal.Refusal.{Refusal}
 use Rattle.ftd.specs.declared.refusal.Refusal.the-variants.{LongExtension, BrokenTag, BodyLength, FieldRun, TooSmall}
 use Rattle.ftd.specs.declared.packet.Header.{Header}
 use Rattle.ftd.specs.declared.write.Written.{Written}
-use Rattle.ftd.specs.declared.write.Written.the-variants.{Bytes, Refused, NotPlain, NoPacket}
+use Rattle.ftd.specs.declared.write.Written.the-variants.{Bytes, Refused, NotPlain}
 
 -- ─── The bytes of a packet ───
 

@@ -2,7 +2,7 @@
 use Prim.Native.Nat.{ℕ}
 use mathlib.Core.Path.{_≡_}
 use mathlib.Core.List.{List, [], _++_}
-use mathlib.Core.Bool.{Bool, true, false, cond}
+use mathlib.Core.Bool.{Bool, true, cond}
 use Rattle.listing.specs.Text.{long}
 use Rattle.listing.specs.Lines.{lineWith, lineOf, isLast, nextOf, listingFrom, listingOf}
 

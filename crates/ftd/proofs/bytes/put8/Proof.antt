@@ -1,8 +1,5 @@
 use mathlib.Core.List.{[], _∷_}
 use native.Mathlib.Omega.{arith}
-use native.Mathlib.Numerals.{towards-suc}
-use lib.ListN.{length-set}
-use Rattle.ftd.specs.Bytes.{bytes16, bytes32}
 use Rattle.ftd.proofs.Put.{sets-put}
 use borrow.Author.Needs.{needs}
 use Rattle.ftd.proofs.bytes.put8.Statement.{statement}

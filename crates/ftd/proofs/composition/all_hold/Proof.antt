@@ -1,7 +1,7 @@
 use borrow.Author.Needs.{needs}
 use Prim.Native.Nat.{_-_, _≤_}
 use mathlib.Core.Path.{_≡_, refl}
-use lib.ListN.{length, drop}
+use lib.ListN.{drop}
 use Rattle.ftd.specs.Composition.{appendixE, allHold}
 use Rattle.ftd.proofs.Counts.{lines-end, lines-wrong, lines-turn}
 use Rattle.ftd.proofs.composition.all_hold.Statement.{statement}
