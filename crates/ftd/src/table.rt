@@ -1311,11 +1311,6 @@ const WIDE: [u16; 47] = [
     6,
 ];
 
-// The rule of the table holds.
-pub fn keeps_table_rule()
-    ensures { λ _. ⌜ TableRule ⌝ }
-{}
-
 // The first row of a field.
 pub(crate) fn start_of(fid: usize) -> usize
     requires { ⌜ fid < 47 ⌝ }
@@ -1369,3 +1364,8 @@ pub(crate) fn scale_at(column: &[u8; 379], row: usize) -> u8
 {
     column[row]
 }
+
+// The rule of the table holds.
+pub fn keeps_table_rule()
+    ensures { λ _. ⌜ TableRule ⌝ }
+{}

@@ -98,6 +98,11 @@ fn called_field_at(content: &[u8], at: usize) -> outside::Field {
     }
 }
 
+/// Packets, by one side's function.
+fn answered(packets: &[&[u8]], read: impl Fn(&[u8]) -> outside::Packet) -> u64 {
+    packets.iter().map(|bytes| read(bytes)).map(|p| u64::from(p.tid) + u64::from(p.number) + p.end() as u64).sum()
+}
+
 /// Packets with their fields, by one side's functions.
 fn walked(
     packets: &[&[u8]],
@@ -190,13 +195,7 @@ fn main() {
 
     bench.compare(
         "read",
-        || {
-            packets
-                .iter()
-                .map(|bytes| outside::read(bytes))
-                .map(|p| u64::from(p.tid) + u64::from(p.number) + p.end() as u64)
-                .sum()
-        },
+        || answered(&packets, outside::read),
         || {
             packets
                 .iter()
@@ -224,23 +223,7 @@ fn main() {
         },
     );
     // The same with the reader behind the library's boundary: its functions are called, and give the library's structs.
-    bench.compare(
-        "read, as a call",
-        || {
-            packets
-                .iter()
-                .map(|bytes| outside::read(bytes))
-                .map(|p| u64::from(p.tid) + u64::from(p.number) + p.end() as u64)
-                .sum()
-        },
-        || {
-            packets
-                .iter()
-                .map(|bytes| called_read(bytes))
-                .map(|p| u64::from(p.tid) + u64::from(p.number) + p.end() as u64)
-                .sum()
-        },
-    );
+    bench.compare("read, as a call", || answered(&packets, outside::read), || answered(&packets, called_read));
     bench.compare(
         "with fields, as calls",
         || walked(&packets, outside::read, outside::field_at),

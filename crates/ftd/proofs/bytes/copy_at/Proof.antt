@@ -9,8 +9,6 @@ use borrow.Author.Needs.{needs}
 use Rattle.ftd.proofs.Put.{paste-put}
 use Rattle.ftd.proofs.bytes.copy_at.Statement.{statement}
 use Rattle.ftd.proofs.bytes.copy_at.Tie as tie
-use Rattle.ftd.proofs.bytes.copy_at.Reads as reads
-use Rattle.ftd.proofs.bytes.copy_at.Lts as lts
 
 abbrev Inv-loop : tie.InvT-loop
 Inv-loop out₀ at src i₀ out i = (i ≤ length src) × (length out ≡ length out₀) × (out ≡ paste out₀ at src i)
@@ -18,31 +16,24 @@ Inv-loop out₀ at src i₀ out i = (i ≤ length src) × (length out ≡ length
 abbrev μ-loop : tie.MeasureT-loop
 μ-loop out₀ at src i₀ out i = length src - i
 
--- src/lib.rt:43:5
 loop-holds : tie.Need-loop-holds Inv-loop μ-loop
 loop-holds c = (search needs, refl, paste-zero (c .args .out .now) (c .args .at) (c .args .src .now))
 
--- src/lib.rt:44:23
 shared-slice-read-out : tie.Need-shared-slice-read-out Inv-loop μ-loop
 shared-slice-read-out c = search needs
 
--- src/lib.rt:44:13
 add-out : tie.Need-add-out Inv-loop μ-loop
 add-out c = search needs
 
--- src/lib.rt:44:9
 slice-write-out : tie.Need-slice-write-out Inv-loop μ-loop
 slice-write-out c = search needs
 
--- src/lib.rt:45:9
 add-i : tie.Need-add-i Inv-loop μ-loop
 add-i c = search needs
 
--- src/lib.rt:43:5
 loop-less : tie.Need-loop-less Inv-loop μ-loop
 loop-less c = search needs
 
--- src/lib.rt:43:5
 loop-again : tie.Need-loop-again Inv-loop μ-loop
 loop-again c =
     let l = c .before .before .loop in
@@ -53,11 +44,9 @@ loop-again c =
           (paste-suc (a .out .now) (a .at) (a .src .now) (l .i) 0 (omega arith) (c .before .loop-test .taken)),
     )
 
--- src/lib.rt:38:1
 same-length : tie.Need-same-length Inv-loop μ-loop
 same-length c = search needs
 
--- src/lib.rt:38:1
 returns : tie.Need-returns Inv-loop μ-loop
 returns c =
     let l = c .before .loop in

@@ -6,34 +6,25 @@ use Rattle.ftd.proofs.Put.{sets-put}
 use borrow.Author.Needs.{needs}
 use Rattle.ftd.proofs.bytes.put16.Statement.{statement}
 use Rattle.ftd.proofs.bytes.put16.Tie as tie
-use Rattle.ftd.proofs.bytes.put16.Reads as reads
-use Rattle.ftd.proofs.bytes.put16.Lts as lts
 
--- src/lib.rt:24:15
 cast-out : tie.Need-cast-out
 cast-out c = search needs
 
--- src/lib.rt:24:5
 slice-write-out : tie.Need-slice-write-out
 slice-write-out c = search needs
 
--- src/lib.rt:25:19
 cast-out-2 : tie.Need-cast-out-2
 cast-out-2 c = search needs
 
--- src/lib.rt:25:9
 add-out : tie.Need-add-out
 add-out c = search needs
 
--- src/lib.rt:25:5
 slice-write-out-2 : tie.Need-slice-write-out-2
 slice-write-out-2 c = simp length-set (omega arith)
 
--- src/lib.rt:20:1
 same-length : tie.Need-same-length
 same-length c = search needs
 
--- src/lib.rt:20:1
 returns : tie.Need-returns
 returns c = simp towards-suc (sets-put (bytes16 (c .args .x)) (c .args .out .now) (c .args .at) (c .pre))
 

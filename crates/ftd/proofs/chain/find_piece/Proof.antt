@@ -11,9 +11,6 @@ use Rattle.ftd.specs.Fields.{field}
 use Rattle.ftd.proofs.Chained.{piece-moves, piece-here, piece-none, piece-turn}
 use Rattle.ftd.proofs.chain.find_piece.Statement.{statement}
 use Rattle.ftd.proofs.chain.find_piece.Tie as tie
-use Rattle.ftd.proofs.chain.find_piece.Reads as reads
-use Rattle.ftd.proofs.chain.find_piece.Lts as lts
-use Rattle.ftd.proofs.chain.next_piece.Reads as next-piece-reads
 
 abbrev Inv-loop : tie.InvT-loop
 Inv-loop content i at₀ left₀ at left =
@@ -22,31 +19,24 @@ Inv-loop content i at₀ left₀ at left =
 abbrev μ-loop : tie.MeasureT-loop
 μ-loop content i at₀ left₀ at left = length content - at
 
--- src/chain.rt:260:5
 loop-holds : tie.Need-loop-holds Inv-loop μ-loop
 loop-holds c = (search needs, search needs, search needs, rw sub-self)
 
--- src/chain.rt:261:13
 next-piece-requires : tie.Need-next-piece-requires Inv-loop μ-loop
 next-piece-requires c κs = search needs
 
--- src/chain.rt:263:13
 returns : tie.Need-returns Inv-loop μ-loop
 returns c = (search needs, search needs, search (needs, piece-here))
 
--- src/chain.rt:267:13
 returns-2 : tie.Need-returns-2 Inv-loop μ-loop
 returns-2 c = search (needs, piece-none)
 
--- src/chain.rt:270:9
 sub-left : tie.Need-sub-left Inv-loop μ-loop
 sub-left c = search needs
 
--- src/chain.rt:260:5
 loop-less : tie.Need-loop-less Inv-loop μ-loop
 loop-less c = omega (arith, piece-moves _ _ _ (c .before .before .next-piece .ensures) (c .before .before .before .loop .inv .2) (c .if2 .left))
 
--- src/chain.rt:260:5
 loop-again : tie.Need-loop-again Inv-loop μ-loop
 loop-again c = (search needs, search needs, c .before .before .next-piece .ensures .left ∙ c .before .before .before .loop .inv .2, search (needs, piece-turn))
 

@@ -9,9 +9,6 @@ use Rattle.ftd.specs.Fields.{field}
 use Rattle.ftd.proofs.Shapes.{shape-over, shape-long, shape-turn}
 use Rattle.ftd.proofs.chain.is_shaped.Statement.{statement}
 use Rattle.ftd.proofs.chain.is_shaped.Tie as tie
-use Rattle.ftd.proofs.chain.is_shaped.Reads as reads
-use Rattle.ftd.proofs.chain.is_shaped.Lts as lts
-use Rattle.ftd.proofs.fields.field_size.Reads as field-size-reads
 
 abbrev Inv-loop : tie.InvT-loop
 Inv-loop content limit at₀ at = (at ≤ length content) × (shapely (runOf field (drop at content)) ≡ shaped content limit)
@@ -19,37 +16,29 @@ Inv-loop content limit at₀ at = (at ≤ length content) × (shapely (runOf fie
 abbrev μ-loop : tie.MeasureT-loop
 μ-loop content limit at₀ at = length content - at
 
--- src/chain.rt:43:9
 returns : tie.Need-returns Inv-loop μ-loop
 unfolding shaped
 returns c = rw (lt-leb _ _ (c .if1 .taken))
 
--- src/chain.rt:46:5
 loop-holds : tie.Need-loop-holds Inv-loop μ-loop
 unfolding shaped
 loop-holds c = (search needs, rw (le-leb _ _ (c .if1 .left)))
 
--- src/chain.rt:47:13
 field-size-requires : tie.Need-field-size-requires Inv-loop μ-loop
 field-size-requires c κs = search needs
 
--- src/chain.rt:49:13
 returns-2 : tie.Need-returns-2 Inv-loop μ-loop
 returns-2 c = search (needs, shape-over)
 
--- src/chain.rt:52:13
 returns-3 : tie.Need-returns-3 Inv-loop μ-loop
 returns-3 c = search (needs, shape-long)
 
--- src/chain.rt:54:9
 add-at : tie.Need-add-at Inv-loop μ-loop
 add-at c = search needs
 
--- src/chain.rt:46:5
 loop-less : tie.Need-loop-less Inv-loop μ-loop
 loop-less c = search needs
 
--- src/chain.rt:46:5
 loop-again : tie.Need-loop-again Inv-loop μ-loop
 loop-again c = (search needs, search (needs, shape-turn))
 

@@ -8,9 +8,6 @@ use Rattle.ftd.specs.Fields.{field, fieldsOf}
 use Rattle.ftd.proofs.Cuts.{begun, begun-none, cut-over, cut-full, cut-turn, cut-left}
 use Rattle.ftd.proofs.chain.next_piece.Statement.{statement}
 use Rattle.ftd.proofs.chain.next_piece.Tie as tie
-use Rattle.ftd.proofs.chain.next_piece.Reads as reads
-use Rattle.ftd.proofs.chain.next_piece.Lts as lts
-use Rattle.ftd.proofs.fields.field_size.Reads as field-size-reads
 
 abbrev Inv-loop : tie.InvT-loop
 Inv-loop content at end₀ count₀ end count =
@@ -20,43 +17,33 @@ Inv-loop content at end₀ count₀ end count =
 abbrev μ-loop : tie.MeasureT-loop
 μ-loop content at end₀ count₀ end count = length content - end
 
--- src/chain.rt:118:5
 loop-holds : tie.Need-loop-holds Inv-loop μ-loop
 loop-holds c = (search needs, search needs, search needs, search needs, refl, begun-none (c .before .args .content .now) (c .before .args .at))
 
--- src/chain.rt:119:13
 field-size-requires : tie.Need-field-size-requires Inv-loop μ-loop
 field-size-requires c κs = search needs
 
--- src/chain.rt:121:13
 returns : tie.Need-returns Inv-loop μ-loop
 returns c = search (needs, cut-over)
 
--- src/chain.rt:123:19
 add-if2 : tie.Need-add-if2 Inv-loop μ-loop
 add-if2 c = search needs
 
--- src/chain.rt:123:19
 sub-if2 : tie.Need-sub-if2 Inv-loop μ-loop
 sub-if2 c = search needs
 
--- src/chain.rt:124:13
 returns-2 : tie.Need-returns-2 Inv-loop μ-loop
 returns-2 c = search (needs, cut-full)
 
--- src/chain.rt:126:9
 add-end : tie.Need-add-end Inv-loop μ-loop
 add-end c = search needs
 
--- src/chain.rt:127:9
 add-count : tie.Need-add-count Inv-loop μ-loop
 add-count c = search needs
 
--- src/chain.rt:118:5
 loop-less : tie.Need-loop-less Inv-loop μ-loop
 loop-less c = search needs
 
--- src/chain.rt:118:5
 loop-again : tie.Need-loop-again Inv-loop μ-loop
 loop-again c = (search needs, search needs, search needs, search needs, search (needs, cut-left), search (needs, cut-turn))
 

@@ -5,67 +5,46 @@ use native.Mathlib.Omega.{arith}
 use borrow.Author.Needs.{needs}
 use Rattle.ftd.proofs.chain.put_tagged.Statement.{statement}
 use Rattle.ftd.proofs.chain.put_tagged.Tie as tie
-use Rattle.ftd.proofs.chain.put_tagged.Reads as reads
-use Rattle.ftd.proofs.chain.put_tagged.Lts as lts
-use Rattle.ftd.proofs.bytes.copy_at.Reads as copy-at-reads
-use Rattle.ftd.proofs.chain.put_tags.Reads as put-tags-reads
-use Rattle.ftd.proofs.chain.tags_len.Reads as tags-len-reads
-use Rattle.ftd.proofs.write.put_frame.Reads as put-frame-reads
-use Rattle.ftd.proofs.write.put_header.Reads as put-header-reads
 
--- src/chain.rt:88:9
 tags-len-requires : tie.Need-tags-len-requires
 tags-len-requires c κs = search needs
 
--- src/chain.rt:89:30
 add-put-frame : tie.Need-add-put-frame
 add-put-frame c = search needs
 
--- src/chain.rt:89:5
 put-frame-requires : tie.Need-put-frame-requires
 put-frame-requires c κs = search needs
 
--- src/chain.rt:90:19
 add-put-tags : tie.Need-add-put-tags
 add-put-tags c = search needs
 
--- src/chain.rt:90:5
 put-tags-requires : tie.Need-put-tags-requires
 put-tags-requires c κs = search needs
 
--- src/chain.rt:91:21
 add-put-header : tie.Need-add-put-header
 add-put-header c = search needs
 
--- src/chain.rt:91:21
 add-put-header-2 : tie.Need-add-put-header-2
 add-put-header-2 c = search needs
 
--- src/chain.rt:91:5
 put-header-requires : tie.Need-put-header-requires
 put-header-requires c κs = search needs
 
--- src/chain.rt:92:18
 add-copy-at : tie.Need-add-copy-at
 add-copy-at c = search needs
 
--- src/chain.rt:92:18
 add-copy-at-2 : tie.Need-add-copy-at-2
 add-copy-at-2 c = search needs
 
--- src/chain.rt:92:18
 add-copy-at-3 : tie.Need-add-copy-at-3
 add-copy-at-3 c = search needs
 
--- src/chain.rt:92:5
 copy-at-requires : tie.Need-copy-at-requires
 copy-at-requires c κs = search needs
 
--- src/chain.rt:84:1
 same-length : tie.Need-same-length
 same-length c = search needs
 
--- src/chain.rt:84:1
 returns : tie.Need-returns
 returns c =
     let p4 = c .before .before in

@@ -7,19 +7,13 @@ use native.Mathlib.Omega.{arith}
 use borrow.Author.Needs.{needs}
 use Rattle.ftd.proofs.chain.put_tags.Statement.{statement}
 use Rattle.ftd.proofs.chain.put_tags.Tie as tie
-use Rattle.ftd.proofs.chain.put_tags.Reads as reads
-use Rattle.ftd.proofs.chain.put_tags.Lts as lts
-use Rattle.ftd.proofs.bytes.put32.Reads as put32-reads
-use Rattle.ftd.proofs.bytes.put8.Reads as put8-reads
 
 enum-told : tie.Need-enum-told
 enum-told c = search needs
 
--- src/chain.rt:75:23
 enum-known-date : tie.Need-enum-known-date
 enum-known-date c = search needs
 
--- src/chain.rt:76:13
 put8-requires : tie.Need-put8-requires
 put8-requires c κs =
     let d = c .before .before in
@@ -27,11 +21,9 @@ put8-requires c κs =
     let room : s .args .to + 6 ≤ length (s .args .out .now) = rw (d .date .given .1) at (s .pre) in
     omega arith
 
--- src/chain.rt:77:23
 add-put8 : tie.Need-add-put8
 add-put8 c = search needs
 
--- src/chain.rt:77:13
 put8-requires-2 : tie.Need-put8-requires-2
 put8-requires-2 c κs =
     let d = c .before .before .before .before .before .before in
@@ -39,11 +31,9 @@ put8-requires-2 c κs =
     let room : s .args .to + 6 ≤ length (s .args .out .now) = rw (d .date .given .1) at (s .pre) in
     omega arith
 
--- src/chain.rt:78:24
 add-put32 : tie.Need-add-put32
 add-put32 c = search needs
 
--- src/chain.rt:78:13
 put32-requires : tie.Need-put32-requires
 put32-requires c κs =
     let d = c .before .before .before .before .before .before .before .before .before .before in
@@ -51,15 +41,12 @@ put32-requires c κs =
     let room : s .args .to + 6 ≤ length (s .args .out .now) = rw (d .date .given .1) at (s .pre) in
     omega arith
 
--- src/chain.rt:69:1
 returns : tie.Need-returns
 returns c = rw (c .enum-told .given .1) (sym (put-nil _ _))
 
--- src/chain.rt:69:1
 same-length : tie.Need-same-length
 same-length c = search needs
 
--- src/chain.rt:69:1
 returns-2 : tie.Need-returns-2
 returns-2 c =
     let p3 = c .before .before in

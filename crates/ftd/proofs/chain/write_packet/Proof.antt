@@ -6,26 +6,16 @@ use Rattle.ftd.proofs.Chained.{shaped-facts, packet-here, packet-none, 
 use borrow.Author.Needs.{needs}
 use Rattle.ftd.proofs.chain.write_packet.Statement.{statement}
 use Rattle.ftd.proofs.chain.write_packet.Tie as tie
-use Rattle.ftd.proofs.chain.write_packet.Reads as reads
-use Rattle.ftd.proofs.chain.write_packet.Lts as lts
-use Rattle.ftd.proofs.chain.find_piece.Reads as find-piece-reads
-use Rattle.ftd.proofs.chain.is_shaped.Reads as is-shaped-reads
-use Rattle.ftd.proofs.chain.put_piece.Reads as put-piece-reads
-use Rattle.ftd.proofs.chain.tags_len.Reads as tags-len-reads
 
--- src/chain.rt:279:8
 is-shaped-requires : tie.Need-is-shaped-requires
 is-shaped-requires c κs = search needs
 
--- src/chain.rt:280:15
 find-piece-requires : tie.Need-find-piece-requires
 find-piece-requires c κs = shaped-facts _ _ _ (c .before .is-shaped .ensures) (c .if1 .taken) .1
 
--- src/chain.rt:282:17
 enum-told : tie.Need-enum-told
 enum-told c = search needs
 
--- src/chain.rt:282:17
 returns : tie.Need-returns
 unfolding placeVerdict
 returns c =
@@ -35,40 +25,33 @@ returns c =
     by-other _ _ _ _
     (rw (← (i .is-shaped .ensures), c .before .before .before .if1 .taken, le-ltb (a .i) _ (packet-none (a .m) (a .content .now) (a .i) f)))
 
--- src/chain.rt:284:30
 enum-known-at : tie.Need-enum-known-at
 enum-known-at c = search needs
 
--- src/chain.rt:286:29
 tags-len-requires : tie.Need-tags-len-requires
 tags-len-requires c κs = search needs
 
--- src/chain.rt:286:25
 add-n : tie.Need-add-n
 add-n c = search needs
 
--- src/chain.rt:286:53
 sub-n : tie.Need-sub-n
 sub-n c =
     let g = c .before .before .at .given in
     let f = rw (g .1) at (c .before .before .before .before .find-piece .ensures) in
     f .0 .low
 
--- src/chain.rt:286:47
 add-n-2 : tie.Need-add-n-2
 add-n-2 c =
     let g = c .before .before .at .given in
     let f = rw (g .1) at (c .before .before .before .before .find-piece .ensures) in
     omega (arith, f .0 .small, f .0 .low)
 
--- src/chain.rt:286:25
 add-n-3 : tie.Need-add-n-3
 add-n-3 c =
     let g = c .before .before .at .given in
     let f = rw (g .1) at (c .before .before .before .before .find-piece .ensures) in
     omega (arith, f .0 .small, f .0 .low)
 
--- src/chain.rt:288:21
 returns-2 : tie.Need-returns-2
 unfolding placeVerdict
 returns-2 c =
@@ -81,7 +64,6 @@ returns-2 c =
     (rw (← (i .is-shaped .ensures), p .before .if1 .taken, lt-ltb (a .i) _ (packet-here (a .m) (a .content .now) (a .i) (g .0 .0) (g .0 .1 .0) (f .0) (f .1) (f .2) .1)))
     _ (packet-size (a .m) (a .content .now) (a .i) (g .0 .0) (g .0 .1 .0) (f .0) (f .1) (f .2) (c .before .tags-len .result) (c .before .tags-len .ensures .0)) (c .if2 .taken)
 
--- src/chain.rt:290:17
 put-piece-requires : tie.Need-put-piece-requires
 put-piece-requires c κs =
     let t = c .before .before in
@@ -89,11 +71,9 @@ put-piece-requires c κs =
     let f = rw (g .1) at (t .before .before .before .before .find-piece .ensures) in
     (f .0, rw (← (t .tags-len .ensures .0)) (omega arith))
 
--- src/chain.rt:291:17
 same-length : tie.Need-same-length
 same-length c = search needs
 
--- src/chain.rt:291:17
 returns-3 : tie.Need-returns-3
 unfolding placeVerdict
 returns-3 c =
@@ -109,7 +89,6 @@ returns-3 c =
     _ (packet-size (a .m) (a .content .now) (a .i) (g .0 .0) (g .0 .1 .0) (f .0) (f .1) (f .2) (t .tags-len .result) (t .tags-len .ensures .0)) _
     (w .before .before .if2 .left) (rw (h .0) (w .put-piece .ensures))
 
--- src/chain.rt:275:1
 returns-4 : tie.Need-returns-4
 unfolding placeVerdict
 returns-4 c = by-refusal _ _ _ _ (rw (← (c .before .is-shaped .ensures), c .if1 .left))

@@ -6,9 +6,6 @@ use Rattle.ftd.specs.Composition.{appendixE, allHold}
 use Rattle.ftd.proofs.Counts.{lines-end, lines-wrong, lines-turn}
 use Rattle.ftd.proofs.composition.all_hold.Statement.{statement}
 use Rattle.ftd.proofs.composition.all_hold.Tie as tie
-use Rattle.ftd.proofs.composition.all_hold.Reads as reads
-use Rattle.ftd.proofs.composition.all_hold.Lts as lts
-use Rattle.ftd.proofs.composition.line_holds.Reads as line-holds-reads
 
 abbrev Inv-loop : tie.InvT-loop
 Inv-loop tid direction content i₀ i = (i ≤ 82) × (allHold (drop i appendixE) tid direction content ≡ allHold appendixE tid direction content)
@@ -16,31 +13,24 @@ Inv-loop tid direction content i₀ i = (i ≤ 82) × (allHold (drop i appendixE
 abbrev μ-loop : tie.MeasureT-loop
 μ-loop tid direction content i₀ i = 82 - i
 
--- src/composition.rt:117:5
 loop-holds : tie.Need-loop-holds Inv-loop μ-loop
 loop-holds c = (search needs, refl)
 
--- src/composition.rt:118:12
 line-holds-requires : tie.Need-line-holds-requires Inv-loop μ-loop
 line-holds-requires c κs = search needs
 
--- src/composition.rt:119:13
 add-i : tie.Need-add-i Inv-loop μ-loop
 add-i c = search needs
 
--- src/composition.rt:117:5
 loop-less : tie.Need-loop-less Inv-loop μ-loop
 loop-less c = search needs
 
--- src/composition.rt:117:5
 loop-again : tie.Need-loop-again Inv-loop μ-loop
 loop-again c = (search needs, search (needs, lines-turn))
 
--- src/composition.rt:121:13
 returns : tie.Need-returns Inv-loop μ-loop
 returns c = search (needs, lines-wrong)
 
--- src/composition.rt:113:1
 returns-2 : tie.Need-returns-2 Inv-loop μ-loop
 returns-2 c = search (needs, lines-end)
 

@@ -2,15 +2,11 @@ use Rattle.ftd.specs.Composition.{oneIf}
 use Rattle.ftd.proofs.Tests.{tests}
 use Rattle.ftd.proofs.composition.one_if.Statement.{statement}
 use Rattle.ftd.proofs.composition.one_if.Tie as tie
-use Rattle.ftd.proofs.composition.one_if.Reads as reads
-use Rattle.ftd.proofs.composition.one_if.Lts as lts
 
--- src/composition.rt:58:9
 returns : tie.Need-returns
 unfolding oneIf
 returns c = search tests
 
--- src/composition.rt:54:1
 returns-2 : tie.Need-returns-2
 unfolding oneIf
 returns-2 c = search tests

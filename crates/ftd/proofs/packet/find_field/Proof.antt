@@ -5,47 +5,34 @@ use native.Mathlib.Omega.{arith}
 use borrow.Author.Needs.{needs}
 use Rattle.ftd.proofs.packet.find_field.Statement.{statement}
 use Rattle.ftd.proofs.packet.find_field.Tie as tie
-use Rattle.ftd.proofs.packet.find_field.Reads as reads
-use Rattle.ftd.proofs.packet.find_field.Lts as lts
-use Rattle.ftd.proofs.fields.field_place.Reads as field-place-reads
-use Rattle.ftd.proofs.packet.moved.Reads as moved-reads
-use Rattle.ftd.proofs.packet.read.Reads as read-reads
 
--- src/packet.rt:268:11
 read-requires : tie.Need-read-requires
 read-requires c κs = search needs
 
--- src/packet.rt:272:13
 enum-known-content : tie.Need-enum-known-content
 enum-known-content c = search needs
 
--- src/packet.rt:276:42
 add-field-place : tie.Need-add-field-place
 add-field-place c =
     let r = c .before .before .before in
     let m = c .before .content .given in
     omega (arith, content-inside (r .before .before .args .p .now) (m .0 .0) (m .0 .1 .0) (m .0 .1 .1 .0) (sym (r .read .ensures) ∙ m .1))
 
--- src/packet.rt:276:35
 sub-field-place : tie.Need-sub-field-place
 sub-field-place c = search needs
 
--- src/packet.rt:276:35
 part-field-place-start : tie.Need-part-field-place-start
 part-field-place-start c = search needs
 
--- src/packet.rt:276:35
 part-field-place-end : tie.Need-part-field-place-end
 part-field-place-end c =
     let r = c .before .before .before in
     let m = c .before .content .given in
     omega (arith, content-inside (r .before .before .args .p .now) (m .0 .0) (m .0 .1 .0) (m .0 .1 .1 .0) (sym (r .read .ensures) ∙ m .1))
 
--- src/packet.rt:276:23
 field-place-requires : tie.Need-field-place-requires
 field-place-requires c κs = search needs
 
--- src/packet.rt:276:13
 moved-requires : tie.Need-moved-requires
 moved-requires c κs =
     let m = c .before .before .before .content .given in
@@ -54,45 +41,36 @@ moved-requires c κs =
     let i = content-inside p (m .0 .0) (m .0 .1 .0) (m .0 .1 .1 .0) (sym (r .read .ensures) ∙ m .1) in
     (place-fits p (m .0 .1 .1 .0) (c .field-place .result) (c .field-place .ensures .1), omega arith)
 
--- src/packet.rt:278:26
 enum-told : tie.Need-enum-told
 enum-told c = search needs
 
--- src/packet.rt:282:14
 enum-told-2 : tie.Need-enum-told-2
 enum-told-2 c = search needs
 
--- src/packet.rt:287:14
 enum-told-3 : tie.Need-enum-told-3
 enum-told-3 c = search needs
 
--- src/packet.rt:288:31
 enum-told-4 : tie.Need-enum-told-4
 enum-told-4 c = search needs
 
--- src/packet.rt:265:1
 returns : tie.Need-returns
 returns c =
     let m = c .before .before .before .before .content .given in
     let r = c .before .before .before .before .before .before in
     field-found _ (m .0 .1 .1 .0) _ _ _ _ _ (sym (r .read .ensures) ∙ m .1) (c .before .field-place .ensures .0) (c .before .field-place .ensures .1) (c .moved .ensures)
 
--- src/packet.rt:265:1
 returns-2 : tie.Need-returns-2
 unfolding fieldOf
 returns-2 c = (rw (← (c .before .before .read .ensures), c .enum-told .given .1), tt)
 
--- src/packet.rt:265:1
 returns-3 : tie.Need-returns-3
 unfolding fieldOf
 returns-3 c = (rw (← (c .before .before .read .ensures), c .enum-told2 .given .1), tt)
 
--- src/packet.rt:265:1
 returns-4 : tie.Need-returns-4
 unfolding fieldOf
 returns-4 c = (rw (← (c .before .before .read .ensures), c .enum-told3 .given .1), tt)
 
--- src/packet.rt:265:1
 returns-5 : tie.Need-returns-5
 unfolding fieldOf
 returns-5 c = (rw (← (c .before .before .read .ensures), c .enum-told4 .given .1), tt)

@@ -2,103 +2,73 @@ use Rattle.ftd.proofs.Decided.{version-wrong, letter-wrong, length-wron
 use borrow.Author.Needs.{needs}
 use Rattle.ftd.proofs.packet.read_message.Statement.{statement}
 use Rattle.ftd.proofs.packet.read_message.Tie as tie
-use Rattle.ftd.proofs.packet.read_message.Reads as reads
-use Rattle.ftd.proofs.packet.read_message.Lts as lts
-use Rattle.ftd.proofs.bytes.be16.Reads as be16-reads
-use Rattle.ftd.proofs.bytes.size16.Reads as size16-reads
-use Rattle.ftd.proofs.fields.exact_run.Reads as exact-run-reads
-use Rattle.ftd.proofs.packet.accept.Reads as accept-reads
-use Rattle.ftd.proofs.packet.is_letter.Reads as is-letter-reads
 
--- src/packet.rt:182:14
 add-at : tie.Need-add-at
 add-at c = search needs
 
--- src/packet.rt:183:8
 shared-slice-read-if1 : tie.Need-shared-slice-read-if1
 shared-slice-read-if1 c = search needs
 
--- src/packet.rt:184:9
 returns : tie.Need-returns
 returns c = search (needs, version-wrong)
 
--- src/packet.rt:186:20
 add-is-letter : tie.Need-add-is-letter
 add-is-letter c = search needs
 
--- src/packet.rt:186:18
 shared-slice-read-is-letter : tie.Need-shared-slice-read-is-letter
 shared-slice-read-is-letter c = search needs
 
--- src/packet.rt:186:8
 is-letter-requires : tie.Need-is-letter-requires
 is-letter-requires c κs = search needs
 
--- src/packet.rt:187:27
 add-be16 : tie.Need-add-be16
 add-be16 c = search needs
 
--- src/packet.rt:187:19
 be16-requires : tie.Need-be16-requires
 be16-requires c κs = search needs
 
--- src/packet.rt:187:12
 size16-requires : tie.Need-size16-requires
 size16-requires c κs = search needs
 
--- src/packet.rt:187:12
 add-if3 : tie.Need-add-if3
 add-if3 c = search needs
 
--- src/packet.rt:188:13
 returns-2 : tie.Need-returns-2
 returns-2 c = search (needs, length-wrong)
 
--- src/packet.rt:190:25
 add-exact-run : tie.Need-add-exact-run
 add-exact-run c = search needs
 
--- src/packet.rt:190:34
 add-exact-run-2 : tie.Need-add-exact-run-2
 add-exact-run-2 c = search needs
 
--- src/packet.rt:190:22
 sub-exact-run : tie.Need-sub-exact-run
 sub-exact-run c = search needs
 
--- src/packet.rt:190:22
 part-exact-run-start : tie.Need-part-exact-run-start
 part-exact-run-start c = search needs
 
--- src/packet.rt:190:22
 part-exact-run-end : tie.Need-part-exact-run-end
 part-exact-run-end c = search needs
 
--- src/packet.rt:190:54
 add-be16-2 : tie.Need-add-be16-2
 add-be16-2 c = search needs
 
--- src/packet.rt:190:46
 be16-requires-2 : tie.Need-be16-requires-2
 be16-requires-2 c κs = search needs
 
--- src/packet.rt:190:12
 exact-run-requires : tie.Need-exact-run-requires
 exact-run-requires c κs = search needs
 
--- src/packet.rt:191:13
 accept-requires : tie.Need-accept-requires
 accept-requires c κs = search needs
 
--- src/packet.rt:191:13
 returns-3 : tie.Need-returns-3
 returns-3 c = search (needs, message-good)
 
--- src/packet.rt:193:9
 returns-4 : tie.Need-returns-4
 returns-4 c = search (needs, fields-wrong)
 
--- src/packet.rt:178:1
 returns-5 : tie.Need-returns-5
 returns-5 c = search (needs, letter-wrong)
 

@@ -3,44 +3,31 @@ use Rattle.ftd.proofs.Written.{resume-put}
 use borrow.Author.Needs.{needs}
 use Rattle.ftd.proofs.resume.put_resume.Statement.{statement}
 use Rattle.ftd.proofs.resume.put_resume.Tie as tie
-use Rattle.ftd.proofs.resume.put_resume.Reads as reads
-use Rattle.ftd.proofs.resume.put_resume.Lts as lts
-use Rattle.ftd.proofs.bytes.put16.Reads as put16-reads
-use Rattle.ftd.proofs.bytes.put32.Reads as put32-reads
 
--- src/resume.rt:79:5
 put32-requires : tie.Need-put32-requires
 put32-requires c κs = search needs
 
--- src/resume.rt:80:16
 add-put16 : tie.Need-add-put16
 add-put16 c = search needs
 
--- src/resume.rt:80:5
 put16-requires : tie.Need-put16-requires
 put16-requires c κs = search needs
 
--- src/resume.rt:81:16
 add-put16-2 : tie.Need-add-put16-2
 add-put16-2 c = search needs
 
--- src/resume.rt:81:5
 put16-requires-2 : tie.Need-put16-requires-2
 put16-requires-2 c κs = search needs
 
--- src/resume.rt:82:16
 add-put32 : tie.Need-add-put32
 add-put32 c = search needs
 
--- src/resume.rt:82:5
 put32-requires-2 : tie.Need-put32-requires-2
 put32-requires-2 c κs = search needs
 
--- src/resume.rt:75:1
 same-length : tie.Need-same-length
 same-length c = search needs
 
--- src/resume.rt:75:1
 returns : tie.Need-returns
 returns c =
     let p4 = c .before .before in

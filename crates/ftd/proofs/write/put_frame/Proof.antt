@@ -3,44 +3,31 @@ use Rattle.ftd.proofs.Written.{frame-put}
 use borrow.Author.Needs.{needs}
 use Rattle.ftd.proofs.write.put_frame.Statement.{statement}
 use Rattle.ftd.proofs.write.put_frame.Tie as tie
-use Rattle.ftd.proofs.write.put_frame.Reads as reads
-use Rattle.ftd.proofs.write.put_frame.Lts as lts
-use Rattle.ftd.proofs.bytes.put16.Reads as put16-reads
-use Rattle.ftd.proofs.bytes.put8.Reads as put8-reads
 
--- src/write.rt:37:5
 put8-requires : tie.Need-put8-requires
 put8-requires c κs = search needs
 
--- src/write.rt:38:15
 add-put8 : tie.Need-add-put8
 add-put8 c = search needs
 
--- src/write.rt:38:23
 cast-put8 : tie.Need-cast-put8
 cast-put8 c = search needs
 
--- src/write.rt:38:5
 put8-requires-2 : tie.Need-put8-requires-2
 put8-requires-2 c κs = search needs
 
--- src/write.rt:39:16
 add-put16 : tie.Need-add-put16
 add-put16 c = search needs
 
--- src/write.rt:39:24
 cast-put16 : tie.Need-cast-put16
 cast-put16 c = search needs
 
--- src/write.rt:39:5
 put16-requires : tie.Need-put16-requires
 put16-requires c κs = search needs
 
--- src/write.rt:33:1
 same-length : tie.Need-same-length
 same-length c = search needs
 
--- src/write.rt:33:1
 returns : tie.Need-returns
 returns c =
     let p3 = c .before .before in

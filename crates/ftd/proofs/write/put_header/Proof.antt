@@ -5,78 +5,55 @@ use Rattle.ftd.proofs.Written.{header-put}
 use borrow.Author.Needs.{needs}
 use Rattle.ftd.proofs.write.put_header.Statement.{statement}
 use Rattle.ftd.proofs.write.put_header.Tie as tie
-use Rattle.ftd.proofs.write.put_header.Reads as reads
-use Rattle.ftd.proofs.write.put_header.Lts as lts
-use Rattle.ftd.proofs.bytes.put16.Reads as put16-reads
-use Rattle.ftd.proofs.bytes.put32.Reads as put32-reads
-use Rattle.ftd.proofs.bytes.put8.Reads as put8-reads
-use Rattle.ftd.proofs.packet.letter.Reads as letter-reads
 
--- src/write.rt:48:5
 put8-requires : tie.Need-put8-requires
 put8-requires c κs = search needs
 
--- src/write.rt:49:16
 add-put32 : tie.Need-add-put32
 add-put32 c = search needs
 
--- src/write.rt:49:5
 put32-requires : tie.Need-put32-requires
 put32-requires c κs = search needs
 
--- src/write.rt:50:15
 add-put8 : tie.Need-add-put8
 add-put8 c = search needs
 
--- src/write.rt:50:23
 letter-requires : tie.Need-letter-requires
 letter-requires c κs = search needs
 
--- src/write.rt:50:5
 put8-requires-2 : tie.Need-put8-requires-2
 put8-requires-2 c κs = search needs
 
--- src/write.rt:51:16
 add-put16 : tie.Need-add-put16
 add-put16 c = search needs
 
--- src/write.rt:51:5
 put16-requires : tie.Need-put16-requires
 put16-requires c κs = search needs
 
--- src/write.rt:52:16
 add-put32-2 : tie.Need-add-put32-2
 add-put32-2 c = search needs
 
--- src/write.rt:52:5
 put32-requires-2 : tie.Need-put32-requires-2
 put32-requires-2 c κs = search needs
 
--- src/write.rt:53:16
 add-put16-2 : tie.Need-add-put16-2
 add-put16-2 c = search needs
 
--- src/write.rt:53:5
 put16-requires-2 : tie.Need-put16-requires-2
 put16-requires-2 c κs = search needs
 
--- src/write.rt:54:16
 add-put16-3 : tie.Need-add-put16-3
 add-put16-3 c = search needs
 
--- src/write.rt:54:25
 cast-put16 : tie.Need-cast-put16
 cast-put16 c = search needs
 
--- src/write.rt:54:5
 put16-requires-3 : tie.Need-put16-requires-3
 put16-requires-3 c κs = search needs
 
--- src/write.rt:43:1
 same-length : tie.Need-same-length
 same-length c = search needs
 
--- src/write.rt:43:1
 returns : tie.Need-returns
 returns c =
     let p7 = c .before .before in

@@ -5,61 +5,43 @@ use Rattle.ftd.proofs.Written.{message-put}
 use borrow.Author.Needs.{needs}
 use Rattle.ftd.proofs.write.put_message.Statement.{statement}
 use Rattle.ftd.proofs.write.put_message.Tie as tie
-use Rattle.ftd.proofs.write.put_message.Reads as reads
-use Rattle.ftd.proofs.write.put_message.Lts as lts
-use Rattle.ftd.proofs.bytes.copy_at.Reads as copy-at-reads
-use Rattle.ftd.proofs.write.put_frame.Reads as put-frame-reads
-use Rattle.ftd.proofs.write.put_header.Reads as put-header-reads
 
--- src/write.rt:85:44
 add-put-frame : tie.Need-add-put-frame
 add-put-frame c = search needs
 
--- src/write.rt:85:5
 put-frame-requires : tie.Need-put-frame-requires
 put-frame-requires c κs = search needs
 
--- src/write.rt:86:18
 add-copy-at : tie.Need-add-copy-at
 add-copy-at c = search needs
 
--- src/write.rt:86:5
 copy-at-requires : tie.Need-copy-at-requires
 copy-at-requires c κs = search needs
 
--- src/write.rt:87:21
 add-put-header : tie.Need-add-put-header
 add-put-header c = search needs
 
--- src/write.rt:87:21
 add-put-header-2 : tie.Need-add-put-header-2
 add-put-header-2 c = search needs
 
--- src/write.rt:87:5
 put-header-requires : tie.Need-put-header-requires
 put-header-requires c κs = search needs
 
--- src/write.rt:88:18
 add-copy-at-2 : tie.Need-add-copy-at-2
 add-copy-at-2 c = search needs
 
--- src/write.rt:88:18
 add-copy-at-3 : tie.Need-add-copy-at-3
 add-copy-at-3 c = search needs
 
--- src/write.rt:88:18
 add-copy-at-4 : tie.Need-add-copy-at-4
 add-copy-at-4 c = search needs
 
--- src/write.rt:88:5
 copy-at-requires-2 : tie.Need-copy-at-requires-2
 copy-at-requires-2 c κs = search needs
 
--- src/write.rt:81:1
 same-length : tie.Need-same-length
 same-length c = search needs
 
--- src/write.rt:81:1
 returns : tie.Need-returns
 returns c =
     let p4 = c .before .before in

@@ -3,40 +3,28 @@ use Rattle.ftd.proofs.Written.{packet-put}
 use borrow.Author.Needs.{needs}
 use Rattle.ftd.proofs.write.put_packet.Statement.{statement}
 use Rattle.ftd.proofs.write.put_packet.Tie as tie
-use Rattle.ftd.proofs.write.put_packet.Reads as reads
-use Rattle.ftd.proofs.write.put_packet.Lts as lts
-use Rattle.ftd.proofs.bytes.copy_at.Reads as copy-at-reads
-use Rattle.ftd.proofs.write.put_frame.Reads as put-frame-reads
 
--- src/write.rt:75:5
 put-frame-requires : tie.Need-put-frame-requires
 put-frame-requires c κs = search needs
 
--- src/write.rt:76:18
 add-copy-at : tie.Need-add-copy-at
 add-copy-at c = search needs
 
--- src/write.rt:76:5
 copy-at-requires : tie.Need-copy-at-requires
 copy-at-requires c κs = search needs
 
--- src/write.rt:77:18
 add-copy-at-2 : tie.Need-add-copy-at-2
 add-copy-at-2 c = search needs
 
--- src/write.rt:77:18
 add-copy-at-3 : tie.Need-add-copy-at-3
 add-copy-at-3 c = search needs
 
--- src/write.rt:77:5
 copy-at-requires-2 : tie.Need-copy-at-requires-2
 copy-at-requires-2 c κs = search needs
 
--- src/write.rt:71:1
 same-length : tie.Need-same-length
 same-length c = search needs
 
--- src/write.rt:71:1
 returns : tie.Need-returns
 returns c =
     let p3 = c .before .before in

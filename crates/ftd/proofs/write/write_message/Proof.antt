@@ -4,43 +4,30 @@ use Rattle.ftd.specs.Writing.{messageVerdict}
 use borrow.Author.Needs.{needs}
 use Rattle.ftd.proofs.write.write_message.Statement.{statement}
 use Rattle.ftd.proofs.write.write_message.Tie as tie
-use Rattle.ftd.proofs.write.write_message.Reads as reads
-use Rattle.ftd.proofs.write.write_message.Lts as lts
-use Rattle.ftd.proofs.fields.exact_run.Reads as exact-run-reads
-use Rattle.ftd.proofs.tags.good_tags.Reads as good-tags-reads
-use Rattle.ftd.proofs.write.put_message.Reads as put-message-reads
 
--- src/write.rt:127:9
 returns : tie.Need-returns
 unfolding messageVerdict
 returns c = by-refusal _ _ _ _ (rw (lt-ltb _ _ (c .if1 .taken)))
 
--- src/write.rt:130:9
 returns-2 : tie.Need-returns-2
 unfolding messageVerdict
 returns-2 c = by-refusal _ _ _ _ (rw (le-ltb _ _ (c .before .if1 .left), lt-ltb _ _ (c .if2 .taken)))
 
--- src/write.rt:132:8
 good-tags-requires : tie.Need-good-tags-requires
 good-tags-requires c κs = search needs
 
--- src/write.rt:133:12
 exact-run-requires : tie.Need-exact-run-requires
 exact-run-requires c κs = search needs
 
--- src/write.rt:134:21
 add-n : tie.Need-add-n
 add-n c = search needs
 
--- src/write.rt:134:44
 add-n-2 : tie.Need-add-n-2
 add-n-2 c = search needs
 
--- src/write.rt:134:21
 add-n-3 : tie.Need-add-n-3
 add-n-3 c = search needs
 
--- src/write.rt:136:17
 returns-3 : tie.Need-returns-3
 unfolding messageVerdict
 returns-3 c =
@@ -56,15 +43,12 @@ returns-3 c =
     ))
     _ (length-message _ _ _) (c .if5 .taken)
 
--- src/write.rt:138:13
 put-message-requires : tie.Need-put-message-requires
 put-message-requires c κs = search needs
 
--- src/write.rt:139:13
 same-length : tie.Need-same-length
 same-length c = search needs
 
--- src/write.rt:139:13
 returns-4 : tie.Need-returns-4
 unfolding messageVerdict
 returns-4 c =
@@ -82,7 +66,6 @@ returns-4 c =
     ))
     _ (length-message _ _ _) _ (w .before .before .if5 .left) (w .put-message .ensures)
 
--- src/write.rt:141:9
 returns-5 : tie.Need-returns-5
 unfolding messageVerdict
 returns-5 c =
@@ -97,7 +80,6 @@ returns-5 c =
       c .if4 .left,
     ))
 
--- src/write.rt:123:1
 returns-6 : tie.Need-returns-6
 unfolding messageVerdict
 returns-6 c =

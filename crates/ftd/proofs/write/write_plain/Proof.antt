@@ -5,34 +5,23 @@ use Rattle.ftd.specs.Writing.{plainVerdict}
 use borrow.Author.Needs.{needs}
 use Rattle.ftd.proofs.write.write_plain.Statement.{statement}
 use Rattle.ftd.proofs.write.write_plain.Tie as tie
-use Rattle.ftd.proofs.write.write_plain.Reads as reads
-use Rattle.ftd.proofs.write.write_plain.Lts as lts
-use Rattle.ftd.proofs.write.is_plain.Reads as is-plain-reads
-use Rattle.ftd.proofs.write.plain_tags.Reads as plain-tags-reads
-use Rattle.ftd.proofs.write.put_packet.Reads as put-packet-reads
 
--- src/write.rt:96:9
 returns : tie.Need-returns
 unfolding plainVerdict
 returns c = by-refusal _ _ _ _ (rw (lt-ltb _ _ (c .if1 .taken)))
 
--- src/write.rt:98:8
 is-plain-requires : tie.Need-is-plain-requires
 is-plain-requires c κs = search needs
 
--- src/write.rt:99:12
 plain-tags-requires : tie.Need-plain-tags-requires
 plain-tags-requires c κs = search needs
 
--- src/write.rt:100:21
 add-n : tie.Need-add-n
 add-n c = search needs
 
--- src/write.rt:100:21
 add-n-2 : tie.Need-add-n-2
 add-n-2 c = search needs
 
--- src/write.rt:102:17
 returns-2 : tie.Need-returns-2
 unfolding plainVerdict
 returns-2 c =
@@ -41,18 +30,15 @@ returns-2 c =
     (rw (le-ltb _ _ (t .before .before .if1 .left), ← (t .before .is-plain .ensures), t .if2 .taken, ← (c .before .before .plain-tags .ensures), c .before .if3 .taken))
     _ (length-packet _ _ _) (c .if4 .taken)
 
--- src/write.rt:104:13
 put-packet-requires : tie.Need-put-packet-requires
 put-packet-requires c κs =
     let t = c .before .before .before .before in
     let small = plain-body _ _ _ (t .before .is-plain .ensures) (t .if2 .taken) in
     (omega arith, omega arith, small)
 
--- src/write.rt:105:13
 same-length : tie.Need-same-length
 same-length c = search needs
 
--- src/write.rt:105:13
 returns-3 : tie.Need-returns-3
 unfolding plainVerdict
 returns-3 c =
@@ -63,7 +49,6 @@ returns-3 c =
     (rw (le-ltb _ _ (t .before .before .if1 .left), ← (t .before .is-plain .ensures), t .if2 .taken, ← (f .plain-tags .ensures), w .before .before .before .if3 .taken))
     _ (length-packet _ _ _) _ (w .before .before .if4 .left) (w .put-packet .ensures)
 
--- src/write.rt:107:9
 returns-4 : tie.Need-returns-4
 unfolding plainVerdict
 returns-4 c =
@@ -71,7 +56,6 @@ returns-4 c =
     by-refusal _ _ _ _
     (rw (le-ltb _ _ (t .before .before .if1 .left), ← (t .before .is-plain .ensures), t .if2 .taken, ← (c .before .plain-tags .ensures), c .if3 .left))
 
--- src/write.rt:92:1
 returns-5 : tie.Need-returns-5
 unfolding plainVerdict
 returns-5 c =
