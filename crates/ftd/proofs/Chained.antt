@@ -66,7 +66,7 @@ shapely-end l at h = rw (drop-of-length-le l h)
 
 -- The first piece of what is left, and what follows it.
 module _ (l : List ℕ) (at : ℕ) (c : Cut) (next : NextPiece l at c) where
-  piece-length : length (part l at (c .end - at)) ≡ c .end - at
+  pub piece-length : length (part l at (c .end - at)) ≡ c .end - at
   piece-length = simp (length-take, length-drop) (omega (arith, next .low, next .high))
 
   pub piece-packet : (m : Message) (x : Chain) (to : ℕ)

@@ -1,5 +1,5 @@
 -- The laws of a message's packets. Assumes nothing.
-use Prim.Native.Nat.{ℕ, zero, suc, _+_, _-_, _*_, _<_, _≤_}
+use Prim.Native.Nat.{ℕ, zero, suc, _+_, _*_, _<_, _≤_}
 use mathlib.Core.Path.{_≡_, refl, sym, ap, _∙_}
 use mathlib.Core.List.{List, [], _∷_, _++_, map, append-assoc, append-nil}
 use mathlib.Core.Bool.{Bool, true, false, _&&_}
@@ -12,8 +12,8 @@ use Rattle.ftd.specs.Bytes.{be16Of, be32Of, part, joined}
 use Rattle.ftd.specs.Runs.{front, runOf, ended}
 use Rattle.ftd.specs.Tags.{tag, lengthRight, knownTags, countDate, goodTags, tagPlace, tradeDateOf}
 use Rattle.ftd.specs.Fields.{field, fieldsOf, exactRun}
-use Rattle.ftd.specs.Packets.{span, readOf}
-use Rattle.ftd.specs.Writing.{packetBytes, messageBytes, messageVerdict}
+use Rattle.ftd.specs.Packets.{notOnePacket, noMessagePacket, span, readOf, datedOf}
+use Rattle.ftd.specs.Writing.{packetBytes, messageBytes, fine, messageVerdict}
 use Rattle.ftd.specs.Chains.{Tag, tagBytes, allSmall, shaped, Piece, none, with, pack, piecesOf, tagsFor, extensionBytes, chainAt, headerFor, packetFor, isNil, framed, packetsOf}
 use Rattle.ftd.specs.ChainLaws.{packet, pieceOf, packetOf, letterAt, ChainLaws}
 use Rattle.ftd.specs.declared.tags.TradeDate.{TradeDate}
@@ -28,18 +28,19 @@ use Rattle.ftd.proofs.Turns.{some-tag, some-field}
 use Rattle.ftd.proofs.Heads.{front-whole}
 use Rattle.ftd.proofs.Joined.{Entry, Entries, run-of, Local, run-entries}
 use Rattle.ftd.proofs.Reading.{by-test}
-use Rattle.ftd.proofs.RoundTrip.{message-back, message-places}
+use Rattle.ftd.proofs.RoundTrip.{message-back, message-places, dated-back, message-one}
 use Rattle.ftd.proofs.Written.{length-packet}
 use Rattle.ftd.proofs.Chained.{shaped-facts, framed-count, pieces-some}
+use Rattle.ftd.proofs.Singles.{exact-shaped, one-piece}
 
 -- ─── The mark ───
 
-date-good : (d : TradeDate) → (goodTags (extensionBytes (tagsFor d)) ≡ true) × (length (extensionBytes (tagsFor d)) ≤ 6)
+pub date-good : (d : TradeDate) → (goodTags (extensionBytes (tagsFor d)) ≡ true) × (length (extensionBytes (tagsFor d)) ≤ 6)
 unfolding goodTags runOf tag front lengthRight knownTags countDate
 date-good None = (refl, omega arith)
 date-good (At d) = (refl, omega arith)
 
-date-back : (d : TradeDate) → tradeDateOf (extensionBytes (tagsFor d)) ≡ d
+pub date-back : (d : TradeDate) → tradeDateOf (extensionBytes (tagsFor d)) ≡ d
 unfolding tradeDateOf tagPlace runOf tag front be32Of
 date-back None = refl
 date-back (At d) = ap At (back32 d [])
@@ -196,18 +197,24 @@ module _ (m : Message) (content : List ℕ) where
       let k : i < length (piecesOf content) = rw (framed-count m true (piecesOf content)) at h in
       rw (framed-count m true (piecesOf content)) (framed-at m true (piecesOf content) i k)
 
+  -- It is written without refusal, and read back.
+  packet-fine : (limit i : ℕ) → shaped content limit ≡ true → i < length (packetsOf m content)
+      → messageVerdict (headerFor m (letterAt m content i) (pieceOf content i .count)) (extensionBytes (tagsFor (m .date))) (pieceOf content i .bytes) ≡ fine
+  unfolding messageVerdict headerFor
+  packet-fine limit i s h =
+      let k : i < length (piecesOf content) = rw (as-many .0) at h in
+      let good = good-at (piecesOf content) i (pieces-good content limit s) k in
+      let tags = date-good (m .date) in
+      rw (le-ltb 127 (length (extensionBytes (tagsFor (m .date)))) (omega (arith, tags .1)), le-ltb 4080 (length (pieceOf content i .bytes)) (good .0), tags .0, good .1)
+
   read-back : (limit i : ℕ) (q : List ℕ) → shaped content limit ≡ true → i < length (packetsOf m content)
       → readOf (packetOf m content i ++ q)
       ≡ Read (headerFor m (letterAt m content i) (pieceOf content i .count)) (span 4 (length (extensionBytes (tagsFor (m .date)))))
       (span (4 + length (extensionBytes (tagsFor (m .date))) + 16) (length (pieceOf content i .bytes)))
-  unfolding packetFor messageVerdict headerFor
+  unfolding packetFor
   read-back limit i q s h =
-      let k : i < length (piecesOf content) = rw (as-many .0) at h in
-      let good = good-at (piecesOf content) i (pieces-good content limit s) k in
-      let tags = date-good (m .date) in
       rw (packet-at i h)
-      (message-back (headerFor m (letterAt m content i) (pieceOf content i .count)) (extensionBytes (tagsFor (m .date))) (pieceOf content i .bytes) q
-      (rw (le-ltb 127 (length (extensionBytes (tagsFor (m .date)))) (omega (arith, tags .1)), le-ltb 4080 (length (pieceOf content i .bytes)) (good .0), tags .0, good .1)))
+      (message-back (headerFor m (letterAt m content i) (pieceOf content i .count)) (extensionBytes (tagsFor (m .date))) (pieceOf content i .bytes) q (packet-fine limit i s h))
 
   mark-back : (i : ℕ) (q : List ℕ) → i < length (packetsOf m content)
       → tradeDateOf (part (packetOf m content i ++ q) 4 (length (extensionBytes (tagsFor (m .date))))) ≡ m .date
@@ -221,6 +228,27 @@ module _ (m : Message) (content : List ℕ) where
   unfolding packetFor
   piece-back i q h =
       rw (packet-at i h) (message-places (headerFor m (letterAt m content i) (pieceOf content i .count)) (extensionBytes (tagsFor (m .date))) (pieceOf content i .bytes) q .1)
+
+  packet-dated : (limit i : ℕ) (q : List ℕ) → shaped content limit ≡ true → i < length (packetsOf m content)
+      → datedOf (packetOf m content i ++ q)
+      ≡ record {
+        packet =
+            Read (headerFor m (letterAt m content i) (pieceOf content i .count)) (span 4 (length (extensionBytes (tagsFor (m .date)))))
+            (span (4 + length (extensionBytes (tagsFor (m .date))) + 16) (length (pieceOf content i .bytes)));
+        date = m .date;
+      }
+  unfolding packetFor
+  packet-dated limit i q s h =
+      rw (packet-at i h)
+      (dated-back (headerFor m (letterAt m content i) (pieceOf content i .count)) (extensionBytes (tagsFor (m .date))) (pieceOf content i .bytes) q (packet-fine limit i s h)
+      ∙ rw (date-back (m .date)))
+
+  packet-one : (limit i : ℕ) → shaped content limit ≡ true → i < length (packetsOf m content)
+      → (notOnePacket (packetOf m content i) ≡ false) × (noMessagePacket (packetOf m content i) ≡ false)
+  unfolding packetFor
+  packet-one limit i s h =
+      rw (packet-at i h)
+      (message-one (headerFor m (letterAt m content i) (pieceOf content i .count)) (extensionBytes (tagsFor (m .date))) (pieceOf content i .bytes) (packet-fine limit i s h))
 
 -- ─── Cut by the first four bytes ───
 
@@ -281,6 +309,10 @@ pub chain-laws : ChainLaws
 chain-laws =
     record {
       tags-back = tags-back;
+      tags-good = λ d. date-good d .0;
+      tags-date = date-back;
+      exact = exact-shaped;
+      single = one-piece;
       pieces-joined = pieces-joined;
       piece-whole = λ content limit i s h. good-at (piecesOf content) i (pieces-good content limit s) h;
       as-many = as-many;
@@ -288,5 +320,7 @@ chain-laws =
       read-back = read-back;
       mark-back = mark-back;
       piece-back = piece-back;
+      dated-back = packet-dated;
+      one-packet = packet-one;
       cut-back = cut-back;
     }

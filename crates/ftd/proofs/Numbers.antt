@@ -2,11 +2,13 @@
 use Prim.Native.Nat.{ℕ, suc, _+_, _*_, _/_, _%_, _<_, _≤_}
 use mathlib.Core.Path.{_≡_, refl, sym, ap, _∙_}
 use mathlib.Core.List.{List, [], _∷_, _++_}
+use native.Mathlib.Nat.{add-zero}
 use native.Mathlib.Omega.{arith}
 use native.Mathlib.Numerals.{add-one}
 use lib.ListN.{length, getD, take, drop}
-use lib.Seq.{drop-cons}
+use lib.Seq.{drop-cons, drop-append-seam}
 use Rattle.ftd.specs.Bytes.{be16Of, be32Of, Bytes, bytes16, bytes32}
+use Rattle.ftd.proofs.Heads.{be16-drop, be32-drop}
 
 pub back16 : (x : ℕ) (l : List ℕ) → be16Of (bytes16 x ++ l) 0 ≡ x
 unfolding be16Of
@@ -15,6 +17,24 @@ back16 x l = omega arith
 pub back32 : (x : ℕ) (l : List ℕ) → be32Of (bytes32 x ++ l) 0 ≡ x
 unfolding be32Of
 back32 x l = omega arith
+
+-- ─── Behind other bytes ───
+
+module _ (l r : List ℕ) (k : ℕ) where
+  pub be16-behind : be16Of (l ++ r) (length l + k) ≡ be16Of r k
+  be16-behind = sym (be16-drop (length l) (l ++ r) k) ∙ ap (λ (t : List ℕ). be16Of t k) (drop-append-seam l r)
+
+  pub be32-behind : be32Of (l ++ r) (length l + k) ≡ be32Of r k
+  be32-behind = sym (be32-drop (length l) (l ++ r) k) ∙ ap (λ (t : List ℕ). be32Of t k) (drop-append-seam l r)
+
+module _ (l : List ℕ) (x : ℕ) (r : List ℕ) where
+  pub back16-at : be16Of (l ++ (bytes16 x ++ r)) (length l) ≡ x
+  back16-at = (rw add-zero at (be16-behind l (bytes16 x ++ r) 0)) ∙ back16 x r
+
+  pub back32-at : be32Of (l ++ (bytes32 x ++ r)) (length l) ≡ x
+  back32-at = (rw add-zero at (be32-behind l (bytes32 x ++ r) 0)) ∙ back32 x r
+
+-- ─── Bytes read ───
 
 again16 : (a b : ℕ) → a < 256 → b < 256 → bytes16 (a * 256 + b) ≡ a ∷ b ∷ []
 again16 a b h k =

@@ -1,21 +1,21 @@
--- The laws of the start field. Assumes nothing.
-use Prim.Native.Nat.{ℕ, _+_, _-_, _≤_}
+-- The start field behind whole fields: it is one field more, it is counted, and it is read back. Assumes nothing.
+use Prim.Native.Nat.{ℕ, _+_, _≤_}
 use mathlib.Core.Path.{_≡_, refl, sym, ap, _∙_}
 use mathlib.Core.List.{List, [], _∷_, _++_, append-nil}
 use mathlib.Core.Bool.{Bool, true, false, cond}
 use native.Mathlib.Omega.{arith}
 use lib.ListN.{length, length-append}
-use lib.Seq.{drop-append-seam}
 use lib.Dec.{eqb}
 use Rattle.ftd.specs.Bytes.{be16Of, be32Of, joined}
 use Rattle.ftd.specs.Runs.{Run, runOf, ended}
 use Rattle.ftd.specs.Fields.{field, fieldsOf, fidOf}
 use Rattle.ftd.specs.Composition.{oneIf, counted, countOf}
-use Rattle.ftd.specs.Resume.{firstIn, firstOf, resumeOf, resumeBytes, ResumeLaws}
+use Rattle.ftd.specs.Resume.{firstIn, firstOf, resumeOf, resumeBytes}
 use Rattle.ftd.specs.declared.fields.FieldPlace.the-variants.{Field}
 use Rattle.ftd.specs.declared.resume.Resume.the-variants.{Next}
 use Rattle.ftd.proofs.Runs.{run-whole}
-use Rattle.ftd.proofs.Heads.{be16-drop, be32-drop, front-whole}
+use Rattle.ftd.proofs.Heads.{front-whole}
+use Rattle.ftd.proofs.Numbers.{be16-behind, be32-behind}
 use Rattle.ftd.proofs.Turns.{some-field}
 use Rattle.ftd.proofs.Joined.{Entry, run-of}
 use Rattle.ftd.proofs.Chains.{joined-append, entries-snoc, fields-entries}
@@ -33,7 +33,7 @@ resume-entry series number =
           λ r. front-whole field (resumeBytes series number ++ r) (rw (follows series number r, length-append (resumeBytes series number) r) (omega arith)) ∙ follows series number r;
     }
 
-fid-is : (series number : ℕ) → fidOf (resumeBytes series number) ≡ 4
+pub fid-is : (series number : ℕ) → fidOf (resumeBytes series number) ≡ 4
 unfolding be32Of
 fid-is series number = refl
 
@@ -110,22 +110,13 @@ module _ (content : List ℕ) (series number : ℕ) (whole : ended (runOf field 
       ∙ ap (λ (n : ℕ). Field 4 (n + 6) 6) (rw long (omega arith))
 
   series-back : be16Of (content ++ resumeBytes series number) (length content + 6) ≡ series
-  series-back =
-      sym (be16-drop (length content) (content ++ resumeBytes series number) 6)
-      ∙ ap (λ (l : List ℕ). be16Of l 6) (drop-append-seam content (resumeBytes series number))
-      ∙ in-series series number
+  series-back = be16-behind content (resumeBytes series number) 6 ∙ in-series series number
 
   number-back : be32Of (content ++ resumeBytes series number) (length content + 6 + 2) ≡ number
   number-back =
       let e : length content + 6 + 2 ≡ length content + 8 = omega arith in
-      ap (be32Of (content ++ resumeBytes series number)) e
-      ∙ sym (be32-drop (length content) (content ++ resumeBytes series number) 8)
-      ∙ ap (λ (l : List ℕ). be32Of l 8) (drop-append-seam content (resumeBytes series number))
-      ∙ in-number series number
+      rw e (be32-behind content (resumeBytes series number) 8 ∙ in-number series number)
 
   pub back : countOf 4 content ≡ 0 → resumeOf (content ++ resumeBytes series number) ≡ Next series number
   unfolding resumeOf
   back z = rw (counts, z, first-is z, series-back, number-back)
-
-pub resume-laws : ResumeLaws
-resume-laws = record { behind = behind; counts = counts; back = back }

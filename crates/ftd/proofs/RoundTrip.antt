@@ -10,9 +10,9 @@ use lib.ListN.{length, getD, take, drop, length-append, length-take, length-drop
 use lib.Seq.{drop-at, take-length, take-add, drop-drop, getD-drop, take-append-seam}
 use lib.Dec.{ltb, eqb}
 use Rattle.ftd.specs.Bytes.{be16Of, be32Of, part, Bytes, bytes16, bytes32}
-use Rattle.ftd.specs.Tags.{goodTags}
+use Rattle.ftd.specs.Tags.{goodTags, tradeDateOf}
 use Rattle.ftd.specs.Fields.{exactRun}
-use Rattle.ftd.specs.Packets.{Said, kindOf, extensionLength, bodyLength, saidLength, extensionOf, versionOf, tidOf, letterOf, seriesOf, messageNumberOf, fieldCountOf, contentLengthOf, contentOf, wrongBody, isSkipped, isLetter, chainOf, chainLetter, span, headerOf, acceptedOf, messageOf, wholeOf, readOf, isShort}
+use Rattle.ftd.specs.Packets.{Said, kindOf, extensionLength, bodyLength, saidLength, extensionOf, versionOf, tidOf, letterOf, seriesOf, messageNumberOf, fieldCountOf, contentLengthOf, contentOf, wrongBody, isSkipped, isLetter, chainOf, chainLetter, span, headerOf, acceptedOf, messageOf, wholeOf, readOf, withMark, datedOf, isShort, notOnePacket, noMessagePacket}
 use Rattle.ftd.specs.Writing.{frameHead, packetBytes, headerBytes, messageBytes, Verdict, fine, refuse, other, isPlain, plainVerdict, messageVerdict}
 use Rattle.ftd.specs.declared.refusal.Refusal.{Refusal}
 use Rattle.ftd.specs.declared.refusal.Refusal.the-variants.{LongExtension, BrokenTag, BodyLength, FieldRun}
@@ -28,6 +28,7 @@ use Rattle.ftd.proofs.Lists.{part-append, be16-width}
 use Rattle.ftd.proofs.Heads.{be16-drop, be32-drop}
 use Rattle.ftd.proofs.Numbers.{back16, back32, one-byte, two-bytes, four-bytes}
 use Rattle.ftd.proofs.Written.{length-header, length-packet, length-message}
+use Rattle.ftd.proofs.OnePackets.{one-written, one-message}
 use Rattle.ftd.proofs.Decided.{header-made, accepted-made, fields-wrong, message-good, whole-skipped, whole-broken, whole-link, whole-message, read-long, read-body, read-there}
 use Rattle.ftd.proofs.Reading.{by-test, There, Accepted, accepted, linked, passed, stays}
 
@@ -364,6 +365,35 @@ module _ (h : Header) (extension content : List ℕ) where
         part-append m q (4 + length extension + 16) (length content) (omega arith) ∙ content-part,
       )
 
+  -- With its mark.
+  extension-said : (q : List ℕ) → extensionLength (m ++ q) ≡ length extension
+  unfolding messageBytes packetBytes
+  extension-said q = refl
+
+  extension-read : (q : List ℕ) → extensionOf (m ++ q) ≡ extension
+  unfolding extensionOf
+  extension-read q = rw (extension-said q) (message-places q .0)
+
+  pub dated-back : (q : List ℕ) → messageVerdict h extension content ≡ fine
+      → datedOf (m ++ q)
+      ≡ record { packet = Message h (span 4 (length extension)) (span (4 + length extension + 16) (length content)); date = tradeDateOf extension }
+  unfolding datedOf withMark
+  dated-back q v = rw (message-back q v, extension-read q)
+
+  -- It is one packet, and a message packet.
+  small-fine : messageVerdict h extension content ≡ fine → length content ≤ 4080
+  unfolding messageVerdict
+  small-fine =
+      by-test P (ltb 127 (length extension)) (λ a e. absurd (fine-or e)) (λ a.
+      by-test P (ltb 4080 (length content)) (λ b e. absurd (fine-or e)) (λ b e. ltb-false 4080 (length content) b))
+    where
+      P : Verdict → Type 0
+      P v = v ≡ fine → length content ≤ 4080
+
+  pub message-one : messageVerdict h extension content ≡ fine
+      → (notOnePacket m ≡ false) × (noMessagePacket m ≡ false)
+  message-one v = (one-written h extension content, one-message h extension content (small-fine v))
+
 module _ (kind : ℕ) (extension body : List ℕ) (q : List ℕ) where
   not-short : (s : Bool) (x : Packet) → isShort x ≡ false → (y : Packet) → isShort y ≡ false → isShort (cond s x y) ≡ false
   not-short true x e y f = e
@@ -569,6 +599,8 @@ write-laws =
     record {
       message-back = message-back;
       message-places = message-places;
+      dated-back = dated-back;
+      one-packet = message-one;
       plain-back = plain-back;
       plain-places = λ kind extension body q. plain-places kind extension body q;
       message-refused = message-refused;

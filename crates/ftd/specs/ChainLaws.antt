@@ -2,16 +2,17 @@
 -- back as what was meant, and the packets are found again in what was written by their first four bytes.
 use Prim.Native.Nat.{ℕ, _+_, _≤_, _<_}
 use mathlib.Core.Path.{_≡_}
-use mathlib.Core.List.{List, [], _++_, map}
-use mathlib.Core.Bool.{true}
+use mathlib.Core.List.{List, [], _∷_, _++_, map}
+use mathlib.Core.Bool.{true, false}
 use lib.ListN.{length, getD}
 use lib.Dec.{eqb}
 use Rattle.ftd.specs.Bytes.{part, joined}
 use Rattle.ftd.specs.Runs.{Form, runOf}
-use Rattle.ftd.specs.Tags.{tag, tradeDateOf}
-use Rattle.ftd.specs.Fields.{exactRun}
-use Rattle.ftd.specs.Packets.{extensionLength, bodyLength, span, readOf}
+use Rattle.ftd.specs.Tags.{tag, goodTags, tradeDateOf}
+use Rattle.ftd.specs.Fields.{fieldsOf, exactRun}
+use Rattle.ftd.specs.Packets.{extensionLength, bodyLength, notOnePacket, noMessagePacket, span, readOf, datedOf}
 use Rattle.ftd.specs.Chains.{shaped, Tag, tagBytes, Piece, none, piecesOf, tagsFor, extensionBytes, chainAt, headerFor, packetsOf}
+use Rattle.ftd.specs.declared.tags.TradeDate.{TradeDate}
 use Rattle.ftd.specs.declared.chain.Message.{Message}
 use Rattle.ftd.specs.declared.packet.Chain.{Chain}
 use Rattle.ftd.specs.declared.packet.Packet.the-variants.{Message as Accepted}
@@ -34,6 +35,12 @@ letterAt m content i = chainAt (eqb i 0) (eqb (i + 1) (length (packetsOf m conte
 pub record ChainLaws : Type 0 where
   -- An extension made of tags is a run of just these tags.
   pub tags-back : (ts : List Tag) → runOf tag (extensionBytes ts) ≡ record { entries = map tagBytes ts; rest = [] }
+  -- The tags that an end writes pass the check of tags, and have the mark.
+  pub tags-good : (d : TradeDate) → goodTags (extensionBytes (tagsFor d)) ≡ true
+  pub tags-date : (d : TradeDate) → tradeDateOf (extensionBytes (tagsFor d)) ≡ d
+  -- Content that has shape is as many whole fields as it has fields; what one packet holds is one piece.
+  pub exact : (content : List ℕ) (limit : ℕ) → shaped content limit ≡ true → exactRun content (length (fieldsOf content)) ≡ true
+  pub single : (content : List ℕ) → shaped content 4080 ≡ true → piecesOf content ≡ record { count = length (fieldsOf content); bytes = content } ∷ []
   -- The pieces' bytes joined are the content.
   pub pieces-joined : (content : List ℕ) (limit : ℕ) → shaped content limit ≡ true → joined (map (λ (p : Piece). p .bytes) (piecesOf content)) ≡ content
   -- Each piece is so many whole fields, of at most 4,080 bytes together.
@@ -52,5 +59,16 @@ pub record ChainLaws : Type 0 where
       → tradeDateOf (part (packetOf m content i ++ q) 4 (length (extensionBytes (tagsFor (m .date))))) ≡ m .date
   pub piece-back : (m : Message) (content : List ℕ) (i : ℕ) (q : List ℕ) → i < length (packetsOf m content)
       → part (packetOf m content i ++ q) (4 + length (extensionBytes (tagsFor (m .date))) + 16) (length (pieceOf content i .bytes)) ≡ pieceOf content i .bytes
+  -- The same with the mark, as one answer; and each is one packet, and a message packet.
+  pub dated-back : (m : Message) (content : List ℕ) (limit i : ℕ) (q : List ℕ) → shaped content limit ≡ true → i < length (packetsOf m content)
+      → datedOf (packetOf m content i ++ q)
+      ≡ record {
+        packet =
+            Accepted (headerFor m (letterAt m content i) (pieceOf content i .count)) (span 4 (length (extensionBytes (tagsFor (m .date)))))
+            (span (4 + length (extensionBytes (tagsFor (m .date))) + 16) (length (pieceOf content i .bytes)));
+        date = m .date;
+      }
+  pub one-packet : (m : Message) (content : List ℕ) (limit i : ℕ) → shaped content limit ≡ true → i < length (packetsOf m content)
+      → (notOnePacket (packetOf m content i) ≡ false) × (noMessagePacket (packetOf m content i) ≡ false)
   -- What a whole message is written as, cut by the packets' first four bytes, is its packets.
   pub cut-back : (m : Message) (content : List ℕ) → runOf packet (joined (packetsOf m content)) ≡ record { entries = packetsOf m content; rest = [] }

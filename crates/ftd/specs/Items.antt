@@ -42,6 +42,14 @@ walkFields (f ∷ fs) = cond (itemsGood (rowsOf (fidOf f)) (bytesOf f)) (walkFie
 unfoldable pub walkOf : List ℕ → Checked
 walkOf content = walkFields (fieldsOf content)
 
+-- The same as a test: some item is not a value of its type.
+abbrev pub isRefused : Checked → Bool
+isRefused Passed = false
+isRefused (Refused r) = true
+
+unfoldable pub wrongItem : List ℕ → Bool
+wrongItem content = isRefused (walkOf content)
+
 -- ─── Both, 8 over all fields first ───
 
 unfoldable pub checkOf : List ℕ → Checked

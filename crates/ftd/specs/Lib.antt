@@ -11,6 +11,7 @@ pub mod Chains
 pub mod ChainLaws
 pub mod Composition
 pub mod Resume
+pub mod Logins
 pub mod Table
 pub mod TableRule
 pub mod Values

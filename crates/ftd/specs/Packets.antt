@@ -89,6 +89,14 @@ headMissing p = ltb (length p) 4
 unfoldable pub restMissing : List ℕ → Bool
 restMissing p = ltb (length p) (saidLength p)
 
+-- 12: fewer than four bytes, or not as many as the first four say. (Said of no bytes are 0, yet no bytes are not one packet.)
+unfoldable pub notOnePacket : List ℕ → Bool
+notOnePacket p = headMissing p || not (eqb (length p) (saidLength p))
+
+-- 12, of Login and Answer also: no message packet, by the first four bytes.
+unfoldable pub noMessagePacket : List ℕ → Bool
+noMessagePacket p = not (eqb (kindOf p) 1 && leb 16 (bodyLength p) && leb (bodyLength p) 4096)
+
 -- 1: the extension is above 127.
 abbrev pub longExtension : List ℕ → Bool
 longExtension p = ltb 127 (extensionLength p)

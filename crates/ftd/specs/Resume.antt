@@ -1,18 +1,25 @@
 -- The start field (DisseminationstartField, FID 0x0004; 01, "The serving end"): the series, and the next number wanted (4.3.3.2).
-use Prim.Native.Nat.{ℕ, _+_, _-_}
+use Prim.Native.Nat.{ℕ, _+_, _-_, _≤_}
 use mathlib.Core.Path.{_≡_}
 use mathlib.Core.List.{List, [], _∷_, _++_}
-use mathlib.Core.Bool.{true, cond}
+use mathlib.Core.Bool.{true, false, cond}
+use mathlib.Core.Logic.{_⊎_}
 use lib.ListN.{length}
 use lib.Dec.{ltb, eqb}
 use Rattle.ftd.specs.Bytes.{be16Of, be32Of, bytes16, bytes32}
 use Rattle.ftd.specs.Runs.{runOf, ended}
 use Rattle.ftd.specs.Fields.{field, fieldsOf, fidOf}
-use Rattle.ftd.specs.Composition.{countOf}
+use Rattle.ftd.specs.Composition.{oneIf, countOf, composed}
+use Rattle.ftd.specs.Chains.{shaped}
+use Rattle.ftd.specs.Items.{wrongWidth, wrongItem}
+use Rattle.ftd.specs.declared.composition.Direction.{Direction}
 use Rattle.ftd.specs.declared.fields.FieldPlace.{FieldPlace}
 use Rattle.ftd.specs.declared.fields.FieldPlace.the-variants.{NoField, Field}
 use Rattle.ftd.specs.declared.resume.Resume.{Resume}
 use Rattle.ftd.specs.declared.resume.Resume.the-variants.{Absent, Next, Misshapen, Several}
+
+abbrev pub resumeFid : ℕ
+resumeFid = 4
 
 -- ─── Found ───
 
@@ -47,6 +54,20 @@ pub record ResumeLaws : Type 0 where
   -- It is counted.
   pub counts : (content : List ℕ) (series number : ℕ) → ended (runOf field content) ≡ true
       → countOf 4 (content ++ resumeBytes series number) ≡ countOf 4 content + 1
+  pub counts-each : (content : List ℕ) (series number fid : ℕ) → ended (runOf field content) ≡ true
+      → countOf fid (content ++ resumeBytes series number) ≡ countOf fid content + oneIf resumeFid fid
+  -- 7, 8 and 9 say the same of the content with it as of the content, but for its twelve bytes.
+  pub shape : (content : List ℕ) (series number limit : ℕ) → shaped content limit ≡ true → shaped (content ++ resumeBytes series number) (limit + 12) ≡ true
+  pub widths : (content : List ℕ) (series number : ℕ) → ended (runOf field content) ≡ true
+      → wrongWidth (content ++ resumeBytes series number) ≡ wrongWidth content
+  pub items : (content : List ℕ) (series number : ℕ) → ended (runOf field content) ≡ true
+      → wrongItem (content ++ resumeBytes series number) ≡ wrongItem content
+  -- 10 says the same whichever series and number it has.
+  pub composes : (content : List ℕ) (series number tid : ℕ) (d : Direction) → ended (runOf field content) ≡ true
+      → composed tid d (content ++ resumeBytes series number) ≡ composed tid d (content ++ resumeBytes 0 0)
   -- Behind whole fields without one it is read back.
   pub back : (content : List ℕ) (series number : ℕ) → ended (runOf field content) ≡ true → countOf 4 content ≡ 0
       → resumeOf (content ++ resumeBytes series number) ≡ Next series number
+  -- Where 8 passes and there is at most one, there is none or it has its values.
+  pub right : (content : List ℕ) → wrongWidth content ≡ false → countOf resumeFid content ≤ 1
+      → (resumeOf content ≡ Absent) ⊎ ((series : ℕ) × (number : ℕ) × (resumeOf content ≡ Next series number))

@@ -3,10 +3,11 @@
 use Prim.Native.Nat.{ℕ, _+_}
 use mathlib.Core.Path.{_≡_}
 use mathlib.Core.List.{List, [], _++_}
-use mathlib.Core.Bool.{cond}
+use mathlib.Core.Bool.{false, cond}
 use lib.ListN.{length, take}
 use Rattle.ftd.specs.Bytes.{Bytes, part}
-use Rattle.ftd.specs.Packets.{saidLength, isSkipped, span, readOf}
+use Rattle.ftd.specs.Tags.{tradeDateOf}
+use Rattle.ftd.specs.Packets.{saidLength, notOnePacket, noMessagePacket, isSkipped, span, readOf, datedOf}
 use Rattle.ftd.specs.Writing.{packetBytes, messageBytes, fine, refuse, plainVerdict, messageVerdict}
 use Rattle.ftd.specs.declared.refusal.Refusal.{Refusal}
 use Rattle.ftd.specs.declared.packet.Span.{Span}
@@ -28,6 +29,12 @@ pub record WriteLaws : Type 0 where
       → readOf (messageBytes h extension content ++ q) ≡ Message h (span 4 (length extension)) (span (4 + length extension + 16) (length content))
   pub message-places : (h : Header) (extension content q : List ℕ) → (part (messageBytes h extension content ++ q) 4 (length extension) ≡ extension)
       × (part (messageBytes h extension content ++ q) (4 + length extension + 16) (length content) ≡ content)
+  -- The same with the mark, as one answer; and what was written is one packet, and a message packet.
+  pub dated-back : (h : Header) (extension content q : List ℕ) → messageVerdict h extension content ≡ fine
+      → datedOf (messageBytes h extension content ++ q)
+      ≡ record { packet = Message h (span 4 (length extension)) (span (4 + length extension + 16) (length content)); date = tradeDateOf extension }
+  pub one-packet : (h : Header) (extension content : List ℕ) → messageVerdict h extension content ≡ fine
+      → (notOnePacket (messageBytes h extension content) ≡ false) × (noMessagePacket (messageBytes h extension content) ≡ false)
   pub plain-back : (kind : ℕ) (extension body q : List ℕ) → plainVerdict kind extension body ≡ fine
       → readOf (packetBytes kind extension body ++ q) ≡ plainOf kind (length extension) (length body)
   pub plain-places : (kind : ℕ) (extension body q : List ℕ) → (part (packetBytes kind extension body ++ q) 4 (length extension) ≡ extension)

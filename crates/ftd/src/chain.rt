@@ -74,7 +74,7 @@ pub fn is_shaped(content: &[u8], limit: usize) -> bool
 }
 
 // The bytes that the tags of an end take.
-fn tags_len(date: TradeDate) -> usize
+pub(crate) fn tags_len(date: TradeDate) -> usize
     ensures { λ r. ⌜ (r ≡ length (extensionBytes (tagsFor date))) × (r ≤ 6) ⌝ }
 {
     match date {
@@ -84,7 +84,7 @@ fn tags_len(date: TradeDate) -> usize
 }
 
 // The tags that an end writes.
-fn put_tags(out: &mut [u8], to: usize, date: TradeDate)
+pub(crate) fn put_tags(out: &mut [u8], to: usize, date: TradeDate)
     requires { ⌜ to + length (extensionBytes (tagsFor date)) ≤ length (now out) ⌝ }
     ensures { λ _. ⌜ now (out .exit) ≡ put (now (out .entry)) to (extensionBytes (tagsFor date)) ⌝ }
 {

@@ -4,7 +4,7 @@ ghost use mathlib.Core.Path.{_≡_};
 ghost use Prim.Native.Nat.{_+_, _<_, _≤_};
 ghost use lib.ListN.{length, take, drop};
 ghost use Rattle.ftd.specs.TableRule.{rowAt, kindColumn, widthColumn, scaleColumn};
-ghost use Rattle.ftd.specs.Items.{otherWidth, wrongWidth, itemGood, walkOf, checkOf};
+ghost use Rattle.ftd.specs.Items.{otherWidth, wrongWidth, itemGood, walkOf, wrongItem, checkOf};
 use crate::bytes::be32;
 use crate::bytes::size32;
 use crate::fields::field_size;
@@ -113,6 +113,16 @@ pub fn walk_items(content: &[u8]) -> Checked
             }
         }
         at = end;
+    }
+}
+
+// Refusal 9 as a test: some item is not a value of its type.
+pub fn wrong_item(content: &[u8]) -> bool
+    ensures { λ r. ⌜ r ≡ wrongItem (now (content .entry)) ⌝ }
+{
+    match walk_items(content) {
+        Checked::Passed => false,
+        Checked::Refused(_) => true,
     }
 }
 

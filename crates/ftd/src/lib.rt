@@ -8,6 +8,7 @@ pub mod write; // packets written
 pub mod chain; // a message cut into packets and written
 pub mod composition; // make-up: how often each field occurs
 pub mod resume; // the start field
+pub mod login; // login packets
 pub mod items; // the items of a content's fields
 pub mod table; // the table of Appendix D
 pub mod values; // which bytes are a value of an item's type

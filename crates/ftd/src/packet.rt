@@ -2,12 +2,12 @@
 ghost use mathlib.Core.Bool.{false};
 ghost use mathlib.Core.Path.{_≡_};
 ghost use Prim.Native.Nat.{_+_, _<_, _≤_};
-ghost use lib.ListN.{length};
+ghost use lib.ListN.{length, getD};
 ghost use Rattle.ftd.specs.Bench.{Bench};
 ghost use Rattle.ftd.specs.Fields.{FieldInside};
 ghost use Rattle.ftd.specs.Laws.{ReadLaws};
 ghost use Rattle.ftd.specs.Tags.{tradeDateOf};
-ghost use Rattle.ftd.specs.Packets.{saidIn, Said, kindOf, extensionLength, wrongBody, isSkipped, isLetter, chainOf, chainLetter, headerOf, acceptedOf, messageOf, wholeOf, readOf, extensionOf, bearsMark, withMark, datedOf, FitsIn, movedBy, fieldOf, fieldBytes};
+ghost use Rattle.ftd.specs.Packets.{saidIn, Said, kindOf, extensionLength, bodyLength, notOnePacket, noMessagePacket, wrongBody, isSkipped, isLetter, chainOf, chainLetter, headerOf, acceptedOf, messageOf, wholeOf, readOf, extensionOf, bearsMark, withMark, datedOf, FitsIn, movedBy, fieldOf, fieldBytes};
 use crate::bytes::be16;
 use crate::bytes::be32;
 use crate::bytes::size8;
@@ -78,6 +78,47 @@ pub fn said_length(p: &[u8]) -> usize
         return 4 + size8(p[1]) + size16(be16(p, 2));
     }
     0
+}
+
+// A byte at a place; 0 where it is not there.
+fn byte_in(p: &[u8], at: usize) -> u8
+    ensures { λ r. ⌜ r ≡ getD (now (p .entry)) at 0 ⌝ }
+{
+    if at < p.len() {
+        return p[at];
+    }
+    0
+}
+
+// The length of the body, as the bytes 2 and 3 say.
+fn body_in(p: &[u8]) -> usize
+    ensures { λ r. ⌜ r ≡ bodyLength (now (p .entry)) ⌝ }
+{
+    size8(byte_in(p, 2)) * 256 + size8(byte_in(p, 3))
+}
+
+// Refusal 12: fewer than four bytes, or not as many as the first four say.
+pub fn not_one_packet(p: &[u8]) -> bool
+    ensures { λ r. ⌜ r ≡ notOnePacket (now (p .entry)) ⌝ }
+{
+    if 4 <= p.len() {
+        return p.len() != said_length(p);
+    }
+    true
+}
+
+// Refusal 12, of Login and Answer also: no message packet, by the first four bytes. Bytes that are not there count as 0.
+pub fn no_message_packet(p: &[u8]) -> bool
+    ensures { λ r. ⌜ r ≡ noMessagePacket (now (p .entry)) ⌝ }
+{
+    if byte_in(p, 0) != 1 {
+        return true;
+    }
+    let body = body_in(p);
+    if body < 16 {
+        return true;
+    }
+    4096 < body
 }
 
 // Refusal 3: type 0x01 with a body of 1 to 15 or above 4,096.

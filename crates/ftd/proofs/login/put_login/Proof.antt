@@ -1,0 +1,92 @@
+-- `login::put_login` meets its contract. Assumes nothing.
+use borrow.Author.Needs.{needs}
+use Rattle.ftd.proofs.LoginWrites.{login-put}
+use Rattle.ftd.proofs.login.put_login.Statement.{statement}
+use Rattle.ftd.proofs.login.put_login.Tie as tie
+
+tags-len-requires : tie.Need-tags-len-requires
+tags-len-requires c κs = search needs
+
+ending-len-requires : tie.Need-ending-len-requires
+ending-len-requires c κs = search needs
+
+add-size : tie.Need-add-size
+add-size c = search needs
+
+cast-t12 : tie.Need-cast-t12
+cast-t12 c = search needs
+
+add-put-frame : tie.Need-add-put-frame
+add-put-frame c = search needs
+
+put-frame-requires : tie.Need-put-frame-requires
+put-frame-requires c κs = search needs
+
+put-tags-requires : tie.Need-put-tags-requires
+put-tags-requires c κs = search needs
+
+add-put-header : tie.Need-add-put-header
+add-put-header c = search needs
+
+put-header-requires : tie.Need-put-header-requires
+put-header-requires c κs = search needs
+
+add-copy-at : tie.Need-add-copy-at
+add-copy-at c = search needs
+
+add-copy-at-2 : tie.Need-add-copy-at-2
+add-copy-at-2 c = search needs
+
+copy-at-requires : tie.Need-copy-at-requires
+copy-at-requires c κs = search needs
+
+add-put-ending : tie.Need-add-put-ending
+add-put-ending c = search needs
+
+add-put-ending-2 : tie.Need-add-put-ending-2
+add-put-ending-2 c = search needs
+
+add-put-ending-3 : tie.Need-add-put-ending-3
+add-put-ending-3 c = search needs
+
+put-ending-requires : tie.Need-put-ending-requires
+put-ending-requires c κs = search needs
+
+same-length : tie.Need-same-length
+same-length c = search needs
+
+returns : tie.Need-returns
+returns c =
+    let p5 = c .before .before in
+    let p4 = p5 .before .before .before .before in
+    let p3 = p4 .before .before .before .before in
+    let p2 = p3 .before .before .before .before in
+    let p1 = p2 .before .before .before .before in
+    let e = p1 .before .before in
+    let t = e .before in
+    let s = t .before .before .before in
+    login-put _ _ _ _ _ _ (s .args .date) _ (s .args .ending) _ _ (s .args .fields) (t .tags-len .ensures .0) (e .ending-len .ensures .0) (s .pre .2) (s .pre .3)
+    (p1 .put-frame .ensures) (p2 .put-tags .ensures) (p3 .put-header .ensures) (p4 .copy-at .ensures) (p5 .put-ending .ensures)
+
+pub put-login-spec : {M : Type 1} → statement M
+put-login-spec =
+    tie.close
+    (tie.spec
+    tags-len-requires
+    ending-len-requires
+    add-size
+    cast-t12
+    add-put-frame
+    put-frame-requires
+    put-tags-requires
+    add-put-header
+    put-header-requires
+    add-copy-at
+    add-copy-at-2
+    copy-at-requires
+    add-put-ending
+    add-put-ending-2
+    add-put-ending-3
+    put-ending-requires
+    same-length
+    returns)
