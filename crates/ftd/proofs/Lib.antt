@@ -42,4 +42,5 @@ pub mod Dated
 pub mod DateTrips
 pub mod ValueLaws
 pub mod Signs
+pub mod Opened
 pub mod Bench

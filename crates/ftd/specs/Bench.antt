@@ -2,17 +2,14 @@
 -- side by side as lists of numbers, so that examples of every kind fit one table.
 use Prim.Native.Nat.{ℕ}
 use mathlib.Core.List.{List, [], _∷_, _++_, map}
-use mathlib.Core.Bool.{Bool, true, false, _&&_}
-use lib.ListN.{replicate}
-use mathlib.Core.List.{List, [], _∷_, _++_}
 use mathlib.Core.Bool.{Bool, true, false, cond, _&&_}
+use lib.ListN.{replicate}
 use lib.Dec.{eqb, T}
 use Rattle.ftd.specs.Bytes.{bytes16, bytes32}
 use Rattle.ftd.specs.Refusals.{numberOf}
 use Rattle.ftd.specs.Packets.{letterOf, chainLetter, readOf}
 use Rattle.ftd.specs.Chains.{packetsOf}
 use Rattle.ftd.specs.declared.tags.TradeDate.the-variants.{None}
-use Rattle.ftd.specs.Packets.{chainLetter, readOf}
 use Rattle.ftd.specs.Items.{checkOf}
 use Rattle.ftd.specs.Places.{itemBytes}
 use Rattle.ftd.specs.Signed.{floatValue}
@@ -86,8 +83,9 @@ prices n price b =
     let bytes : List ℕ = 32 ∷ 32 ∷ 32 ∷ 32 ∷ 32 ∷ 32 ∷ 32 ∷ 32 ∷ 32 ∷ 32 ∷ 0 ∷ 0 ∷ price ++ (0 ∷ 0 ∷ 0 ∷ 0 ∷ 0 ∷ []) in
     row n (checkAnswer (checkOf (0 ∷ 0 ∷ 0 ∷ 10 ∷ 0 ∷ 29 ∷ bytes)) (valueAnswer (floatValue 4 (itemBytes bytes 10 3)))) b
 
-unfoldable pub bench : List Row
-bench =
+-- In two lists, as the paper's order has P10 and P11, of the ends, between them.
+unfoldable pub upToNine : List Row
+upToNine =
     -- P1 no bytes
     reads 1 [] short
     -- P2 00 02 00 00 04 00: link
@@ -115,10 +113,17 @@ bench =
     ∷ prices 9 (48 ∷ 48 ∷ 48 ∷ 48 ∷ 49 ∷ 50 ∷ 51 ∷ 46 ∷ 52 ∷ 53 ∷ 48 ∷ 48 ∷ []) (0 ∷ 1234500 ∷ [])
     ∷ prices 9 (45 ∷ 48 ∷ 48 ∷ 48 ∷ 48 ∷ 49 ∷ 50 ∷ 46 ∷ 53 ∷ 48 ∷ 48 ∷ 48 ∷ []) (1 ∷ 125000 ∷ [])
     ∷ prices 9 (45 ∷ 48 ∷ 48 ∷ 48 ∷ 48 ∷ 48 ∷ 48 ∷ 46 ∷ 48 ∷ 48 ∷ 48 ∷ 48 ∷ []) (refused 9)
+    ∷ []
+
+unfoldable pub twelfth : List Row
+twelfth =
     -- P12 fields of 2,034 and 2,034 bytes: S; 2,034 and 2,035: F, L
-    ∷ row 12 (lettersOf (dataField 2034 ++ dataField 2034)) (83 ∷ [])
+    row 12 (lettersOf (dataField 2034 ++ dataField 2034)) (83 ∷ [])
     ∷ row 12 (lettersOf (dataField 2034 ++ dataField 2035)) (70 ∷ 76 ∷ [])
     ∷ []
+
+unfoldable pub bench : List Row
+bench = upToNine ++ twelfth
 
 -- ─── The test ───
 

@@ -1,0 +1,25 @@
+-- Demand 3, whole: both halves, for every list of events. Assumes nothing.
+use Prim.Native.Nat.{ℕ, _<_}
+use mathlib.Core.Path.{_≡_}
+use mathlib.Core.List.{List}
+use mathlib.Core.Option.{some}
+use lib.ListN.{length, getElem?}
+use Rattle.ftd.proofs.Chains.{chain-laws}
+use Rattle.flow.specs.World.{InSeries, Event, start, run}
+use Rattle.flow.specs.Agreement.{Agreement}
+use Rattle.flow.proofs.first.Half.{safe-agreed}
+use Rattle.flow.proofs.second.Half.{safe-run, complete}
+use Rattle.flow.proofs.source.Sources.{run-source}
+
+has-packets : (log buffer : List ℕ) (es : List Event) (i : ℕ) (m : InSeries (List (List ℕ))) →
+    getElem? (run (start log buffer) es .serving .messages) i ≡ some m → 0 < length (m .what)
+has-packets log buffer es i m q = let g = run-source log buffer es .genuine i m q in rw (g .packets) (chain-laws .as-many _ _ .1)
+
+pub agreement : Agreement
+agreement =
+    record {
+      safe = λ log buffer es s d l. safe-agreed (run (start log buffer) es) s d (safe-run log buffer es l);
+      dated = λ log buffer es l. safe-run log buffer es l .dated;
+      sent = has-packets;
+      complete = complete;
+    }

@@ -1,0 +1,4 @@
+pub mod Tests
+pub mod Opened
+pub mod Bench
+pub mod Examples

@@ -1,0 +1,68 @@
+-- The examples, computed. Assumes nothing.
+use mathlib.Core.List.{List, [], _∷_}
+use mathlib.Core.Bool.{Bool}
+use lib.Dec.{T, eqb, eqb→eq}
+use lib.ListN.{length}
+use Rattle.ftd.specs.Bench.{same}
+use Rattle.flow.specs.World.{inRuns}
+use Rattle.flow.specs.Agreement.{publishedOn, reported}
+use Rattle.flow.specs.Examples.{refusals, twoDays, twoDaysStart, twoDaysEnd, twoDaysRefusals, twoDaysShown, twoLogins, twoLoginsStart, beforeOne, behindOne, beforeThree, behindThree, twoLoginsEnd, twoLoginsRefusals, twoLoginsShown, lastAnswer, chainDropped, Examples}
+use Rattle.flow.proofs.examples.Tests.{holdAll, each, isCaughtUp, caught-up}
+use Rattle.flow.proofs.examples.Opened.{opened}
+
+line-is : T (inRuns twoDaysStart twoDays)
+unfolding opened
+line-is = tt
+
+refused-are : T (same (refusals twoDaysStart twoDays) twoDaysRefusals)
+unfolding opened
+refused-are = tt
+
+shown-is : T (twoDaysShown twoDaysEnd)
+unfolding opened
+shown-is = tt
+
+line-again-is : T (inRuns twoLoginsStart twoLogins)
+unfolding opened
+line-again-is = tt
+
+refused-again-are : T (same (refusals twoLoginsStart twoLogins) twoLoginsRefusals)
+unfolding opened
+refused-again-are = tt
+
+-- What is said of the second list's worlds is computed at once: they are the same in each test.
+abbrev again : List Bool
+again =
+    twoLoginsShown twoLoginsEnd
+    ∷ isCaughtUp beforeOne behindOne twoLoginsEnd 1 7 lastAnswer []
+    ∷ isCaughtUp beforeThree behindThree twoLoginsEnd 3 7 lastAnswer []
+    ∷ eqb (reported twoLoginsEnd 1 7) 3
+    ∷ eqb (length (publishedOn twoLoginsEnd 1 7)) 3
+    ∷ eqb (reported twoLoginsEnd 3 7) 3
+    ∷ eqb (length (publishedOn twoLoginsEnd 3 7)) 3
+    ∷ []
+
+again-is : T (holdAll again)
+unfolding opened
+again-is = tt
+
+dropped-is : T chainDropped
+unfolding opened
+dropped-is = tt
+
+pub examples : Examples
+examples =
+    let h = each again again-is in
+    record {
+      line = line-is;
+      refused = refused-are;
+      shown = shown-is;
+      line-again = line-again-is;
+      refused-again = refused-again-are;
+      shown-again = h .0;
+      one-caught-up = caught-up _ _ _ _ _ _ _ (h .1 .0);
+      three-caught-up = caught-up _ _ _ _ _ _ _ (h .1 .1 .0);
+      one-counted = (eqb→eq _ _ (h .1 .1 .1 .0), eqb→eq _ _ (h .1 .1 .1 .1 .0));
+      three-counted = (eqb→eq _ _ (h .1 .1 .1 .1 .1 .0), eqb→eq _ _ (h .1 .1 .1 .1 .1 .1 .0));
+      dropped = dropped-is;
+    }

@@ -1,0 +1,103 @@
+-- The second half of demand 3: where a login's answer and then every message sent were delivered, and none is left, the receiving end
+-- has all that was published, and so the report is the published count. The chain: the event is a login (`answer-taken`), its start is at
+-- most the receiving end's next number on that day (`login-reached`), from there start, start + 1, .. are sent (`login-sends`), the answer
+-- and these are taken event by event (`due-run`), and they reach to the last one published (`all-sent`). Assumes nothing.
+use Prim.Native.Nat.{ℕ, _+_, _≤_}
+use native.Mathlib.Omega.{arith}
+use mathlib.Core.Path.{_≡_, refl, ap, _∙_}
+use mathlib.Core.List.{List, [], _∷_, _++_}
+use mathlib.Core.Bool.{true}
+use lib.ListN.{length, length-take}
+use lib.Dec.{T}
+use Rattle.ftd.specs.Logins.{loginBytes}
+use Rattle.ftd.specs.declared.tags.TradeDate.{TradeDate}
+use Rattle.ftd.specs.declared.tags.TradeDate.the-variants.{At}
+use Rattle.ftd.proofs.TableRule.{is-true}
+use Rattle.flow.specs.Ends.{isOpen, keptOf}
+use Rattle.flow.specs.World.{Event, World, start, step, run, inRun, inRuns}
+use Rattle.flow.specs.Agreement.{publishedOn, handedOn, reported, since, CaughtUp}
+use Rattle.flow.proofs.common.Bools.{and-both}
+use Rattle.flow.proofs.logins.Taken.{answer-taken, startAt}
+use Rattle.flow.proofs.second.SentFrom.{sentIn}
+use Rattle.flow.proofs.second.SentSince.{login-sends, all-sent}
+use Rattle.flow.proofs.first.Half.{SafeWorld, start-safe, step-safe, run-safe, safe-agreed}
+use Rattle.flow.proofs.packets.Answers.{tests-content}
+use Rattle.flow.proofs.logins.Starts.{Timely, timely-step, timely-run, timely-start, login-day, login-opens, login-reached}
+use Rattle.flow.proofs.second.Sending.{sent-whole, numbered-each}
+use Rattle.flow.proofs.second.Due.{Due, waiting, due-run, room-back}
+use Rattle.flow.proofs.source.Sources.{start-source}
+
+-- ─── Lists of events in two parts ───
+
+pub run-append : (w : World) (es fs : List Event) → run w (es ++ fs) ≡ run (run w es) fs
+run-append w [] fs = refl
+run-append w (e ∷ es) fs = run-append (step w e) es fs
+
+pub line-parts : (w : World) (es fs : List Event) → inRuns w (es ++ fs) ≡ true → (inRuns w es ≡ true) × (inRuns (run w es) fs ≡ true)
+line-parts w [] fs l = (refl, l)
+line-parts w (e ∷ es) fs l =
+    let b = and-both (inRun w e) (inRuns (step w e) (es ++ fs)) l in
+    let c = line-parts (step w e) es fs (b .1) in
+    (rw (b .0, c .0), c .1)
+
+-- ─── All that was published is there ───
+
+-- The receiving end keeps the day, and last is at least the published count.
+pub record AllThere (w : World) (s d : ℕ) : Type 0 where
+  pub opens : isOpen (w .receiving .end) s ≡ true
+  pub date : keptOf (w .receiving .end) s .date ≡ At d
+  pub last : length (publishedOn w s d) ≤ keptOf (w .receiving .end) s .last
+
+pub caught-up : (u : World) (e : Event) (fs : List Event) (s d : ℕ) (a out : List ℕ) → Timely u → SafeWorld (step u e) → inRuns (step u e) fs ≡ true
+    → CaughtUp u (step u e) (run (step u e) fs) s d a out → AllThere (run (step u e) fs) s d
+caught-up u e fs s d a out h safe l c =
+    let v = step u e in
+    let w = run v fs in
+    let t = answer-taken u e s a (c .login) in
+    let served = h .source .served in
+    let answering = tests-content (u .serving .end) s (t .header) _ _ (t .content) (t .out) (t .tests) in
+    let is : a ≡ loginBytes (At d) (t .content) = t .answer ∙ ap (λ (x : TradeDate). loginBytes x (t .content)) (login-day u h e s d a t (c .day)) in
+    let opens = login-opens u h e s d a t (c .day) in
+    let g = login-sends u served e s d a t (c .day) fs (c .no-opening) (c .last) in
+    let all = all-sent u served e s d a t (c .day) fs (c .no-opening) (c .last) out (c .drained) in
+    let sent = sentIn (v .serving) (w .serving) s in
+    let n = startAt t + length sent in
+    let numbered = numbered-each s d (startAt t) sent λ j ps q. sent-whole (w .serving) s d (startAt t + j) ps (g .each j ps q) in
+    let h′ = timely-step u h e in
+    let room = room-back s d n (t .content) answering v h′ opens fs (c .room) in
+    let due : Due s d n (t .content) answering (since (v .receiving .delivered) (w .receiving .delivered)) (v .receiving .end) =
+    waiting (startAt t) sent opens (login-reached u h e s d a t (c .day)) numbered refl (rw is at (c .delivered)) in
+    let ready = due-run s d n (t .content) answering v fs h′ safe l (c .day) (c .no-opening) (c .no-restart) room due in
+    let reached = ready .reached in
+    record { opens = ready .opens; date = ready .date; last = omega arith }
+
+-- ─── The second half ───
+
+-- With the first half, the serving end's count and what was reported: n is the published count.
+settled : (w : World) (s d : ℕ) → AllThere w s d → SafeWorld w → reported w s d ≡ length (publishedOn w s d)
+settled w s d x safe =
+    let agreed = safe-agreed w s d safe in
+    let current = rw (x .opens) at (safe .right .right s d .today) in
+    let now : keptOf (w .receiving .end) s .last ≡ reported w s d = current (x .date) in
+    let m = x .last in
+    let f = agreed .exactly in
+    let g : length (handedOn w s d) ≡ _ = ap length (agreed .first) ∙ length-take (reported w s d) (publishedOn w s d) in
+    omega arith
+
+pub safe-run : (log buffer : List ℕ) (es : List Event) → T (inRuns (start log buffer) es) → SafeWorld (run (start log buffer) es)
+safe-run log buffer es l = run-safe (start log buffer) (start-source log buffer) (start-safe log buffer) es (is-true _ l)
+
+pub complete : (log buffer : List ℕ) (es fs : List Event) (e : Event) (s d : ℕ) (a out : List ℕ)
+    → let u = run (start log buffer) es in
+    let v = step u e in
+    let w = run v fs in
+    T (inRuns (start log buffer) (es ++ (e ∷ fs))) → CaughtUp u v w s d a out → reported w s d ≡ length (publishedOn w s d)
+complete log buffer es fs e s d a out l c =
+    let o = start log buffer in
+    let u = run o es in
+    let parts = line-parts o es (e ∷ fs) (is-true _ l) in
+    let b = and-both (inRun u e) (inRuns (step u e) fs) (parts .1) in
+    let h = timely-run o (timely-start log buffer) es in
+    let safe = step-safe u e (h .source .genuine) (b .0) (safe-run log buffer es (rw (parts .0) tt)) in
+    let q : run o (es ++ (e ∷ fs)) ≡ run (step u e) fs = run-append o es (e ∷ fs) in
+    settled (run (step u e) fs) s d (caught-up u e fs s d a out h safe (b .1) c) (rw q at (safe-run log buffer (es ++ (e ∷ fs)) l))

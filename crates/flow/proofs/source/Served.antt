@@ -1,0 +1,122 @@
+-- The serving end with its log and what was published: what holds after every list of events. Assumes nothing.
+use Prim.Native.Nat.{ℕ, _+_, _≤_}
+use native.Mathlib.Omega.{arith}
+use mathlib.Core.Path.{_≡_, refl, ap, _∙_, sym}
+use mathlib.Core.List.{List, []}
+use mathlib.Core.Bool.{Bool, true, false}
+use borrow.Author.Tests.{eqb-true, eqb-false}
+use lib.ListN.{length}
+use lib.Dec.{eqb}
+use Rattle.ftd.specs.declared.tags.TradeDate.{TradeDate}
+use Rattle.ftd.specs.declared.tags.TradeDate.the-variants.{None, At}
+use Rattle.flow.specs.declared.sender.Place.{Place}
+use Rattle.flow.specs.declared.sender.Sender.{Sender}
+use Rattle.flow.specs.Ends.{mostMessages, wrongSeries, upTo, freshSender, daySeries, isServed, publishedOf, placeOf, withNext}
+use Rattle.flow.specs.Answers.{Message}
+use Rattle.flow.specs.World.{Dated, SenderSide}
+use Rattle.flow.proofs.common.Days.{above-along}
+use Rattle.flow.proofs.source.Logs.{Pub, Holds}
+use Rattle.flow.proofs.source.Histories.{onDay, onDate, messagesOf, sound-kept}
+use Rattle.flow.proofs.ends.SenderLookups.{Eight, series-next, served-next, published-next, place-next, place-other, eight-next}
+use Rattle.flow.proofs.ends.SenderOpened.{openedSender, fresh-eight, opened-eight, opened-published, opened-place}
+use Rattle.flow.proofs.common.Bools.{not-both}
+
+-- Next is 1 at least, and at most the number behind the last one published.
+abbrev pub Placed : Sender → ℕ → Type 0
+Placed e s = (1 ≤ placeOf e s .next) × (placeOf e s .next ≤ publishedOf e s + 1)
+
+-- An end with its log, its day and the publications of all days.
+pub record Served (e : Sender) (log : List ℕ) (day : TradeDate) (history : List (Dated Message)) : Type 0 where
+  pub eight : Eight e
+  pub same-day : e .day .date ≡ day
+  -- Before the first opening no series is open and nothing is published.
+  pub unopened : day ≡ None → (daySeries e ≡ []) × (history ≡ [])
+  -- The day's count of an open series is right.
+  pub counted : (s : ℕ) → isServed e s ≡ true → publishedOf e s ≡ length (messagesOf s (onDate day history))
+  -- Nothing is published on a day above the present one; on no day more than may be.
+  pub not-later : (d : ℕ) → upTo d day ≡ false → onDay d history ≡ []
+  pub few : (s d : ℕ) → length (messagesOf s (onDay d history)) ≤ mostMessages
+  -- The log holds the day's publications, in order.
+  pub holds : Holds e log (onDate day history)
+  pub placed : (s : ℕ) → isServed e s ≡ true → placeOf e s .login ≡ true → Placed e s
+
+abbrev pub ServedSide : SenderSide → Type 0
+ServedSide v = Served (v .end) (v .log) (v .day) (v .published)
+
+-- ─── Fresh ───
+
+pub served-fresh : (log : List ℕ) → Served freshSender log None []
+unfolding freshSender isServed daySeries
+served-fresh log = record {
+  eight = fresh-eight;
+  same-day = refl;
+  unopened = λ q. (refl, refl);
+  counted = λ s h. absurd (not-both false h refl);
+  not-later = λ d h. refl;
+  few = λ s d. omega arith;
+  holds = record { inside = omega arith; laid-out = refl; sound = tt };
+  placed = λ s h. absurd (not-both false h refl);
+}
+
+module _ (e : Sender) (log : List ℕ) (day : TradeDate) (history : List (Dated Message)) (h : Served e log day history) where
+  -- ─── Opened ───
+
+  pub served-opened : (mark : ℕ) (ss : List ℕ) → wrongSeries ss ≡ false → upTo mark (e .day .date) ≡ false →
+      Served (openedSender mark ss) log (At mark) history
+  served-opened mark ss a b =
+      let above : upTo mark day ≡ false = rw (h .same-day) at b in
+      let empty : onDay mark history ≡ [] = h .not-later mark above in
+      record {
+        eight = opened-eight mark ss a;
+        same-day = refl;
+        unopened = λ q. absurd (none-at q);
+        counted = λ s q. opened-published mark ss s ∙ ap (λ (l : List Pub). length (messagesOf s l)) (sym empty);
+        not-later = λ d q. h .not-later d (above-along d mark day above q);
+        few = h .few;
+        holds = rw empty record { inside = omega arith; laid-out = refl; sound = tt };
+        placed = λ s q l. absurd (outside s l);
+      }
+    where
+      none-at : At mark ≡ None → ⊥
+      none-at q = let z : _≡_ {A = ℕ} 0 1 = cc in omega arith
+
+      outside : (s : ℕ) → placeOf (openedSender mark ss) s .login ≡ true → ⊥
+      outside s l = not-both (placeOf (openedSender mark ss) s .login) l (ap (λ (p : Place). p .login) (opened-place mark ss s))
+
+  -- ─── The number that is sent next ───
+
+  module _ (s next : ℕ) (open-here : isServed e s ≡ true) (low : 1 ≤ next) (high : next ≤ publishedOf e s + 1) where
+    holds-next : Holds (withNext e s next) log (onDate day history)
+    unfolding withNext
+    holds-next = record {
+      inside = h .holds .inside;
+      laid-out = h .holds .laid-out;
+      sound = sound-kept e (withNext e s next) (onDate day history) (served-next e s open-here next) (h .holds .sound);
+    }
+
+    date-next : withNext e s next .day .date ≡ e .day .date
+    unfolding withNext
+    date-next = refl
+
+    placed-next : (u : ℕ) → isServed e u ≡ true → placeOf (withNext e s next) u .login ≡ true → Placed (withNext e s next) u
+    placed-next u q l = go (eqb u s) refl
+      where
+        go : (b : Bool) → eqb u s ≡ b → Placed (withNext e s next) u
+        go true c =
+            rw (eqb-true u s c) (rw (place-next e s open-here (h .eight) next, published-next e s open-here next s) (low, high))
+        go false c =
+            let o = place-other e s open-here next u (eqb-false u s c) in
+            let m : placeOf e u .login ≡ true = ap (λ (p : Place). p .login) (sym o) ∙ l in
+            rw (o, published-next e s open-here next u) (h .placed u q m)
+
+    pub served-after : Served (withNext e s next) log day history
+    served-after = record {
+      eight = eight-next e s open-here (h .eight) next;
+      same-day = date-next ∙ h .same-day;
+      unopened = λ q. (series-next e s open-here next ∙ h .unopened q .0, h .unopened q .1);
+      counted = λ u q. published-next e s open-here next u ∙ h .counted u (sym (served-next e s open-here next u) ∙ q);
+      not-later = h .not-later;
+      few = h .few;
+      holds = holds-next;
+      placed = λ u q. placed-next u (sym (served-next e s open-here next u) ∙ q);
+    }

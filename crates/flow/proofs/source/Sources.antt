@@ -1,0 +1,43 @@
+-- The source: a serving end that is right, with all that it put on the line genuine. Every call keeps it so, of any packet and any bytes.
+-- Assumes nothing.
+use mathlib.Core.List.{List, []}
+use Prim.Native.Nat.{ℕ}
+use Rattle.ftd.specs.declared.tags.TradeDate.the-variants.{None}
+use Rattle.flow.specs.Ends.{freshSender}
+use Rattle.flow.specs.World.{Event, SenderSide, start, run}
+use Rattle.flow.proofs.common.Extends.{none-some}
+use Rattle.flow.proofs.packets.Genuine.{AllGenuine}
+use Rattle.flow.proofs.source.Moves.{Move, run-keeps}
+use Rattle.flow.proofs.source.Served.{ServedSide, served-fresh}
+use Rattle.flow.proofs.source.Kept.{move-served}
+use Rattle.flow.proofs.source.Messages.{move-genuine}
+use Rattle.flow.proofs.source.Answers.{GenuineAnswers, move-answers}
+
+pub record Source (v : SenderSide) : Type 0 where
+  pub served : ServedSide v
+  pub genuine : AllGenuine v
+  pub answers : GenuineAnswers v
+
+pub move-source : (v u : SenderSide) → Move v u → Source v → Source u
+move-source v u m z =
+    record {
+      served = move-served v u m (z .served);
+      genuine = move-genuine v u m (z .served) (z .genuine);
+      answers = move-answers v u m (z .served) (z .answers);
+    }
+
+-- A fresh end, with a log of any length and content.
+abbrev pub freshSide : List ℕ → SenderSide
+freshSide log = record { end = freshSender; log = log; day = None; openings = 0; published = []; answers = []; messages = [] }
+
+pub fresh-source : (log : List ℕ) → Source (freshSide log)
+fresh-source log = record { served = served-fresh log; genuine = λ i m q. absurd (none-some m q); answers = λ i m q. absurd (none-some m q) }
+
+-- ─── Over the world ───
+
+pub start-source : (log buffer : List ℕ) → Source (start log buffer .serving)
+unfolding start
+start-source log buffer = fresh-source log
+
+pub run-source : (log buffer : List ℕ) (es : List Event) → Source (run (start log buffer) es .serving)
+run-source log buffer es = run-keeps Source move-source (start log buffer) es (start-source log buffer)

@@ -1,0 +1,10 @@
+pub mod Ends
+pub mod Log
+pub mod Serving
+pub mod Receiving
+pub mod Answers
+pub mod Promises
+pub mod World
+pub mod Agreement
+pub mod Bench
+pub mod Examples

@@ -1,0 +1,73 @@
+-- The form of the calls' promises (01, "Contract clauses", a and b): what each call's `ensures` says, of any end and any bytes. The end
+-- afterwards, the answer, by the paper's word, number and values and as the enum, and every byte of the buffer that the call may write
+-- (`after`) are those of the call's definition.
+use Prim.Native.Nat.{ℕ}
+use mathlib.Core.Path.{_≡_}
+use mathlib.Core.List.{List}
+use Rattle.flow.specs.declared.sender.Sender.{Sender}
+use Rattle.flow.specs.declared.sender.OpenStep.{OpenStep as OpenDayStep}
+use Rattle.flow.specs.declared.sender.PublishStep.{PublishStep}
+use Rattle.flow.specs.declared.sender.LoginStep.{LoginStep}
+use Rattle.flow.specs.declared.sender.SendStep.{SendStep}
+use Rattle.flow.specs.declared.receiver.Receiver.{Receiver}
+use Rattle.flow.specs.declared.receiver.OpenStep.{OpenStep as OpenEndStep}
+use Rattle.flow.specs.declared.receiver.Requested.{Requested}
+use Rattle.flow.specs.declared.receiver.ConfirmStep.{ConfirmStep}
+use Rattle.flow.specs.declared.receiver.ReceiveStep.{ReceiveStep}
+use Rattle.flow.specs.Answers.{Said, openedSaid, publishedSaid, loginSaid, sentSaid, requestedSaid, confirmedSaid, receivedSaid}
+use Rattle.flow.specs.Serving.{openDayOf, publishOf, loginOf, sendOf}
+use Rattle.flow.specs.Receiving.{openEndOf, connectOf, requestLoginOf, confirmLoginOf, receiveOf}
+
+-- An answer is the definition's: the paper's word of it, and the enum.
+abbrev pub Answers : {A : Type 0} → (A → Said) → A → A → Type 0
+Answers said given meant = (said given ≡ said meant) × (given ≡ meant)
+
+-- ─── The serving end ───
+
+abbrev pub OpensDay : Sender → ℕ → List ℕ → OpenDayStep → Type 0
+OpensDay e mark series r =
+    let meant = openDayOf e mark series in
+    (r .end ≡ meant .end) × Answers openedSaid (r .answer) (meant .answer)
+
+abbrev pub Publishes : Sender → ℕ → ℕ → List ℕ → List ℕ → PublishStep → List ℕ → Type 0
+Publishes e series tid content log r after =
+    let meant = publishOf e series tid content log in
+    (r .end ≡ meant .end) × Answers publishedSaid (r .answer) (meant .answer) × (after ≡ meant .bytes)
+
+abbrev pub LogsIn : Sender → ℕ → List ℕ → List ℕ → List ℕ → LoginStep → List ℕ → Type 0
+LogsIn e series packet content out r after =
+    let meant = loginOf e series packet content out in
+    (r .end ≡ meant .end) × Answers loginSaid (r .answer) (meant .answer) × (after ≡ meant .bytes)
+
+abbrev pub Sends : Sender → ℕ → List ℕ → List ℕ → SendStep → List ℕ → Type 0
+Sends e series log out r after =
+    let meant = sendOf e series log out in
+    (r .end ≡ meant .end) × Answers sentSaid (r .answer) (meant .answer) × (after ≡ meant .bytes)
+
+-- ─── The receiving end ───
+
+abbrev pub OpensEnd : Receiver → List ℕ → OpenEndStep → Type 0
+OpensEnd e series r =
+    let meant = openEndOf e series in
+    (r .end ≡ meant .end) × Answers openedSaid (r .answer) (meant .answer)
+
+abbrev pub Connects : Receiver → Receiver → Type 0
+Connects e r = r ≡ connectOf e
+
+-- The end stays: it is not returned.
+abbrev pub Asks : Receiver → ℕ → List ℕ → List ℕ → Requested → List ℕ → Type 0
+Asks e series content out r after =
+    let meant = requestLoginOf e series content out in
+    Answers requestedSaid r (meant .answer) × (after ≡ meant .bytes)
+
+abbrev pub Confirms : Receiver → ℕ → List ℕ → ConfirmStep → Type 0
+Confirms e series packet r =
+    let meant = confirmLoginOf e series packet in
+    (r .end ≡ meant .end) × Answers confirmedSaid (r .answer) (meant .answer)
+
+-- What is handed on is read off the packet or off the buffer as the call left it.
+abbrev pub Receives : Receiver → List ℕ → List ℕ → ReceiveStep → List ℕ → Type 0
+Receives e packet buffer r after =
+    let meant = receiveOf e packet buffer in
+    (r .end ≡ meant .end) × (receivedSaid packet after (r .answer) ≡ receivedSaid packet (meant .bytes) (meant .answer)) × (r .answer ≡ meant .answer)
+    × (after ≡ meant .bytes)

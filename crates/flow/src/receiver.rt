@@ -1,0 +1,134 @@
+// The receiving end (01, "The receiving end"): its state by value, and what its calls answer.
+ghost use mathlib.Core.Path.{_≡_};
+ghost use Rattle.flow.specs.Ends.{freshReceiver, receiverLimits};
+use crate::limits::Limits;
+use crate::sender::Opened;
+use ftd::packet::Span;
+use ftd::refusal::Refusal;
+use ftd::tags::TradeDate;
+
+// What is kept of a series, whatever happens to the line: its trade date (01: mark), none at first, and the last number.
+pub struct KeptSeries {
+    pub series: u16,
+    pub date: TradeDate,
+    pub last: u32,
+}
+
+// The durable part: how many series are open, and what is kept of each, in the opening's order. No series: not opened yet.
+pub struct Kept {
+    pub count: usize,
+    pub series: [KeptSeries; 8],
+}
+
+// What a series has on this connection: logged in, and an open chain with its TID and how many bytes of it are held.
+pub struct LiveSeries {
+    pub login: bool,
+    pub chain: bool,
+    pub tid: u32,
+    pub held: usize,
+}
+
+pub struct Live {
+    pub series: [LiveSeries; 8],
+}
+
+// The receiving end: what it keeps, and what it has on this connection.
+pub struct Receiver {
+    pub kept: Kept,
+    pub live: Live,
+}
+
+// What Ask answers: how many bytes were written.
+pub enum Requested {
+    Wrote(usize),
+    Refused(Refusal),
+}
+
+// What Answer answers: the series' last number.
+pub enum Confirmed {
+    Last(u32),
+    Refused(Refusal),
+}
+
+// Where the content of a message lies that is handed on: in the packet, or in the reassembly buffer (01: chain buffer).
+pub enum Origin {
+    Packet,
+    Buffer,
+}
+
+// What Receive answers: nothing of a message; again; a fragment is held; handed on. Each but the first with the series' last number.
+pub enum Received {
+    Idle,
+    Duplicate(u32),
+    Partial(u32),
+    Complete {
+        last: u32,
+        tid: u32,
+        origin: Origin,
+        content: Span,
+    },
+    Refused(Refusal),
+}
+
+// What a call leaves: the end, and its answer. Ask leaves the end as it is, and Connect answers nothing.
+pub struct OpenStep {
+    pub end: Receiver,
+    pub answer: Opened,
+}
+
+pub struct ConfirmStep {
+    pub end: Receiver,
+    pub answer: Confirmed,
+}
+
+pub struct ReceiveStep {
+    pub end: Receiver,
+    pub answer: Received,
+}
+
+impl Receiver {
+    // At most so many series are open.
+    pub const MOST_SERIES: usize = 8;
+    // No number is above it.
+    pub const MOST_MESSAGES: u32 = 1000000;
+    // The reassembly buffer has so many bytes for each series: a message's content.
+    pub const PART: usize = 32768;
+    // At most so many bytes of the request's content: with the start field behind it, one packet holds it.
+    pub const REQUEST_CONTENT: usize = 4068;
+
+    // The limits, as a promise.
+    pub fn limits() -> Limits
+        ensures { λ r. ⌜ r ≡ receiverLimits ⌝ }
+    {
+        Limits {
+            series: Receiver::MOST_SERIES,
+            messages: Receiver::MOST_MESSAGES,
+            content: Receiver::PART,
+            login: Receiver::REQUEST_CONTENT,
+        }
+    }
+
+    // It holds no series.
+    pub fn fresh() -> Receiver
+        ensures { λ r. ⌜ r ≡ freshReceiver ⌝ }
+    {
+        Receiver {
+            kept: Kept {
+                count: 0,
+                series: [KeptSeries {
+                    series: 0,
+                    date: TradeDate::None,
+                    last: 0,
+                }; 8],
+            },
+            live: Live {
+                series: [LiveSeries {
+                    login: false,
+                    chain: false,
+                    tid: 0,
+                    held: 0,
+                }; 8],
+            },
+        }
+    }
+}
