@@ -1,6 +1,7 @@
 #!/usr/bin/env bash
-# The outside tests: builds the static library, the lister and the Rust side, compares the proved library with the independent reader
-# on generated inputs and captures, shows that deliberate faults are found, and times both sides. Any failure makes it fail.
+# The outside tests: checks the names that the texts cite (tests/names.py), builds the static library, the lister and the Rust side,
+# compares the proved library with the independent reader on generated inputs and captures, shows that deliberate faults are found,
+# and times both sides. Any failure makes it fail.
 #   tests/run.sh           all of it, some minutes on top of the proofs
 #   tests/run.sh --quick   the comparison alone, on a million inputs: a minute or so where the crates are proved already
 # Needs the Rattle kit (rt) and cargo; no network. The benchmark says nothing where the machine is busy.
@@ -14,6 +15,11 @@ if ! command -v cargo >/dev/null 2>&1; then
     echo "outside tests: there is no command cargo"
     exit 1
 fi
+# The names that the guide and the decisions cite exist.
+if command -v python3 >/dev/null 2>&1; then
+    python3 tests/names.py
+fi
+
 rt check ftdlist | tail -1
 rt staticlib exports | tail -1
 

@@ -1,4 +1,4 @@
-// FTD packets (JR/T 0016-2004, 4.1 and 4.2) and typed items (Appendices A to D): read from any bytes, with nothing trusted.
+// FTD packets (JR/T 0016-2004, 4.1 and 4.2) and typed items (Appendices A to E): read from any bytes, with nothing trusted.
 pub mod bytes; // numbers in bytes
 pub mod refusal; // the refusal table
 pub mod tags; // the run of tags in a packet's extension
