@@ -119,7 +119,8 @@ module _ (kind : ℕ) (extension body : List ℕ) where
       by-test P (isPlain kind (length body)) (λ b.
       by-test P (isSkipped kind (length body) || goodTags extension)
       (λ c e. whole-read kind extension body (ltb-false 127 (length extension) a) (plain-facts kind (length body) b .0) _ (skipped-or b _ refl c))
-      (λ c e. clash e)) (λ b e. clash′ e))
+      (λ c e. clash e)) (λ b.
+      by-test P (wrongBody kind (length body)) (λ c e. clash e) (λ c e. clash′ e)))
     where
       P : Verdict → Type 0
       P v = v ≡ fine → readOf (packetBytes kind extension body) ≡ plainOf kind (length extension) (length body)
@@ -137,7 +138,8 @@ module _ (kind : ℕ) (extension body : List ℕ) where
       by-test P (isPlain kind (length body)) (λ b.
       by-test P (isSkipped kind (length body) || goodTags extension) (λ c e. clash e)
       (λ c e. whole-read kind extension body (ltb-false 127 (length extension) a) (plain-facts kind (length body) b .0) _ (broken _ refl c) ∙ same e))
-      (λ b e. clash′ e))
+      (λ b.
+      by-test P (wrongBody kind (length body)) (λ c e. body-read kind extension body (ltb-false 127 (length extension) a) c ∙ same e) (λ c e. clash′ e)))
     where
       P : Verdict → Type 0
       P v = v ≡ refuse r → readOf (packetBytes kind extension body) ≡ Refused r

@@ -7,7 +7,7 @@ use lib.Dec.{ltb, eqb}
 use Rattle.ftd.specs.Bytes.{bytes16, bytes32}
 use Rattle.ftd.specs.Tags.{goodTags}
 use Rattle.ftd.specs.Fields.{exactRun}
-use Rattle.ftd.specs.Packets.{isSkipped, chainLetter}
+use Rattle.ftd.specs.Packets.{wrongBody, isSkipped, chainLetter}
 use Rattle.ftd.specs.declared.refusal.Refusal.{Refusal}
 use Rattle.ftd.specs.declared.refusal.Refusal.the-variants.{LongExtension, BrokenTag, BodyLength, FieldRun, TooSmall}
 use Rattle.ftd.specs.declared.packet.Header.{Header}
@@ -40,7 +40,8 @@ pub data Verdict : Type 0 where
   refuse : Refusal → Verdict
   other : Written → Verdict
 
--- Link and skipped packets: a body of type 0x01 makes a message packet, and one above 65,535 has no length of two bytes.
+-- Link and skipped packets. A body of type 0x01 makes none of both: it is 3, or with 16 to 4,096 bytes a message packet, which is written
+-- otherwise; and a body above 65,535 has no length of two bytes.
 unfoldable pub isPlain : ℕ → ℕ → Bool
 isPlain kind body = not (ltb 65535 body) && (not (eqb kind 1) || eqb body 0)
 
@@ -49,7 +50,8 @@ plainVerdict kind extension body =
     cond (ltb 127 (length extension)) (refuse LongExtension)
     (cond (isPlain kind (length body))
     (cond (isSkipped kind (length body) || goodTags extension) fine (refuse BrokenTag))
-    (other NotPlain))
+    (cond (wrongBody kind (length body)) (refuse BodyLength)
+    (other NotPlain)))
 
 unfoldable pub messageVerdict : Header → List ℕ → List ℕ → Verdict
 messageVerdict h extension content =

@@ -122,7 +122,7 @@ pub fn no_message_packet(p: &[u8]) -> bool
 }
 
 // Refusal 3: type 0x01 with a body of 1 to 15 or above 4,096.
-fn wrong_body(kind: u8, body: usize) -> bool
+pub(crate) fn wrong_body(kind: u8, body: usize) -> bool
     ensures { λ r. ⌜ r ≡ wrongBody kind body ⌝ }
 {
     if kind != 1 {

@@ -15,6 +15,7 @@ use crate::bytes::put32;
 use crate::fields::exact_run;
 use crate::packet::Header;
 use crate::packet::is_skipped;
+use crate::packet::wrong_body;
 use crate::packet::letter;
 use crate::refusal::Refusal;
 use crate::tags::good_tags;
@@ -106,6 +107,9 @@ pub fn write_plain(kind: u8, extension: &[u8], body: &[u8], out: &mut [u8]) -> W
             return Written::Bytes(n);
         }
         return Written::Refused(Refusal::BrokenTag);
+    }
+    if wrong_body(kind, body.len()) {
+        return Written::Refused(Refusal::BodyLength);
     }
     Written::NotPlain
 }

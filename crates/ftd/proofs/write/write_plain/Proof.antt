@@ -56,10 +56,22 @@ returns-4 c =
     by-refusal _ _ _ _
     (rw (le-ltb _ _ (t .before .before .if1 .left), ← (t .before .is-plain .ensures), t .if2 .taken, ← (c .before .plain-tags .ensures), c .if3 .left))
 
+wrong-body-requires : tie.Need-wrong-body-requires
+wrong-body-requires c κs = search needs
+
 returns-5 : tie.Need-returns-5
 unfolding plainVerdict
 returns-5 c =
-    by-other _ _ _ _ (rw (le-ltb _ _ (c .before .before .if1 .left), ← (c .before .is-plain .ensures), c .if2 .left))
+    let t = c .before .before in
+    by-refusal _ _ _ _
+    (rw (le-ltb _ _ (t .before .before .if1 .left), ← (t .before .is-plain .ensures), t .if2 .left, ← (c .before .wrong-body .ensures), c .if5 .taken))
+
+returns-6 : tie.Need-returns-6
+unfolding plainVerdict
+returns-6 c =
+    let t = c .before .before in
+    by-other _ _ _ _
+    (rw (le-ltb _ _ (t .before .before .if1 .left), ← (t .before .is-plain .ensures), t .if2 .left, ← (c .before .wrong-body .ensures), c .if5 .left))
 
 pub write-plain-spec : {M : Type 1} → statement M
 write-plain-spec =
@@ -75,4 +87,6 @@ write-plain-spec =
     same-length
     returns-3
     returns-4
-    returns-5)
+    wrong-body-requires
+    returns-5
+    returns-6)
