@@ -15,8 +15,8 @@ use crate::bytes::put32;
 use crate::fields::exact_run;
 use crate::packet::Header;
 use crate::packet::is_skipped;
-use crate::packet::wrong_body;
 use crate::packet::letter;
+use crate::packet::wrong_body;
 use crate::refusal::Refusal;
 use crate::tags::good_tags;
 
