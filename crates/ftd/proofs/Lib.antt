@@ -42,5 +42,6 @@ pub mod Dated
 pub mod DateTrips
 pub mod ValueLaws
 pub mod Signs
+pub mod ItemValues
 pub mod Opened
 pub mod Bench

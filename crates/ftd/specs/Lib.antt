@@ -28,4 +28,5 @@ pub mod Texts
 pub mod Wholes
 pub mod Dates
 pub mod Plains
+pub mod ItemValues
 pub mod Bench
