@@ -2,12 +2,13 @@
 use Prim.Native.Nat.{ℕ, zero, suc, _+_, _-_, _<_, _≤_}
 use mathlib.Core.Path.{_≡_, refl, sym, ap, _∙_}
 use mathlib.Core.List.{List, [], _∷_, _++_}
-use mathlib.Core.Bool.{Bool, true, false, cond, _&&_}
+use mathlib.Core.Bool.{Bool, true, false, cond, _&&_, _||_}
+use mathlib.Core.Logic.{_↔_, _⊎_, inl, inr}
 use native.Mathlib.Omega.{arith}
-use borrow.Author.Tests.{ltb-true, ltb-false, eqb-true, eqb-false, not-true, not-false}
+use borrow.Author.Tests.{lt-ltb, le-ltb, eq-eqb, ne-eqb, ltb-true, ltb-false, eqb-true, eqb-false, not-true, not-false}
 use lib.ListN.{length, getD, take, drop, length-append, length-take}
 use lib.Seq.{drop-drop}
-use lib.Dec.{eqb}
+use lib.Dec.{ltb, eqb}
 use Rattle.ftd.specs.Bytes.{be16Of, be32Of, part, joined, Bytes}
 use Rattle.ftd.specs.Runs.{runOf, ended}
 use Rattle.ftd.specs.Tags.{goodTags}
@@ -15,7 +16,7 @@ use Rattle.ftd.specs.Fields.{field, fieldsOf, fidOf, bytesOf, exactRun, 
 use Rattle.ftd.specs.declared.fields.FieldPlace.{FieldPlace}
 use Rattle.ftd.specs.declared.fields.FieldPlace.the-variants.{NoField, Field}
 use Rattle.ftd.specs.Packets.{Said, kindOf, extensionLength, bodyLength, saidLength, extensionOf, versionOf, tidOf, letterOf, seriesOf, messageNumberOf, fieldCountOf, contentLengthOf, contentOf, headMissing, restMissing, longExtension, wrongBody, isSkipped, brokenTag, isLink, wrongVersion, isLetter, wrongLetter, wrongContentLength, wrongFields, chainOf, span, bodyStart, extensionSpan, contentSpan, headerOf, acceptedOf, messageOf, wholeOf, readOf, isShort, fieldsWithin, messageFields, movedBy, FitsIn, fieldWithin, fieldOf, partAt, fieldBytes}
-use Rattle.ftd.specs.Laws.{Inside, InWidth, ReadLaws}
+use Rattle.ftd.specs.Laws.{IsMessage, IsLink, IsSkipped, Inside, InWidth, ReadLaws}
 use Rattle.ftd.specs.declared.refusal.Refusal.{Refusal}
 use Rattle.ftd.specs.declared.refusal.Refusal.the-variants.{LongExtension, BrokenTag, BodyLength, Version, ChainLetter, ContentLength, FieldRun}
 use Rattle.ftd.specs.declared.packet.Header.{Header}
@@ -24,6 +25,7 @@ use Rattle.ftd.specs.declared.packet.Packet.{Packet}
 use Rattle.ftd.specs.declared.packet.Packet.the-variants.{Short, Link, Skipped, Message, Refused}
 use Rattle.ftd.proofs.Lists.{byte-append, be16-append, be32-append, part-append, be16-width, be32-width, part-part, drop-part, joined-part, joined-inside}
 use Rattle.ftd.proofs.Runs.{run-whole}
+use Rattle.ftd.proofs.Turns.{and-false}
 use Rattle.ftd.proofs.Decided.{header-made, version-wrong, letter-wrong, length-wrong, fields-wrong, message-good, whole-skipped, whole-broken, whole-link, whole-message, body-bounds, body-least, read-long, read-body, read-there}
 
 -- A test decides between two answers: both cases are shown.
@@ -150,6 +152,143 @@ passed p kind x y =
     read-cases p (λ z. z ≡ Skipped kind x y → Passed p kind x y) (λ e. absurd (omega (arith, ap which e))) (λ r e. absurd (omega (arith, ap which e)))
     (λ w s e. record { whole = w; skipped = s; type = cc; extent = cc; body = cc })
     (λ w s g z e. absurd (omega (arith, ap which e))) (λ w r e. absurd (omega (arith, ap which e)))
+
+-- ─── Each kind exactly where the bytes are one ───
+
+-- What is there whole is what the rest says.
+there-read : (p : List ℕ) → There p → readOf p ≡ wholeOf p
+unfolding readOf restMissing
+there-read p w = rw (le-ltb (length p) 4 (w .four), le-ltb 127 (extensionLength p) (w .extension), w .right, le-ltb (length p) (saidLength p) (w .there))
+
+-- Type and body alone, kind by kind.
+message-body : (kind body : ℕ) → kind ≡ 1 → 16 ≤ body → body ≤ 4096 → (wrongBody kind body ≡ false) × (isSkipped kind body ≡ false)
+unfolding wrongBody isSkipped
+message-body kind body k l m =
+    (rw (eq-eqb kind 1 k, ne-eqb body 0 (λ z. omega arith), le-ltb body 16 l, le-ltb 4096 body m), rw (le-ltb 1 kind (omega arith), ne-eqb kind 0 (λ z. omega arith)))
+
+link-body : (kind body : ℕ) → kind ≤ 1 → body ≡ 0 → (wrongBody kind body ≡ false) × (isSkipped kind body ≡ false)
+unfolding wrongBody isSkipped
+link-body kind body k z =
+    (rw (eq-eqb body 0 z) (and-false (eqb kind 1)), rw (le-ltb 1 kind k, le-ltb 0 body (omega arith)) (and-false (eqb kind 0)))
+
+skipped-body : (kind body : ℕ) → ((kind ≡ 0) × (0 < body)) ⊎ (2 ≤ kind) → (wrongBody kind body ≡ false) × (isSkipped kind body ≡ true)
+unfolding wrongBody isSkipped
+skipped-body kind body (inl h) =
+    let k = h .0 in
+    (rw (ne-eqb kind 1 (λ z. omega arith)), rw (le-ltb 1 kind (omega arith), eq-eqb kind 0 k, lt-ltb 0 body (h .1)))
+skipped-body kind body (inr h) = (rw (ne-eqb kind 1 (λ z. omega arith)), rw (lt-ltb 1 kind (omega arith)))
+
+clash : {A : Type 0} → true ≡ false → A
+clash x = let y : _≡_ {A = ℕ} 0 1 = cc in absurd (omega arith)
+
+plain-kind : (kind body : ℕ) → isSkipped kind body ≡ false → kind ≤ 1
+unfolding isSkipped
+plain-kind kind body = go (ltb 1 kind) refl
+  where
+    go : (a : Bool) → ltb 1 kind ≡ a → (a || (eqb kind 0 && ltb 0 body)) ≡ false → kind ≤ 1
+    go true e s = clash s
+    go false e s = ltb-false 1 kind e
+
+skipped-kind : (kind body : ℕ) → isSkipped kind body ≡ true → ((kind ≡ 0) × (0 < body)) ⊎ (2 ≤ kind)
+unfolding isSkipped
+skipped-kind kind body = go (ltb 1 kind) refl (eqb kind 0) refl
+  where
+    go : (a : Bool) → ltb 1 kind ≡ a → (b : Bool) → eqb kind 0 ≡ b → (a || (b && ltb 0 body)) ≡ true → ((kind ≡ 0) × (0 < body)) ⊎ (2 ≤ kind)
+    go true e b f s = inr (ltb-true 1 kind e)
+    go false e true f s = inl (eqb-true kind 0 f, ltb-true 0 body s)
+    go false e false f s = clash (sym s)
+
+message-read : (p : List ℕ) → IsMessage p → readOf p ≡ acceptedOf p
+unfolding wholeOf messageOf
+message-read p m =
+    let b = message-body (kindOf p) (bodyLength p) (m .type) (m .least) (m .most) in
+    let some : bodyLength p ≡ 0 → ⊥ = λ z. omega (arith, m .least) in
+    there-read p (record { four = m .four; extension = m .extension; right = b .0; there = m .there })
+    ∙ rw (
+      b .1,
+      m .tags,
+      ne-eqb (bodyLength p) 0 some,
+      eq-eqb (versionOf p) 1 (m .version),
+      m .letter,
+      eq-eqb (contentLengthOf p + 16) (bodyLength p) (m .size),
+      m .fields,
+    )
+
+link-read : (p : List ℕ) → IsLink p → readOf p ≡ Link (kindOf p) (extensionSpan p)
+unfolding wholeOf
+link-read p m =
+    let b = link-body (kindOf p) (bodyLength p) (m .type) (m .empty) in
+    there-read p (record { four = m .four; extension = m .extension; right = b .0; there = m .there })
+    ∙ rw (b .1, m .tags, eq-eqb (bodyLength p) 0 (m .empty))
+
+skipped-read : (p : List ℕ) → IsSkipped p → readOf p ≡ Skipped (kindOf p) (extensionSpan p) (span (bodyStart p) (bodyLength p))
+unfolding wholeOf
+skipped-read p m =
+    let b = skipped-body (kindOf p) (bodyLength p) (m .type) in
+    there-read p (record { four = m .four; extension = m .extension; right = b .0; there = m .there }) ∙ rw (b .1)
+
+module _ (p : List ℕ) where
+  pub message : (readOf p ≡ acceptedOf p) ↔ IsMessage p
+  unfolding acceptedOf
+  message = (λ e. go (accepted p (headerOf p) (extensionSpan p) (contentSpan p) e), message-read p)
+    where
+      go : Accepted p (headerOf p) (extensionSpan p) (contentSpan p) → IsMessage p
+      go a =
+          let w = a .whole in
+          let r = a .right in
+          record {
+            four = w .four;
+            type = r .kind;
+            extension = w .extension;
+            least = r .least;
+            most = r .most;
+            there = w .there;
+            tags = r .tags;
+            version = r .version;
+            letter = r .letter;
+            size = r .size;
+            fields = r .fields;
+          }
+
+  pub message-only : (h : Header) (x y : Span) → readOf p ≡ Message h x y → Message h x y ≡ acceptedOf p
+  unfolding acceptedOf
+  message-only h x y e =
+      let a = accepted p h x y e in
+      rw (a .header, a .extent, a .content)
+
+  pub link : (readOf p ≡ Link (kindOf p) (extensionSpan p)) ↔ IsLink p
+  link = (λ e. go (linked p (kindOf p) (extensionSpan p) e), link-read p)
+    where
+      go : Linked p (kindOf p) (extensionSpan p) → IsLink p
+      go a =
+          let w = a .whole in
+          record {
+            four = w .four;
+            type = plain-kind (kindOf p) (bodyLength p) (a .plain);
+            extension = w .extension;
+            empty = a .body;
+            there = w .there;
+            tags = a .tags;
+          }
+
+  pub link-only : (kind : ℕ) (x : Span) → readOf p ≡ Link kind x → Link kind x ≡ Link (kindOf p) (extensionSpan p)
+  link-only kind x e =
+      let a = linked p kind x e in
+      rw (a .type, a .extent)
+
+  pub skipped : (readOf p ≡ Skipped (kindOf p) (extensionSpan p) (span (bodyStart p) (bodyLength p))) ↔ IsSkipped p
+  skipped = (λ e. go (passed p (kindOf p) (extensionSpan p) (span (bodyStart p) (bodyLength p)) e), skipped-read p)
+    where
+      go : Passed p (kindOf p) (extensionSpan p) (span (bodyStart p) (bodyLength p)) → IsSkipped p
+      go a =
+          let w = a .whole in
+          record { four = w .four; type = skipped-kind (kindOf p) (bodyLength p) (a .skipped); extension = w .extension; there = w .there }
+
+  pub skipped-only : (kind : ℕ) (x y : Span) → readOf p ≡ Skipped kind x y
+      → Skipped kind x y ≡ Skipped (kindOf p) (extensionSpan p) (span (bodyStart p) (bodyLength p))
+  skipped-only kind x y e =
+      let a = passed p kind x y e in
+      rw (a .type, a .extent, a .body)
 
 -- ─── Bytes behind a packet are not looked at ───
 
@@ -400,4 +539,19 @@ module _ (p : List ℕ) (y : Span) (g : FieldPlace) where
 -- ─── All of it ───
 
 pub read-laws : ReadLaws
-read-laws = record { stays = stays; inside = inside; widths = widths; whole = whole; count = count; some = some; none = none }
+read-laws =
+    record {
+      message = message;
+      message-only = message-only;
+      link = link;
+      link-only = link-only;
+      skipped = skipped;
+      skipped-only = skipped-only;
+      stays = stays;
+      inside = inside;
+      widths = widths;
+      whole = whole;
+      count = count;
+      some = some;
+      none = none;
+    }
