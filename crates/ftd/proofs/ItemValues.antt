@@ -7,27 +7,31 @@ use mathlib.Core.List.{List, [], _∷_}
 use mathlib.Core.Bool.{Bool, true, false, cond, _&&_, false≢true}
 use native.Mathlib.Omega.{arith}
 use borrow.Author.Tests.{lt-ltb, le-ltb, ltb-true, le-leb, leb-true, eq-eqb, ne-eqb, eqb-true, eqb-false}
-use lib.ListN.{length, getD}
+use lib.ListN.{length, getD, take, drop, length-take}
+use lib.Seq.{getD-take, getD-drop, take-take}
 use lib.Dec.{leb, ltb, eqb}
-use Rattle.ftd.specs.Bytes.{Bytes, bytes16, bytes32}
-use Rattle.ftd.specs.Table.{Row, row, table}
-use Rattle.ftd.specs.TableRule.{rowAt, rightForm}
+use Rattle.ftd.specs.Bytes.{part, Bytes, bytes16, bytes32}
+use Rattle.ftd.specs.Table.{Row, row, table, rowsOf}
+use Rattle.ftd.specs.TableRule.{placeOf, rowAt, rightForm}
 use Rattle.ftd.specs.Values.{every, isText, isListed, isNumber, isFloat, isSpace, isDate, isValue}
 use Rattle.ftd.specs.Wholes.{charFits, charValue, wordValue, intValue}
 use Rattle.ftd.specs.Signed.{signedOf, numberValue, floatValue}
-use Rattle.ftd.specs.Texts.{textValue, textBytes, textFits}
+use Rattle.ftd.specs.Texts.{trimmed, textValue, textBytes, textFits}
 use Rattle.ftd.specs.Dates.{dateValue, dateBytes, dateFits}
 use Rattle.ftd.specs.WriteValues.{numberBytes, numberFits, floatBytes, floatFits}
-use Rattle.ftd.specs.ItemValues.{ItemValue, char, word, int, text, number, float, date, wholeAs, signedAs, dateAs, textAs, typedValue, valueOf, bytesOf, fits, RowLaws, ItemLaws}
+use Rattle.ftd.specs.ItemValues.{ItemValue, char, word, int, text, number, float, date, wholeAs, signedAs, dateAs, textAs, typedValue, valueOf, bytesOf, fits, givenAt, itemValueOf, RowLaws, ItemLaws}
+use Rattle.ftd.specs.Places.{itemIn, itemOf}
+use Rattle.ftd.specs.declared.places.ItemPlace.the-variants.{Item as Place}
+use Rattle.ftd.specs.declared.item.FieldItem.the-variants.{NoItem, Text}
 use Rattle.ftd.specs.declared.whole.Whole.{Whole}
 use Rattle.ftd.specs.declared.whole.Whole.the-variants.{NoValue, Value}
 use Rattle.ftd.specs.declared.signed.Signed.{Signed}
 use Rattle.ftd.specs.declared.signed.Signed.the-variants.{NoValue as NoSigned, Value as SignedValue}
 use Rattle.ftd.specs.declared.dates.Date.{Date}
 use Rattle.ftd.specs.declared.dates.Date.the-variants.{NoDate, Unused, Day}
-use Rattle.ftd.proofs.TableRule.{row-count, table-rule}
+use Rattle.ftd.proofs.TableRule.{row-count, table-rule, rows-length}
 use Rattle.ftd.proofs.Stored.{fits-some, number-length, float-fits, float-length}
-use Rattle.ftd.proofs.Trimmed.{text-parts, text-length}
+use Rattle.ftd.proofs.Trimmed.{trim-part, text-parts, text-length}
 use Rattle.ftd.proofs.Dated.{date-wide}
 use Rattle.ftd.proofs.ValueLaws.{value-laws}
 
@@ -236,7 +240,7 @@ module _ (f w s : ℕ) where
       let p = value-laws .charAgain k l (t .0) (t .1) in
       let q : getD l 0 0 ≡ t .0 = ap (λ (m : List ℕ). getD m 0 0) (sym (p .1)) in
       let small : t .0 < 256 = rw q at (b 0) in
-      rw (t .2) (rw (p .0, lt-ltb (t .0) 256 small), p .1)
+      rw (t .2) (rw (lt-ltb (t .0) 256 small) (p .0), p .1)
 
 -- ─── A value that fits is read back ───
 
@@ -245,9 +249,9 @@ module _ (f k w s : ℕ) (form : rightForm (row f k w s) ≡ true) where
       → (length (bytesOf (row f k w s) v) ≡ w) × (typedValue k s (bytesOf (row f k w s) v) ≡ some v)
   unfolding typedValue fits bytesOf
   back (char b) e =
-      let t = two (charFits k b) (ltb b 256) e in
-      let c = is-char f k w s form b (t .0) in
-      (sym (c .one), c .read (b ∷ []) ∙ ap (wholeAs char) (value-laws .charBack k b (t .0)))
+      let t = two (ltb b 256) (charFits k b) e in
+      let c = is-char f k w s form b (t .1) in
+      (sym (c .one), c .read (b ∷ []) ∙ ap (wholeAs char) (value-laws .charBack k b (t .1)))
   back (word x) e =
       let q : k ≡ 1 = eqb-true k 1 (two (eqb k 1) (ltb x 65536) e .0) in
       let h : (eqb w 2 && eqb s 0) ≡ true = rw q at form in
@@ -279,7 +283,7 @@ module _ (f k w s : ℕ) (form : rightForm (row f k w s) ≡ true) where
 
 -- At bytes of the row's width, its value is that of its type.
 module _ (r : Row) (l : List ℕ) where
-  wide-value : length l ≡ r .width → valueOf r l ≡ typedValue (r .kind) (r .scale) l
+  pub wide-value : length l ≡ r .width → valueOf r l ≡ typedValue (r .kind) (r .scale) l
   unfolding valueOf
   wide-value n = rw (eq-eqb (length l) (r .width) n)
 
@@ -321,5 +325,106 @@ row-laws f (suc (suc (suc (suc (suc zero))))) w s h =
 row-laws f (suc (suc (suc (suc (suc (suc zero)))))) w s h = typed-laws f 6 w s h (date-shows s w) (date-again f w s)
 row-laws f (suc (suc (suc (suc (suc (suc (suc k))))))) w s h = char-laws f _ w s h (listed-row f w s _ (omega arith) h)
 
+-- ─── The items of a field ───
+
+-- The row of an item is one of the field's.
+row-found : (l : List Row) (at i kind scale start width : ℕ) → itemIn at l i ≡ Place kind scale start width
+    → (i < length l) × (kind ≡ getD l i (row 0 0 0 0) .kind) × (scale ≡ getD l i (row 0 0 0 0) .scale) × (width ≡ getD l i (row 0 0 0 0) .width)
+row-found [] at i kind scale start width e = let z : _≡_ {A = ℕ} 0 1 = cc in absurd (omega arith)
+row-found (r ∷ rs) at zero kind scale start width e = (omega arith, cc, cc, cc)
+row-found (r ∷ rs) at (suc i) kind scale start width e =
+    let t = row-found rs (at + r .width) i kind scale start width e in
+    (omega arith, t .1, t .2, t .3)
+
+module _ (fid i kind scale start width : ℕ) (e : itemOf fid i ≡ Place kind scale start width) where
+  found-form : rightForm (row fid kind width scale) ≡ true
+  unfolding itemOf
+  found-form =
+      let t = row-found (rowsOf fid) 0 i kind scale start width e in
+      let p = placeOf fid in
+      let low : i < p .count = rw (rows-length fid) at (t .0) in
+      let inside : p .start + p .count ≤ 379 = table-rule .field fid .inside in
+      let q : getD (rowsOf fid) i (row 0 0 0 0) ≡ rowAt (p .start + i) =
+      rw (table-rule .field fid .rows, getD-take (p .count) (drop (p .start) table) i (row 0 0 0 0) low, getD-drop) in
+      let form : rightForm (rowAt (p .start + i)) ≡ true = table-rule .each (p .start + i) (omega arith) .form in
+      rw (t .1, t .2, t .3, q) form
+
+  found-laws : RowLaws (row fid kind width scale)
+  found-laws = row-laws fid kind width scale found-form
+
+-- A text that is given stands where its item starts.
+given-text : (start : ℕ) (o : Option ItemValue) (at len : ℕ) → givenAt start o ≡ Text at len
+    → (t : List ℕ) × (o ≡ some (text t)) × (start ≡ at) × (length t ≡ len)
+given-text start none at len e = let z : _≡_ {A = ℕ} 0 1 = cc in absurd (omega arith)
+given-text start (some (char b)) at len e = let z : _≡_ {A = ℕ} 0 1 = cc in absurd (omega arith)
+given-text start (some (word x)) at len e = let z : _≡_ {A = ℕ} 0 1 = cc in absurd (omega arith)
+given-text start (some (int x)) at len e = let z : _≡_ {A = ℕ} 0 1 = cc in absurd (omega arith)
+given-text start (some (text t)) at len e = (t, refl, cc, cc)
+given-text start (some (number n x)) at len e = let z : _≡_ {A = ℕ} 0 1 = cc in absurd (omega arith)
+given-text start (some (float n x)) at len e = let z : _≡_ {A = ℕ} 0 1 = cc in absurd (omega arith)
+given-text start (some (date d)) at len e = let z : _≡_ {A = ℕ} 0 1 = cc in absurd (omega arith)
+
+-- A text comes from a String alone, and is its value.
+typed-text : (kind scale : ℕ) (l t : List ℕ) → typedValue kind scale l ≡ some (text t) → textValue l ≡ t
+unfolding typedValue
+typed-text kind scale l t e = go (eqb kind 1) (eqb kind 2) (eqb kind 3) (every isText l) (eqb kind 4) (eqb kind 5) (eqb kind 6) e
+  where
+    whole : (make : ℕ → ItemValue) → ((x : ℕ) → make x ≡ text t → ⊥) → (o : Whole) → wholeAs make o ≡ some (text t) → ⊥
+    whole make n o e = let s = whole-some make o (text t) e in n (s .0) (sym (s .2))
+
+    signed : (make : Bool → ℕ → ItemValue) → ((b : Bool) (x : ℕ) → make b x ≡ text t → ⊥) → (o : Signed) → signedAs make o ≡ some (text t) → ⊥
+    signed make n o e = let s = signed-some make o (text t) e in n (s .0) (s .1) (sym (s .3))
+
+    go : (a b c x d f g : Bool)
+        → cond a (wholeAs word (wordValue l)) (cond b (wholeAs int (intValue l)) (cond c (cond x (some (text (textValue l))) none)
+        (cond d (signedAs number (numberValue l)) (cond f (signedAs float (floatValue scale l)) (cond g (dateAs (dateValue l)) (wholeAs char (charValue kind l)))))))
+        ≡ some (text t) → textValue l ≡ t
+    go true b c x d f g e = absurd (whole word (λ y q. let z : _≡_ {A = ℕ} 0 1 = cc in omega arith) (wordValue l) e)
+    go false true c x d f g e = absurd (whole int (λ y q. let z : _≡_ {A = ℕ} 0 1 = cc in omega arith) (intValue l) e)
+    go false false true true d f g e = cc
+    go false false true false d f g e = let z : _≡_ {A = ℕ} 0 1 = cc in absurd (omega arith)
+    go false false false x true f g e = absurd (signed number (λ n y q. let z : _≡_ {A = ℕ} 0 1 = cc in omega arith) (numberValue l) e)
+    go false false false x false true g e = absurd (signed float (λ n y q. let z : _≡_ {A = ℕ} 0 1 = cc in omega arith) (floatValue scale l) e)
+    go false false false x false false true e =
+        let s = date-some (dateValue l) (text t) e in
+        let z : _≡_ {A = ℕ} 0 1 = cc (s .1) in
+        absurd (omega arith)
+    go false false false x false false false e = absurd (whole char (λ y q. let z : _≡_ {A = ℕ} 0 1 = cc in omega arith) (charValue kind l) e)
+
+-- It stands at the front of its item.
+text-front : (r : Row) (l t : List ℕ) → valueOf r l ≡ some (text t) → take (length t) l ≡ t
+unfolding textValue
+text-front r l t e =
+    let n : length l ≡ r .width = value-wide r l (text t) e in
+    let q : trimmed l ≡ t = typed-text (r .kind) (r .scale) l t (sym (wide-value r l n) ∙ e) in
+    trim-part l (length t) (ap length (sym q)) ∙ q
+
+front-part : (bytes : List ℕ) (start width at len : ℕ) (t : List ℕ) → start ≡ at → length t ≡ len → take (length t) (part bytes start width) ≡ t
+    → t ≡ part bytes at len
+front-part bytes start width at len t s n f =
+    let m : length (part bytes start width) ≤ width = rw length-take (omega arith) in
+    let k : length t ≤ width = omega (arith, rw length-take at (ap length f)) in
+    rw (← s, ← n, ← (take-take (length t) width (drop start bytes) k)) (sym f)
+
+text-place : (fid i kind scale start width : ℕ) → itemOf fid i ≡ Place kind scale start width
+    → (bytes : List ℕ) (at len : ℕ) → itemValueOf fid i bytes ≡ Text at len
+    → valueOf (row fid kind width scale) (part bytes start width) ≡ some (text (part bytes at len))
+unfolding itemValueOf
+text-place fid i kind scale start width e bytes at len h = go (leb (start + width) (length bytes)) (rw e at h)
+  where
+    go : (b : Bool) → cond b (givenAt start (valueOf (row fid kind width scale) (part bytes start width))) NoItem ≡ Text at len
+        → valueOf (row fid kind width scale) (part bytes start width) ≡ some (text (part bytes at len))
+    go true h =
+        let r : Row = row fid kind width scale in
+        let l : List ℕ = part bytes start width in
+        let (t, o, s, n) = given-text start (valueOf r l) at len h in
+        o ∙ ap (λ (x : List ℕ). some (text x)) (front-part bytes start width at len t s n (text-front r l t o))
+    go false h = let z : _≡_ {A = ℕ} 0 1 = cc in absurd (omega arith)
+
 pub item-laws : ItemLaws
-item-laws = record { each = λ i h. row-laws (rowAt i .fid) (rowAt i .kind) (rowAt i .width) (rowAt i .scale) (table-rule .each i (rw row-count at h) .form) }
+item-laws =
+    record {
+      each = λ i h. row-laws (rowAt i .fid) (rowAt i .kind) (rowAt i .width) (rowAt i .scale) (table-rule .each i (rw row-count at h) .form);
+      placed = found-laws;
+      texts = text-place;
+    }

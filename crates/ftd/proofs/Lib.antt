@@ -43,5 +43,6 @@ pub mod DateTrips
 pub mod ValueLaws
 pub mod Signs
 pub mod ItemValues
+pub mod ItemReads
 pub mod Opened
 pub mod Bench
