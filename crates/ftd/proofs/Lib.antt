@@ -21,6 +21,7 @@ pub mod Rest
 pub mod Measured
 pub mod Joined
 pub mod Chains
+pub mod FieldTrips
 pub mod Counts
 pub mod Resumed
 pub mod StartFields

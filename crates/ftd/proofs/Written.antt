@@ -8,6 +8,7 @@ use borrow.Author.Tests.{lt-ltb, le-ltb, ltb-false}
 use lib.ListN.{length, drop, length-append}
 use lib.Dec.{ltb, eqb}
 use Rattle.ftd.specs.Bytes.{put, bytes16, bytes32}
+use Rattle.ftd.specs.Fields.{fieldWith}
 use Rattle.ftd.specs.Packets.{chainLetter}
 use Rattle.ftd.specs.Writing.{frameHead, packetBytes, headerBytes, messageBytes, isPlain, Verdict, fine, refuse, other, answerOf, outputOf}
 use Rattle.ftd.specs.declared.refusal.Refusal.{Refusal}
@@ -135,3 +136,16 @@ pub resume-put : (l o1 o2 o3 o4 : List ℕ) (to series number : ℕ) → to ≤ 
 resume-put l o1 o2 o3 o4 to series number h b1 b2 b3 b4 =
     then l o3 o4 to (to + 8) (bytes32 4 ++ bytes16 6 ++ bytes16 series) (bytes32 number) h refl
     (then l o2 o3 to (to + 6) (bytes32 4 ++ bytes16 6) (bytes16 series) h refl (then l o1 o2 to (to + 4) (bytes32 4) (bytes16 6) h refl b1 b2) b3) b4
+
+-- A field.
+pub length-field : (fid : ℕ) (bytes : List ℕ) → length (fieldWith fid bytes) ≡ 6 + length bytes
+unfolding fieldWith
+length-field fid bytes = omega arith
+
+pub field-put : (l o1 o2 o3 : List ℕ) (to fid : ℕ) (bytes : List ℕ) → to ≤ length l → length bytes < 65536 → o1 ≡ put l to (bytes32 fid)
+    → o2 ≡ put o1 (to + 4) (bytes16 (length bytes % 65536)) → o3 ≡ put o2 (to + 6) bytes → o3 ≡ put l to (fieldWith fid bytes)
+unfolding fieldWith
+field-put l o1 o2 o3 to fid bytes h small b1 b2 b3 =
+    let n : length bytes % 65536 ≡ length bytes = omega arith in
+    then l o2 o3 to (to + 6) (bytes32 fid ++ bytes16 (length bytes)) bytes h refl
+    (then l o1 o2 to (to + 4) (bytes32 fid) (bytes16 (length bytes)) h refl b1 (rw n at b2)) b3

@@ -1,10 +1,10 @@
 -- The content of a message (4.2; 01, "Message packet"): a run of data fields, each FID 4 bytes, length 2, that many bytes.
 use Prim.Native.Nat.{ℕ, zero, suc, _+_, _-_, _≤_}
-use mathlib.Core.List.{List, [], _∷_}
+use mathlib.Core.List.{List, [], _∷_, _++_, map}
 use mathlib.Core.Bool.{Bool, _&&_}
 use lib.ListN.{length, drop}
 use lib.Dec.{eqb}
-use Rattle.ftd.specs.Bytes.{be16Of, be32Of}
+use Rattle.ftd.specs.Bytes.{be16Of, be32Of, joined, bytes16, bytes32}
 use Rattle.ftd.specs.Runs.{Form, Run, runOf, ended}
 use Rattle.ftd.specs.declared.fields.FieldPlace.{FieldPlace}
 use Rattle.ftd.specs.declared.fields.FieldPlace.the-variants.{NoField, Field}
@@ -48,3 +48,24 @@ placeOf content i = placeIn 0 (fieldsOf content) i
 abbrev pub FieldInside : List ℕ → FieldPlace → Type 0
 FieldInside content NoField = Unit
 FieldInside content (Field fid start len) = start + len ≤ length content
+
+-- ─── Written ───
+
+-- FID 4 bytes, length 2, the bytes.
+unfoldable pub fieldWith : ℕ → List ℕ → List ℕ
+fieldWith fid bytes = bytes32 fid ++ (bytes16 (length bytes) ++ bytes)
+
+-- A field by its values: FID, and bytes without FID and length.
+pub record Given : Type 0 where
+  pub fid : ℕ
+  pub bytes : List ℕ
+
+abbrev pub givenOf : List ℕ → Given
+givenOf f = record { fid = fidOf f; bytes = bytesOf f }
+
+-- Fields by their values, and one behind the other.
+abbrev pub fieldsWith : List Given → List (List ℕ)
+fieldsWith gs = map (λ (g : Given). fieldWith (g .fid) (g .bytes)) gs
+
+abbrev pub contentWith : List Given → List ℕ
+contentWith gs = joined (fieldsWith gs)

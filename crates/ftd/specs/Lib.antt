@@ -9,6 +9,7 @@ pub mod Writing
 pub mod WriteLaws
 pub mod Chains
 pub mod ChainLaws
+pub mod FieldLaws
 pub mod Composition
 pub mod Resume
 pub mod Logins

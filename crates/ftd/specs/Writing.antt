@@ -61,6 +61,10 @@ messageVerdict h extension content =
     (cond (exactRun content (h .fields)) fine (refuse FieldRun))
     (refuse BrokenTag)))
 
+-- A field: no packet holds one of more than 4,074 bytes.
+unfoldable pub fieldVerdict : List ℕ → Verdict
+fieldVerdict bytes = cond (ltb 4074 (length bytes)) (refuse FieldRun) fine
+
 -- ─── What a writer answers, and what it leaves in the output ───
 
 -- 18: the output lacks the bytes needed.

@@ -1,12 +1,20 @@
-// The content of a message: a run of data fields, each FID 4 bytes, length 2, and that many bytes (4.2).
+// The content of a message: a run of data fields, each FID 4 bytes, length 2, and that many bytes (4.2), read and written.
 ghost use mathlib.Core.Path.{_≡_};
-ghost use Prim.Native.Nat.{_+_, _-_, _≤_};
+ghost use Prim.Native.Nat.{_+_, _-_, _<_, _≤_};
 ghost use lib.ListN.{length, drop};
+ghost use Rattle.ftd.specs.Bytes.{put};
 ghost use Rattle.ftd.specs.Runs.{front};
-ghost use Rattle.ftd.specs.Fields.{field, exactRun, placeOf, FieldInside};
+ghost use Rattle.ftd.specs.Fields.{field, exactRun, placeOf, FieldInside, fieldWith};
+ghost use Rattle.ftd.specs.FieldLaws.{FieldLaws};
+ghost use Rattle.ftd.specs.Writing.{fieldVerdict, answerOf, outputOf};
 use crate::bytes::be16;
 use crate::bytes::be32;
+use crate::bytes::copy_at;
+use crate::bytes::put16;
+use crate::bytes::put32;
 use crate::bytes::size16;
+use crate::refusal::Refusal;
+use crate::write::Written;
 
 // A field of a content: its FID, and where its bytes lie, without FID and length.
 pub enum FieldPlace {
@@ -74,3 +82,33 @@ pub fn field_place(content: &[u8], i: usize) -> FieldPlace
         left -= 1;
     }
 }
+
+// A field at a place of the output.
+fn put_field(out: &mut [u8], to: usize, fid: u32, bytes: &[u8])
+    requires { ⌜ (to + (6 + length (now bytes)) ≤ length (now out)) × (length (now bytes) < 65536) ⌝ }
+    ensures { λ _. ⌜ now (out .exit) ≡ put (now (out .entry)) to (fieldWith fid (now (bytes .entry))) ⌝ }
+{
+    put32(out, to, fid);
+    put16(out, to + 4, (bytes.len() % 65536) as u16);
+    copy_at(out, to + 6, bytes);
+}
+
+// A field with a FID and bytes, at the start of the output.
+pub fn write_field(fid: u32, bytes: &[u8], out: &mut [u8]) -> Written
+    ensures { λ r. ⌜ (r ≡ answerOf (fieldVerdict (now (bytes .entry))) (fieldWith fid (now (bytes .entry))) (now (out .entry))) × (now (out .exit) ≡ outputOf (fieldVerdict (now (bytes .entry))) (fieldWith fid (now (bytes .entry))) (now (out .entry))) ⌝ }
+{
+    if 4074 < bytes.len() {
+        return Written::Refused(Refusal::FieldRun);
+    }
+    let n = 6 + bytes.len();
+    if out.len() < n {
+        return Written::Refused(Refusal::TooSmall);
+    }
+    put_field(out, 0, fid, bytes);
+    Written::Bytes(n)
+}
+
+// The laws of fields written, as a promise: both round trips, and row 7.
+pub fn keeps_field_laws()
+    ensures { λ _. ⌜ FieldLaws ⌝ }
+{}
