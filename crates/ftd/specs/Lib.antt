@@ -30,4 +30,5 @@ pub mod Wholes
 pub mod Dates
 pub mod Plains
 pub mod ItemValues
+pub mod Demand2
 pub mod Bench

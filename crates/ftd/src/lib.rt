@@ -1,4 +1,6 @@
 // FTD packets (JR/T 0016-2004, 4.1 and 4.2) and typed items (Appendices A to E): read from any bytes, with nothing trusted.
+ghost use Rattle.ftd.specs.Demand2.{Demand2};
+
 pub mod bytes; // numbers in bytes
 pub mod refusal; // the refusal table
 pub mod tags; // the run of tags in a packet's extension
@@ -22,3 +24,8 @@ pub mod whole; // values of Char, Word and Int, read and written
 pub mod dates; // values of Date, read and written
 pub mod item; // values of items, by row
 pub mod plain; // values of Number and Float as plain signed numbers
+
+// Demand 2, as a promise.
+pub fn keeps_demand_two()
+    ensures { λ _. ⌜ Demand2 ⌝ }
+{}

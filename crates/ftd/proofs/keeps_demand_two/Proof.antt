@@ -1,0 +1,15 @@
+-- `keeps_demand_two` meets its contract. Assumes nothing.
+use Rattle.ftd.proofs.Reading.{read-laws}
+use Rattle.ftd.proofs.RoundTrip.{write-laws}
+use Rattle.ftd.proofs.Chains.{chain-laws}
+use Rattle.ftd.proofs.FieldTrips.{field-laws}
+use Rattle.ftd.proofs.ItemValues.{item-laws}
+use Rattle.ftd.proofs.ValueLaws.{value-laws}
+use Rattle.ftd.proofs.keeps_demand_two.Statement.{statement}
+use Rattle.ftd.proofs.keeps_demand_two.Tie as tie
+
+returns : tie.Need-returns
+returns c = record { reading = read-laws; writing = write-laws; messages = chain-laws; fields = field-laws; items = item-laws; values = value-laws }
+
+pub keeps-demand-two-spec : {M : Type 1} → statement M
+keeps-demand-two-spec = tie.close (tie.spec returns)

@@ -1,0 +1,20 @@
+-- Demand 2 as one statement: packets, messages, fields and items are accepted exactly when they meet the standard, what is written is read back
+-- as meant, and writing what was read gives the same bytes again.
+use Rattle.ftd.specs.Laws.{ReadLaws}
+use Rattle.ftd.specs.WriteLaws.{WriteLaws}
+use Rattle.ftd.specs.ChainLaws.{ChainLaws}
+use Rattle.ftd.specs.FieldLaws.{FieldLaws}
+use Rattle.ftd.specs.ItemValues.{ItemLaws}
+use Rattle.ftd.specs.ValueLaws.{ValueLaws}
+
+pub record Demand2 : Type 0 where
+  -- Packets: each kind is read exactly where the bytes are one, with these values; both round trips, and what writers refuse.
+  pub reading : ReadLaws
+  pub writing : WriteLaws
+  -- Messages: cut into packets of whole fields, found again and read back.
+  pub messages : ChainLaws
+  -- Fields, one and any number: both round trips, and row 7.
+  pub fields : FieldLaws
+  -- Items, by row of the table: accepted exactly if they have a value, and both round trips; by type, the parts of it.
+  pub items : ItemLaws
+  pub values : ValueLaws
