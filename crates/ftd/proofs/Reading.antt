@@ -372,7 +372,7 @@ module _ (p q : List ℕ) (four : 4 ≤ length p) where
 pub stays : (p q : List ℕ) → isShort (readOf p) ≡ false → readOf (p ++ q) ≡ readOf p
 unfolding readOf restMissing saidLength
 stays p q =
-    by-test P (headMissing p) (λ a e. absurd (missing e)) (λ a.
+    by-test P (headMissing p) (λ a e. clash e) (λ a.
     let four : 4 ≤ length p = ltb-false (length p) 4 a in
     let long : 4 ≤ length (p ++ q) = rw length-append (omega arith) in
     let said = said-same p q four in
@@ -380,7 +380,7 @@ stays p q =
     let fits : extensionLength p ≤ 127 = ltb-false 127 (extensionLength p) b in
     by-test P (wrongBody (kindOf p) (bodyLength p))
     (λ c e. sym (read-body l long _ (said .0) fits _ _ _ (kind-same p q four) (said .1) refl _ refl c)) (λ c.
-    by-test P (restMissing p) (λ d e. absurd (missing e)) (λ d e.
+    by-test P (restMissing p) (λ d e. clash e) (λ d e.
     let there : 4 + extensionLength p + bodyLength p ≤ length p = ltb-false (length p) (4 + extensionLength p + bodyLength p) d in
     let more : 4 + extensionLength p + bodyLength p ≤ length (p ++ q) = rw length-append (omega arith) in
     sym (read-there l long _ (said .0) fits _ _ _ (kind-same p q four) (said .1) refl _ refl c more _ (whole-same p q four there c))))))
@@ -390,9 +390,6 @@ stays p q =
 
     P : Packet → Type 0
     P x = isShort x ≡ false → readOf (p ++ q) ≡ x
-
-    missing : true ≡ false → ⊥
-    missing e = let z : _≡_ {A = ℕ} 0 1 = cc in omega arith
 
 -- ─── A value of the header fits its width ───
 

@@ -6,32 +6,24 @@ use mathlib.Core.Bool.{Bool, true, false, cond}
 use native.Mathlib.Omega.{arith}
 use lib.ListN.{length, length-append}
 use lib.Dec.{eqb}
-use Rattle.ftd.specs.Bytes.{be16Of, be32Of, joined}
+use Rattle.ftd.specs.Bytes.{be16Of, be32Of, joined, bytes16, bytes32}
 use Rattle.ftd.specs.Runs.{Run, runOf, ended}
-use Rattle.ftd.specs.Fields.{field, fieldsOf, fidOf}
+use Rattle.ftd.specs.Fields.{field, fieldsOf, fidOf, fieldWith}
 use Rattle.ftd.specs.Composition.{oneIf, counted, countOf}
-use Rattle.ftd.specs.Resume.{firstIn, firstOf, resumeOf, resumeBytes}
+use Rattle.ftd.specs.Resume.{resumeFid, firstIn, firstOf, resumeOf, resumeBytes}
 use Rattle.ftd.specs.declared.fields.FieldPlace.the-variants.{Field}
 use Rattle.ftd.specs.declared.resume.Resume.the-variants.{Next}
 use Rattle.ftd.proofs.Runs.{run-whole}
-use Rattle.ftd.proofs.Heads.{front-whole}
 use Rattle.ftd.proofs.Numbers.{be16-behind, be32-behind}
 use Rattle.ftd.proofs.Turns.{some-field}
 use Rattle.ftd.proofs.Joined.{Entry, run-of}
 use Rattle.ftd.proofs.Chains.{joined-append, entries-snoc, fields-entries}
+use Rattle.ftd.proofs.FieldTrips.{field-entry}
 
 -- The field of twelve bytes is an entry.
-follows : (series number : ℕ) (r : List ℕ) → field .head + field .follow (resumeBytes series number ++ r) ≡ 12
-unfolding field be16Of
-follows series number r = refl
-
 resume-entry : (series number : ℕ) → Entry field (resumeBytes series number)
-resume-entry series number =
-    record {
-      some = omega arith;
-      stands =
-          λ r. front-whole field (resumeBytes series number ++ r) (rw (follows series number r, length-append (resumeBytes series number) r) (omega arith)) ∙ follows series number r;
-    }
+unfolding fieldWith
+resume-entry series number = field-entry resumeFid (bytes16 series ++ bytes32 number)
 
 pub fid-is : (series number : ℕ) → fidOf (resumeBytes series number) ≡ 4
 unfolding be32Of
