@@ -45,5 +45,6 @@ pub mod ValueLaws
 pub mod Signs
 pub mod ItemValues
 pub mod ItemReads
+pub mod ItemWrites
 pub mod Opened
 pub mod Bench

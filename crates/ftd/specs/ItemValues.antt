@@ -116,6 +116,35 @@ valueAt fid bytes (Place kind scale start width) =
 unfoldable pub itemValueOf : ℕ → ℕ → List ℕ → FieldItem
 itemValueOf fid i bytes = valueAt fid bytes (itemOf fid i)
 
+-- A value as it is given to be written, the bytes of a text beside it.
+abbrev pub takenAs : FieldItem → List ℕ → Option ItemValue
+takenAs NoItem t = none
+takenAs NoValue t = none
+takenAs (Char b) t = some (char b)
+takenAs (Word x) t = some (word x)
+takenAs (Int x) t = some (int x)
+takenAs (Text start len) t = some (text t)
+takenAs (Number negative units) t = some (number negative units)
+takenAs (Float negative units) t = some (float negative units)
+takenAs (Date d) t = some (date d)
+
+-- Whether it fits an item's place, and its bytes there. Nothing fits where there is no such item, or no value.
+abbrev pub fitsAt : ℕ → ItemPlace → Option ItemValue → Bool
+fitsAt fid NoPlace o = false
+fitsAt fid (Place kind scale start width) none = false
+fitsAt fid (Place kind scale start width) (some v) = fits (row fid kind width scale) v
+
+abbrev pub bytesAt : ℕ → ItemPlace → Option ItemValue → List ℕ
+bytesAt fid NoPlace o = []
+bytesAt fid (Place kind scale start width) none = []
+bytesAt fid (Place kind scale start width) (some v) = bytesOf (row fid kind width scale) v
+
+unfoldable pub itemFits : ℕ → ℕ → FieldItem → List ℕ → Bool
+itemFits fid i v t = fitsAt fid (itemOf fid i) (takenAs v t)
+
+unfoldable pub itemWritten : ℕ → ℕ → FieldItem → List ℕ → List ℕ
+itemWritten fid i v t = bytesAt fid (itemOf fid i) (takenAs v t)
+
 -- ─── What holds of each row ───
 
 -- The check accepts bytes if and only if they have a value; bytes that are read are those that their value writes; and a value

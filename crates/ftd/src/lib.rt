@@ -22,7 +22,7 @@ pub mod store; // values of Number and Float, written
 pub mod texts; // values of String, read and written
 pub mod whole; // values of Char, Word and Int, read and written
 pub mod dates; // values of Date, read and written
-pub mod item; // values of items, by row
+pub mod item; // values of items, by FID and item number
 pub mod plain; // values of Number and Float as plain signed numbers
 
 // Demand 2, as a promise.

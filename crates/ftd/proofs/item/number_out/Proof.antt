@@ -1,0 +1,20 @@
+-- `item::number_out` meets its contract. Assumes nothing.
+use borrow.Author.Needs.{needs}
+use Rattle.ftd.proofs.ItemWrites.{other-type, right-type}
+use Rattle.ftd.proofs.item.number_out.Statement.{statement}
+use Rattle.ftd.proofs.item.number_out.Tie as tie
+
+write-number-requires : tie.Need-write-number-requires
+write-number-requires c κs = search needs
+
+same-length : tie.Need-same-length
+same-length c = search needs
+
+returns : tie.Need-returns
+returns c = right-type _ _ _ _ _ (c .before .before .before .before .if1 .taken) _ _ (c .before .before .write-number .ensures)
+
+returns-2 : tie.Need-returns-2
+returns-2 c = other-type _ _ _ _ _ (c .if1 .left)
+
+pub number-out-spec : {M : Type 1} → statement M
+number-out-spec = tie.close (tie.spec write-number-requires same-length returns returns-2)
