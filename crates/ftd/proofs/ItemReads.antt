@@ -1,15 +1,13 @@
 -- Items read: each kind, and the item at its place in a field. Assumes nothing.
-use Prim.Native.Nat.{ℕ, zero, suc, _+_, _-_, _<_, _≤_}
-use mathlib.Core.Path.{_≡_, refl, sym, ap, _∙_}
-use mathlib.Core.Option.{Option, none, some}
-use mathlib.Core.List.{List, [], _∷_}
-use mathlib.Core.Bool.{Bool, true, false, cond, _&&_}
+use Prim.Native.Nat.{ℕ, _+_, _-_, _<_, _≤_}
+use mathlib.Core.Path.{_≡_, refl, ap, _∙_}
+use mathlib.Core.List.{List}
+use mathlib.Core.Bool.{Bool, true, false}
 use native.Mathlib.Nat.{add-sub-cancel-left}
 use native.Mathlib.Omega.{arith}
 use borrow.Author.Tests.{le-leb, lt-leb, ne-eqb}
 use lib.ListN.{length, getD, take, drop, length-take, length-drop}
 use lib.Seq.{take-length}
-use lib.Dec.{leb, eqb}
 use Rattle.ftd.specs.Bytes.{part, be16Of, be32Of}
 use Rattle.ftd.specs.Table.{row}
 use Rattle.ftd.specs.Values.{every}
@@ -19,7 +17,7 @@ use Rattle.ftd.specs.Signed.{numberValue, floatValue}
 use Rattle.ftd.specs.Texts.{trimmed, textValue}
 use Rattle.ftd.specs.Dates.{dateValue}
 use Rattle.ftd.specs.Places.{itemOf}
-use Rattle.ftd.specs.ItemValues.{ItemValue, char, word, int, text, number, float, date, wholeAs, signedAs, dateAs, textAs, typedValue, valueOf, givenAt, valueAt, itemValueOf}
+use Rattle.ftd.specs.ItemValues.{char, word, int, number, float, wholeAs, signedAs, dateAs, textAs, typedValue, givenAt, itemValueOf}
 use Rattle.ftd.specs.declared.values.Class.the-variants.{Text as TextClass}
 use Rattle.ftd.specs.declared.places.ItemPlace.{ItemPlace}
 use Rattle.ftd.specs.declared.places.ItemPlace.the-variants.{NoItem as NoPlace, Item as Place}

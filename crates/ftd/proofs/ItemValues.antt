@@ -6,20 +6,20 @@ use mathlib.Core.Option.{Option, none, some}
 use mathlib.Core.List.{List, [], _∷_}
 use mathlib.Core.Bool.{Bool, true, false, cond, _&&_, false≢true}
 use native.Mathlib.Omega.{arith}
-use borrow.Author.Tests.{lt-ltb, le-ltb, ltb-true, le-leb, leb-true, eq-eqb, ne-eqb, eqb-true, eqb-false}
+use borrow.Author.Tests.{lt-ltb, le-ltb, le-leb, leb-true, eq-eqb, ne-eqb, eqb-true}
 use lib.ListN.{length, getD, take, drop, length-take}
 use lib.Seq.{getD-take, getD-drop, take-take}
 use lib.Dec.{leb, ltb, eqb}
-use Rattle.ftd.specs.Bytes.{part, Bytes, bytes16, bytes32}
+use Rattle.ftd.specs.Bytes.{part, Bytes}
 use Rattle.ftd.specs.Table.{Row, row, table, rowsOf}
 use Rattle.ftd.specs.TableRule.{placeOf, rowAt, rightForm}
-use Rattle.ftd.specs.Values.{every, isText, isListed, isNumber, isFloat, isSpace, isDate, isValue}
+use Rattle.ftd.specs.Values.{every, isText, isNumber, isFloat, isSpace, isDate, isValue}
 use Rattle.ftd.specs.Wholes.{charFits, charValue, wordValue, intValue}
 use Rattle.ftd.specs.Signed.{signedOf, numberValue, floatValue}
-use Rattle.ftd.specs.Texts.{trimmed, textValue, textBytes, textFits}
-use Rattle.ftd.specs.Dates.{dateValue, dateBytes, dateFits}
-use Rattle.ftd.specs.WriteValues.{numberBytes, numberFits, floatBytes, floatFits}
-use Rattle.ftd.specs.ItemValues.{ItemValue, char, word, int, text, number, float, date, wholeAs, signedAs, dateAs, textAs, typedValue, valueOf, bytesOf, fits, givenAt, itemValueOf, RowLaws, ItemLaws}
+use Rattle.ftd.specs.Texts.{trimmed, textValue, textFits}
+use Rattle.ftd.specs.Dates.{dateValue, dateFits}
+use Rattle.ftd.specs.WriteValues.{numberFits, floatFits}
+use Rattle.ftd.specs.ItemValues.{ItemValue, char, word, int, text, number, float, date, wholeAs, signedAs, dateAs, typedValue, valueOf, bytesOf, fits, givenAt, itemValueOf, RowLaws, ItemLaws}
 use Rattle.ftd.specs.Places.{itemIn, itemOf}
 use Rattle.ftd.specs.declared.places.ItemPlace.the-variants.{Item as Place}
 use Rattle.ftd.specs.declared.item.FieldItem.the-variants.{NoItem, Text}
