@@ -1,3 +1,4 @@
+-- The bench table and the lists of calls, computed.
 pub mod Tests
 pub mod Opened
 pub mod Bench

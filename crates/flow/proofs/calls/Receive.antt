@@ -1,4 +1,4 @@
--- What each call of a receiving end comes to, one case each, in any state. Assumes nothing.
+-- What Receive comes to, one case each, of any bytes and in any state. Assumes nothing.
 use Prim.Native.Nat.{ℕ, _+_, _<_, _≤_}
 use native.Mathlib.Omega.{arith}
 use mathlib.Core.Path.{_≡_, refl}

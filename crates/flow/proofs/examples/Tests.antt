@@ -1,4 +1,4 @@
--- What a computed test says of lists. Assumes nothing.
+-- What a computed test says: of lists, and of the conditions of the second half. Assumes nothing.
 use Prim.Native.Nat.{ℕ}
 use mathlib.Core.Path.{_≡_, refl}
 use mathlib.Core.List.{List, [], _∷_, _++_, map}

@@ -1,4 +1,4 @@
--- Histories of the serving side only grow, its day only rises. Assumes nothing.
+-- Histories of the serving side only grow. Assumes nothing.
 use mathlib.Core.List.{List}
 use Rattle.flow.specs.World.{Event, SenderSide, World, run}
 use Rattle.flow.proofs.common.Extends.{Extends, extends-same, extends-append, extends-along}
