@@ -1,9 +1,10 @@
 -- The bench table whole (01, "Bench examples"; clause d): the rows P1 to P9 and P12 of `ftd`, and between them those of the ends.
 use Prim.Native.Nat.{ℕ}
 use mathlib.Core.List.{List, [], _∷_, _++_}
-use lib.ListN.{length, replicate}
+use lib.ListN.{replicate}
 use lib.Dec.{T}
-use Rattle.ftd.specs.Bytes.{bytes16, bytes32, joined}
+use Rattle.ftd.specs.Bytes.{joined}
+use Rattle.ftd.specs.Fields.{fieldWith}
 use Rattle.ftd.specs.Chains.{packetsOf}
 use Rattle.ftd.specs.Bench.{Row, row, holds, upToNine, twelfth}
 use Rattle.ftd.specs.declared.tags.TradeDate.the-variants.{At}
@@ -37,9 +38,6 @@ abbrev pub says : ℕ → Said → Said → Row
 says n answer paper = row n (numbers answer) (numbers paper)
 
 -- ─── What the calls are given ───
-
-abbrev pub fieldWith : ℕ → List ℕ → List ℕ
-fieldWith fid bytes = bytes32 fid ++ (bytes16 (length bytes) ++ bytes)
 
 -- ReqUserLoginField and RspUserLoginField, blank: flag 0, spaces, and TimeOut or TimeSpan 000.
 unfoldable pub reqLogin : List ℕ
