@@ -6,9 +6,9 @@ use lib.ListN.{drop}
 use lib.Dec.{eqb}
 use Rattle.ftd.specs.Bytes.{be32Of}
 use Rattle.ftd.specs.Runs.{front}
-use Rattle.ftd.specs.Refusals.{numberOf}
+use Rattle.ftd.specs.Refusal.{numberOf}
 use Rattle.ftd.specs.Fields.{field}
-use Rattle.ftd.specs.Packets.{chainLetter}
+use Rattle.ftd.specs.Packet.{chainLetter}
 use Rattle.ftd.specs.declared.tags.TradeDate.{TradeDate}
 use Rattle.ftd.specs.declared.tags.TradeDate.the-variants.{None, At}
 use Rattle.ftd.specs.declared.packet.Span.{Span}

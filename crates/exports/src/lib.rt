@@ -2,10 +2,10 @@
 // tests/include/ftd.h says what the numbers mean.
 ghost use mathlib.Core.Path.{_≡_};
 ghost use Rattle.ftd.specs.Bytes.{joined};
-ghost use Rattle.ftd.specs.Packets.{datedOf, fieldOf};
-ghost use Rattle.ftd.specs.Content.{contentOf};
-ghost use Rattle.ftd.specs.Writing.{answerOf, outputOf};
-ghost use Rattle.ftd.specs.Chains.{packetsOf, sizeAnswer, chainVerdict};
+ghost use Rattle.ftd.specs.Packet.{datedOf, fieldOf};
+ghost use Rattle.ftd.specs.Content.{contentCheck};
+ghost use Rattle.ftd.specs.Write.{writtenAnswer, writtenOutput};
+ghost use Rattle.ftd.specs.Chain.{packetsOf, sizeAnswer, chainVerdict};
 ghost use Rattle.exports.specs.Numbers.{datedFlag, dateOf, plainNumbers, linkNumbers, skippedNumbers, messageNumbers, packetNumbers, datedNumbers, fieldNumbers, stepOf, directionFor, verdictNumber, dateFor, messageFor, sizeNumbers, writtenNumbers};
 use ftd::bytes::be32;
 use ftd::chain::ChainSize;
@@ -283,7 +283,7 @@ fn direction_for(d: u8) -> Direction
 // The content check: 0, or the number of the first refusal.
 #[no_mangle]
 pub extern "C" fn ftd_check(tid: u32, direction: u8, content: &[u8], limit: usize) -> u8
-    ensures { λ r. ⌜ r ≡ verdictNumber (contentOf tid (directionFor direction) (now (content .entry)) limit) ⌝ }
+    ensures { λ r. ⌜ r ≡ verdictNumber (contentCheck tid (directionFor direction) (now (content .entry)) limit) ⌝ }
 {
     match check_content(tid, direction_for(direction), content, limit) {
         Checked::Passed => 0,
@@ -335,7 +335,7 @@ pub extern "C" fn ftd_size(m: FtdMessage, content: &[u8]) -> FtdSize
 // All packets of a message, one behind the other; refused, the output is as it was.
 #[no_mangle]
 pub extern "C" fn ftd_write(m: FtdMessage, content: &[u8], out: &mut [u8]) -> FtdWritten
-    ensures { λ r. ⌜ (r ≡ writtenNumbers (answerOf (chainVerdict (now (content .entry))) (joined (packetsOf (messageFor m) (now (content .entry)))) (now (out .entry)))) × (now (out .exit) ≡ outputOf (chainVerdict (now (content .entry))) (joined (packetsOf (messageFor m) (now (content .entry)))) (now (out .entry))) ⌝ }
+    ensures { λ r. ⌜ (r ≡ writtenNumbers (writtenAnswer (chainVerdict (now (content .entry))) (joined (packetsOf (messageFor m) (now (content .entry)))) (now (out .entry)))) × (now (out .exit) ≡ writtenOutput (chainVerdict (now (content .entry))) (joined (packetsOf (messageFor m) (now (content .entry)))) (now (out .entry))) ⌝ }
 {
     match write_chain(message_for(m), content, out) {
         Written::Bytes(n) => FtdWritten {

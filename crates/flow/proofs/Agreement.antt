@@ -4,7 +4,7 @@ use mathlib.Core.Path.{_≡_}
 use mathlib.Core.List.{List}
 use mathlib.Core.Option.{some}
 use lib.ListN.{length, getElem?}
-use Rattle.ftd.proofs.Chains.{chain-laws}
+use Rattle.ftd.proofs.chain.Laws.{chain-laws}
 use Rattle.flow.specs.World.{InSeries, Event, start, run}
 use Rattle.flow.specs.Agreement.{Agreement}
 use Rattle.flow.proofs.first.Half.{safe-agreed}

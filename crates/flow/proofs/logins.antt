@@ -10,7 +10,7 @@ use mathlib.Core.Path.{_≡_}
 use mathlib.Core.List.{List}
 use mathlib.Core.Bool.{Bool, true}
 use Rattle.ftd.specs.Bytes.{part}
-use Rattle.ftd.specs.Packets.{datedOf}
+use Rattle.ftd.specs.Packet.{datedOf}
 use Rattle.ftd.specs.Resume.{resumeOf}
 use Rattle.ftd.specs.declared.tags.TradeDate.{TradeDate}
 use Rattle.ftd.specs.declared.tags.TradeDate.the-variants.{None, At}

@@ -9,9 +9,9 @@ use mathlib.Core.Path.{_≡_}
 use mathlib.Core.List.{List}
 use mathlib.Core.Bool.{true}
 use lib.ListN.{length}
-use Rattle.ftd.specs.Chains.{shaped, packetsOf}
-use Rattle.ftd.specs.ChainLaws.{pieceOf, packetOf}
-use Rattle.ftd.specs.Logins.{loginBytes}
+use Rattle.ftd.specs.Chain.{shaped, packetsOf}
+use Rattle.ftd.specs.Chain.Laws.{pieceAtPlace, packetAtPlace}
+use Rattle.ftd.specs.Login.{loginBytes}
 use Rattle.ftd.specs.declared.tags.TradeDate.{TradeDate}
 use Rattle.ftd.specs.declared.chain.Message.{Message as Headed}
 use Rattle.flow.specs.declared.sender.Sender.{Sender}
@@ -32,7 +32,7 @@ pub record PacketLaws : Type 0 where
       → confirmLoginOf r s (loginBytes date content) ≡ confirmByLogin r s date
   -- Packet j of a message, read by Receive at any receiving end: series, number and TID of the message, the letter of its place, its piece.
   pub message : (m : Headed) (c : List ℕ) (j : ℕ) (inside : j < length (packetsOf m c)) (limit : ℕ) → shaped c limit ≡ true → (e : Receiver) (buffer : List ℕ)
-      → receiveOf e (packetOf m c j) buffer ≡ receiveWith e (headerAt m c j inside) (m .date) (spanAt m c j inside) (pieceOf c j .bytes) buffer
+      → receiveOf e (packetAtPlace m c j) buffer ≡ receiveWith e (headerAt m c j inside) (m .date) (spanAt m c j inside) (pieceAtPlace c j .bytes) buffer
 
 pub packet-laws : PacketLaws
 packet-laws = record { request = login-by-ask; answer = confirm-by-login; message = packet-received }

@@ -12,7 +12,7 @@ use Prim.Native.Nat.{ℕ, suc, _+_, _<_}
 use mathlib.Core.Path.{_≡_}
 use mathlib.Core.List.{List, [], _∷_}
 use lib.ListN.{length}
-use Rattle.ftd.specs.Chains.{piecesOf, packetsOf}
+use Rattle.ftd.specs.Chain.{piecesOf, packetsOf}
 use Rattle.flow.specs.declared.receiver.Receiver.{Receiver}
 use Rattle.flow.specs.Answers.{receivedSaid, messageIn, reportIn}
 use Rattle.flow.specs.Receiving.{receiveOf}

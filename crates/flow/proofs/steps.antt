@@ -6,7 +6,7 @@ use Prim.Native.Nat.{ℕ}
 use mathlib.Core.Path.{_≡_, refl}
 use mathlib.Core.List.{List, []}
 use mathlib.Core.Bool.{Bool, true}
-use Rattle.ftd.specs.Packets.{datedOf}
+use Rattle.ftd.specs.Packet.{datedOf}
 use Rattle.ftd.specs.declared.tags.TradeDate.{TradeDate}
 use Rattle.flow.specs.declared.receiver.Receiver.{Receiver}
 use Rattle.flow.specs.Ends.{dayOf, lastOf, isOpen, allParts}

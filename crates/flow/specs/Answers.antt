@@ -4,7 +4,7 @@ use mathlib.Core.List.{List, [], _∷_, map}
 use mathlib.Core.Bool.{Bool, true, false}
 use lib.ListN.{take}
 use Rattle.ftd.specs.Bytes.{part}
-use Rattle.ftd.specs.Refusals.{numberOf}
+use Rattle.ftd.specs.Refusal.{numberOf}
 use Rattle.ftd.specs.declared.packet.Span.{Span}
 use Rattle.flow.specs.declared.sender.Opened.{Opened}
 use Rattle.flow.specs.declared.sender.Opened.the-variants.{Done}

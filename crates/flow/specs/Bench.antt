@@ -5,8 +5,8 @@ use lib.ListN.{replicate}
 use lib.Dec.{T}
 use Rattle.ftd.specs.Bytes.{joined}
 use Rattle.ftd.specs.Fields.{fieldWith}
-use Rattle.ftd.specs.Chains.{packetsOf}
-use Rattle.ftd.specs.Bench.{Row, row, holds, upToNine, twelfth}
+use Rattle.ftd.specs.Chain.{packetsOf}
+use Rattle.ftd.specs.Bench.{BenchRow, benchRow, allSame, upToNine, twelfth}
 use Rattle.ftd.specs.declared.tags.TradeDate.the-variants.{At}
 use Rattle.flow.specs.declared.sender.Sender.{Sender}
 use Rattle.flow.specs.declared.sender.LoggedIn.{LoggedIn}
@@ -34,8 +34,8 @@ numbers (held n) = 10 ∷ n ∷ []
 numbers (handedOn n m) = 11 ∷ n ∷ m .tid ∷ m .content
 
 -- A row whose call answers something.
-abbrev pub says : ℕ → Said → Said → Row
-says n answer paper = row n (numbers answer) (numbers paper)
+abbrev pub says : ℕ → Said → Said → BenchRow
+says n answer paper = benchRow n (numbers answer) (numbers paper)
 
 -- ─── What the calls are given ───
 
@@ -86,7 +86,7 @@ logsIn last = loginOf (four .serving .end) 1 (requestBytes (atLast last) 1 reqLo
 
 -- ─── The table ───
 
-unfoldable pub bothEnds : List Row
+unfoldable pub bothEnds : List BenchRow
 bothEnds =
     -- P10 number 6 handed on, 5 again, 7 refused 16
     says 10 (receives 6) (handedOn 6 (message (note 1 3)))
@@ -99,8 +99,8 @@ bothEnds =
     ∷ []
 
 -- P1 to P12: every row's answer is the paper's.
-unfoldable pub bench : List Row
+unfoldable pub bench : List BenchRow
 bench = upToNine ++ (bothEnds ++ twelfth)
 
 abbrev pub Bench : Type 0
-Bench = T (holds bench)
+Bench = T (allSame bench)

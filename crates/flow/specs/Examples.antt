@@ -7,8 +7,8 @@ use mathlib.Core.Bool.{Bool, true, false, cond, _&&_}
 use mathlib.Core.Option.{Option, none, some}
 use lib.ListN.{length, drop, getD, getElem?}
 use lib.Dec.{T, eqb}
-use Rattle.ftd.specs.Chains.{packetsOf}
-use Rattle.ftd.specs.Logins.{loginBytes}
+use Rattle.ftd.specs.Chain.{packetsOf}
+use Rattle.ftd.specs.Login.{loginBytes}
 use Rattle.ftd.specs.Bench.{same}
 use Rattle.ftd.specs.declared.tags.TradeDate.the-variants.{At}
 use Rattle.flow.specs.declared.receiver.Receiver.{Receiver}

@@ -5,9 +5,9 @@ use mathlib.Core.List.{List, _++_, map}
 use mathlib.Core.Bool.{Bool, true, not, _&&_, _||_}
 use lib.ListN.{length, replicate}
 use lib.Dec.{ltb, leb, eqb}
-use Rattle.ftd.specs.Logins.{loginTid, loginBytes}
+use Rattle.ftd.specs.Login.{loginTid, loginBytes}
 use Rattle.ftd.specs.Bytes.{part, put}
-use Rattle.ftd.specs.Packets.{span, datedOf, notOnePacket, noMessagePacket}
+use Rattle.ftd.specs.Packet.{span, datedOf, notOnePacket, noMessagePacket}
 use Rattle.ftd.specs.Items.{wrongWidth, wrongItem}
 use Rattle.ftd.specs.Composition.{composed, countOf}
 use Rattle.ftd.specs.Resume.{resumeBytes, resumeFid}

@@ -7,12 +7,12 @@ use mathlib.Core.Option.{Option, none, some}
 use lib.ListN.{length, replicate}
 use lib.Dec.{ltb, leb, eqb}
 use Rattle.ftd.specs.Bytes.{part, put, joined}
-use Rattle.ftd.specs.Packets.{notOnePacket, noMessagePacket, datedOf}
-use Rattle.ftd.specs.Chains.{shaped, packetsOf}
+use Rattle.ftd.specs.Packet.{notOnePacket, noMessagePacket, datedOf}
+use Rattle.ftd.specs.Chain.{shaped, packetsOf}
 use Rattle.ftd.specs.Items.{wrongWidth, wrongItem}
 use Rattle.ftd.specs.Composition.{composed, countOf}
 use Rattle.ftd.specs.Resume.{resumeFid, resumeOf}
-use Rattle.ftd.specs.Logins.{loginTid, loginBytes}
+use Rattle.ftd.specs.Login.{loginTid, loginBytes}
 use Rattle.ftd.specs.declared.refusal.Refusal.{Refusal}
 use Rattle.ftd.specs.declared.refusal.Refusal.the-variants.{FieldRun, FieldLength, Item, Composition, Opening, NotOnePacket, UnknownSeries, NotLoggedIn, OtherDay, OutOfLine, TooSmall, WrongStart, DamagedLog, DayFull}
 use Rattle.ftd.specs.declared.composition.Direction.the-variants.{Up, Down}

@@ -8,8 +8,8 @@ use mathlib.Core.Option.{Option, none, some}
 use lib.ListN.{length, getElem?}
 use lib.Dec.{eqb}
 use Rattle.ftd.specs.Runs.{runOf}
-use Rattle.ftd.specs.Packets.{datedOf}
-use Rattle.ftd.specs.ChainLaws.{packet}
+use Rattle.ftd.specs.Packet.{datedOf}
+use Rattle.ftd.specs.Chain.Laws.{packetForm}
 use Rattle.ftd.specs.declared.tags.TradeDate.{TradeDate}
 use Rattle.ftd.specs.declared.tags.TradeDate.the-variants.{None, At}
 use Rattle.ftd.specs.declared.packet.Packet.{Packet}
@@ -130,7 +130,7 @@ afterLogin v s r =
     }
 
 abbrev pub packetsIn : List ℕ → List (List ℕ)
-packetsIn bytes = runOf packet bytes .entries
+packetsIn bytes = runOf packetForm bytes .entries
 
 abbrev pub afterSend : SenderSide → ℕ → Wrote Sender Sent → SenderSide
 afterSend v s r =

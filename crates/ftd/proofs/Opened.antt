@@ -3,10 +3,10 @@ use Rattle.ftd.specs.Bytes.{be16Of, be32Of, put}
 use Rattle.ftd.specs.Runs.{front, runOf}
 use Rattle.ftd.specs.Tags.{tag, lengthRight, knownTags, countDate, goodTags, tagPlace, tradeDateOf}
 use Rattle.ftd.specs.Fields.{field, exactRun}
-use Rattle.ftd.specs.Packets.{saidLength, extensionOf, versionOf, tidOf, letterOf, seriesOf, messageNumberOf, fieldCountOf, contentLengthOf, contentOf, restMissing, wrongBody, isSkipped, isLetter, chainOf, headerOf, acceptedOf, messageOf, wholeOf, readOf, withMark, datedOf, notOnePacket, noMessagePacket}
-use Rattle.ftd.specs.Writing.{packetBytes, headerBytes, messageBytes}
-use Rattle.ftd.specs.Chains.{shaped, piecesOf, headerFor, packetFor, packetsOf}
-use Rattle.ftd.specs.ChainLaws.{packet}
+use Rattle.ftd.specs.Packet.{saidLength, extensionOf, versionOf, tidOf, letterOf, seriesOf, messageNumberOf, fieldCountOf, contentLengthOf, contentOf, restMissing, wrongBody, isSkipped, isLetter, chainOf, headerOf, acceptedOf, messageOf, wholeOf, readOf, withDate, datedOf, notOnePacket, noMessagePacket}
+use Rattle.ftd.specs.Write.{packetBytes, headerBytes, messageBytes}
+use Rattle.ftd.specs.Chain.{shaped, piecesOf, headerFor, packetFor, packetsOf}
+use Rattle.ftd.specs.Chain.Laws.{packetForm}
 use Rattle.ftd.specs.Table.{enumerations, table, rowsOf}
 use Rattle.ftd.specs.Values.{isListed, isNumber, withoutPoint, isFloat, isDate, isValue}
 use Rattle.ftd.specs.Items.{wrongWidth, walkOf, wrongItem, checkOf}
@@ -14,9 +14,9 @@ use Rattle.ftd.specs.Places.{itemOf, itemBytes}
 use Rattle.ftd.specs.Signed.{signedOf, floatValue}
 use Rattle.ftd.specs.Composition.{appendixE, oneIf, countOf, inRange, composed}
 use Rattle.ftd.specs.Resume.{firstOf, resumeOf}
-use Rattle.ftd.specs.Logins.{loginHeader, loginBytes}
+use Rattle.ftd.specs.Login.{loginHeader, loginBytes}
 use Rattle.ftd.specs.Bench.{upToNine, twelfth, bench}
 
 unfoldable pub opened : Unit {0}
-unfolding be16Of be32Of put front runOf tag lengthRight knownTags countDate goodTags tagPlace tradeDateOf field exactRun saidLength extensionOf versionOf tidOf letterOf seriesOf messageNumberOf fieldCountOf contentLengthOf contentOf restMissing wrongBody isSkipped isLetter chainOf headerOf acceptedOf messageOf wholeOf readOf withMark datedOf notOnePacket noMessagePacket packetBytes headerBytes messageBytes shaped piecesOf headerFor packetFor packetsOf packet enumerations table rowsOf isListed isNumber withoutPoint isFloat isDate isValue wrongWidth walkOf wrongItem checkOf itemOf itemBytes signedOf floatValue appendixE oneIf countOf inRange composed firstOf resumeOf loginHeader loginBytes upToNine twelfth bench
+unfolding be16Of be32Of put front runOf tag lengthRight knownTags countDate goodTags tagPlace tradeDateOf field exactRun saidLength extensionOf versionOf tidOf letterOf seriesOf messageNumberOf fieldCountOf contentLengthOf contentOf restMissing wrongBody isSkipped isLetter chainOf headerOf acceptedOf messageOf wholeOf readOf withDate datedOf notOnePacket noMessagePacket packetBytes headerBytes messageBytes shaped piecesOf headerFor packetFor packetsOf packetForm enumerations table rowsOf isListed isNumber withoutPoint isFloat isDate isValue wrongWidth walkOf wrongItem checkOf itemOf itemBytes signedOf floatValue appendixE oneIf countOf inRange composed firstOf resumeOf loginHeader loginBytes upToNine twelfth bench
 opened = tt

@@ -1,4 +1,5 @@
 -- Make-up (01, "Typed items", row 10): how often each field occurs in a message, by Appendix E.
+pub mod Rule
 use Prim.Native.Nat.{ℕ, _+_}
 use mathlib.Core.List.{List, [], _∷_, map}
 use mathlib.Core.Bool.{Bool, true, cond, _&&_, _||_}
@@ -12,7 +13,7 @@ use Rattle.ftd.specs.declared.composition.Direction.the-variants.{Up, Do
 
 -- A field that the paper lists for a message (TID and direction), with its least and most count; 0 as the most stands for
 -- "任意", unlimited. The paper prints the most before the least.
-pub record Listed : Type 0 where
+pub record CompositionLine : Type 0 where
   pub tid : ℕ
   pub direction : ℕ
   pub fid : ℕ
@@ -24,10 +25,10 @@ abbrev pub directionOf : Direction → ℕ
 directionOf Up = 0
 directionOf Down = 1
 
-abbrev pub listed : ℕ → Direction → ℕ → ℕ → ℕ → Listed
+abbrev pub listed : ℕ → Direction → ℕ → ℕ → ℕ → CompositionLine
 listed tid d fid least most = record { tid = tid; direction = directionOf d; fid = fid; least = least; most = most }
 
-unfoldable pub appendixE : List Listed
+unfoldable pub appendixE : List CompositionLine
 appendixE =
     -- Error, TID 0x0001, down
     listed 1 Down 5 1 1  -- ErrorField
@@ -166,23 +167,23 @@ appendixE =
     ∷ []
 
 -- The table in columns, as the code has it, and its line i.
-unfoldable pub tids : List ℕ
-tids = map (λ (r : Listed). r .tid) appendixE
+unfoldable pub lineTids : List ℕ
+lineTids = map (λ (r : CompositionLine). r .tid) appendixE
 
 unfoldable pub directions : List ℕ
-directions = map (λ (r : Listed). r .direction) appendixE
+directions = map (λ (r : CompositionLine). r .direction) appendixE
 
 unfoldable pub fids : List ℕ
-fids = map (λ (r : Listed). r .fid) appendixE
+fids = map (λ (r : CompositionLine). r .fid) appendixE
 
 unfoldable pub leasts : List ℕ
-leasts = map (λ (r : Listed). r .least) appendixE
+leasts = map (λ (r : CompositionLine). r .least) appendixE
 
 unfoldable pub mosts : List ℕ
-mosts = map (λ (r : Listed). r .most) appendixE
+mosts = map (λ (r : CompositionLine). r .most) appendixE
 
-unfoldable pub lineAt : ℕ → Listed
-lineAt i = record { tid = getD tids i 0; direction = getD directions i 0; fid = getD fids i 0; least = getD leasts i 0; most = getD mosts i 0 }
+unfoldable pub lineAt : ℕ → CompositionLine
+lineAt i = record { tid = getD lineTids i 0; direction = getD directions i 0; fid = getD fids i 0; least = getD leasts i 0; most = getD mosts i 0 }
 
 -- ─── Counts ───
 
@@ -204,11 +205,11 @@ inRange least most n = leb least n && (eqb most 0 || leb n most)
 -- ─── Make-up ───
 
 -- A line of Appendix E is of the message, and the content has its field as often as it says; lines of other messages say nothing.
-abbrev pub lineHolds : Listed → ℕ → ℕ → List ℕ → Bool
+abbrev pub lineHolds : CompositionLine → ℕ → ℕ → List ℕ → Bool
 lineHolds r tid direction content =
     cond (eqb (r .tid) tid && eqb (r .direction) direction) (inRange (r .least) (r .most) (countOf (r .fid) content)) true
 
-abbrev pub allHold : List Listed → ℕ → ℕ → List ℕ → Bool
+abbrev pub allHold : List CompositionLine → ℕ → ℕ → List ℕ → Bool
 allHold [] tid direction content = true
 allHold (r ∷ rs) tid direction content = lineHolds r tid direction content && allHold rs tid direction content
 

@@ -2,7 +2,7 @@
 use Prim.Native.Nat.{ℕ}
 use mathlib.Core.List.{List}
 use mathlib.Core.Bool.{cond}
-use Rattle.ftd.specs.Chains.{shaped}
+use Rattle.ftd.specs.Chain.{shaped}
 use Rattle.ftd.specs.Items.{checkOf}
 use Rattle.ftd.specs.Composition.{composed}
 use Rattle.ftd.specs.declared.refusal.Refusal.the-variants.{FieldRun, Composition}
@@ -11,14 +11,14 @@ use Rattle.ftd.specs.declared.items.Checked.{Checked}
 use Rattle.ftd.specs.declared.items.Checked.the-variants.{Passed, Refused}
 
 -- A refusal stands; what passed goes on to the next test.
-abbrev pub before : Checked → Checked → Checked
-before Passed next = next
-before (Refused r) next = Refused r
+abbrev pub passedThen : Checked → Checked → Checked
+passedThen Passed next = next
+passedThen (Refused r) next = Refused r
 
 -- Of content that is given for a message: whole fields within the limit (7), widths (8), items (9), make-up (10).
-unfoldable pub contentOf : ℕ → Direction → List ℕ → ℕ → Checked
-contentOf tid d content limit =
+unfoldable pub contentCheck : ℕ → Direction → List ℕ → ℕ → Checked
+contentCheck tid d content limit =
     cond (shaped content limit)
-    (before (checkOf content)
+    (passedThen (checkOf content)
     (cond (composed tid d content) Passed (Refused Composition)))
     (Refused FieldRun)

@@ -1,4 +1,5 @@
 -- The content of a message (4.2; 01, "Message packet"): a run of data fields, each FID 4 bytes, length 2, that many bytes.
+pub mod Laws
 use Prim.Native.Nat.{ℕ, zero, suc, _+_, _-_, _≤_}
 use mathlib.Core.List.{List, [], _∷_, _++_, map}
 use mathlib.Core.Bool.{Bool, _&&_}
@@ -36,13 +37,13 @@ exactRun content count = exactly (runOf field content) count
 -- ─── Field i, counted from 0 ───
 
 -- In a list of fields that starts at `at`: FID, and place and length of the bytes without FID and length.
-abbrev pub placeIn : ℕ → List (List ℕ) → ℕ → FieldPlace
-placeIn at [] i = NoField
-placeIn at (f ∷ fs) zero = Field (fidOf f) (at + 6) (length f - 6)
-placeIn at (f ∷ fs) (suc i) = placeIn (at + length f) fs i
+abbrev pub fieldIn : ℕ → List (List ℕ) → ℕ → FieldPlace
+fieldIn at [] i = NoField
+fieldIn at (f ∷ fs) zero = Field (fidOf f) (at + 6) (length f - 6)
+fieldIn at (f ∷ fs) (suc i) = fieldIn (at + length f) fs i
 
-unfoldable pub placeOf : List ℕ → ℕ → FieldPlace
-placeOf content i = placeIn 0 (fieldsOf content) i
+unfoldable pub fieldPlaceOf : List ℕ → ℕ → FieldPlace
+fieldPlaceOf content i = fieldIn 0 (fieldsOf content) i
 
 -- The bytes lie inside the content.
 abbrev pub FieldInside : List ℕ → FieldPlace → Type 0

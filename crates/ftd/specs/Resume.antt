@@ -10,7 +10,7 @@ use Rattle.ftd.specs.Bytes.{be16Of, be32Of, bytes16, bytes32}
 use Rattle.ftd.specs.Runs.{runOf, ended}
 use Rattle.ftd.specs.Fields.{field, fieldsOf, fidOf}
 use Rattle.ftd.specs.Composition.{oneIf, countOf, composed}
-use Rattle.ftd.specs.Chains.{shaped}
+use Rattle.ftd.specs.Chain.{shaped}
 use Rattle.ftd.specs.Items.{wrongWidth, wrongItem}
 use Rattle.ftd.specs.declared.composition.Direction.{Direction}
 use Rattle.ftd.specs.declared.fields.FieldPlace.{FieldPlace}

@@ -20,13 +20,13 @@ pub record Run : Type 0 where
   pub entries : List (List ℕ)
   pub rest : List ℕ
 
-abbrev pub behind : List ℕ → Run → Run
-behind e r = record { entries = e ∷ r .entries; rest = r .rest }
+abbrev pub inFront : List ℕ → Run → Run
+inFront e r = record { entries = e ∷ r .entries; rest = r .rest }
 
 -- One entry of n bytes is cut off, and `more` goes on; with 0 the run is over.
 abbrev pub cutOff : (List ℕ → Run) → List ℕ → ℕ → Run
 cutOff more l zero = record { entries = []; rest = l }
-cutOff more l (suc k) = behind (take (suc k) l) (more (drop (suc k) l))
+cutOff more l (suc k) = inFront (take (suc k) l) (more (drop (suc k) l))
 
 -- At most `most` entries.
 abbrev pub runIn : Form → ℕ → List ℕ → Run

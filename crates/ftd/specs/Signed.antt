@@ -1,4 +1,6 @@
 -- The value of a Number or a Float (01, "Typed items"): a sign and a whole number of units, which are 1 or 10 to the power -b.
+pub mod Write
+pub mod Integer
 use Prim.Native.Nat.{ℕ, zero, suc, _+_, _*_}
 use mathlib.Core.List.{List, [], _∷_}
 use mathlib.Core.Bool.{true, false, cond, _&&_}

@@ -23,27 +23,27 @@ tag = record { head = 2; follow = λ l. getD l 1 0 }
 abbrev pub tagsOf : List ℕ → List (List ℕ)
 tagsOf extension = runOf tag extension .entries
 
-abbrev pub kindOf : List ℕ → ℕ
-kindOf t = getD t 0 0
+abbrev pub tagKind : List ℕ → ℕ
+tagKind t = getD t 0 0
 
-abbrev pub lengthOf : List ℕ → ℕ
-lengthOf t = getD t 1 0
+abbrev pub tagLength : List ℕ → ℕ
+tagLength t = getD t 1 0
 
 -- ─── The known tags ───
 
-pub record Known : Type 0 where
+pub record KnownTag : Type 0 where
   pub kind : ℕ
   pub length : ℕ
 
-abbrev pub known : ℕ → ℕ → Known
-known k n = record { kind = k; length = n }
+abbrev pub knownTag : ℕ → ℕ → KnownTag
+knownTag k n = record { kind = k; length = n }
 
 -- Kinds and lengths of their data, as the paper lists them.
-unfoldable pub knownTags : List Known
-knownTags = known 0 0 ∷ known 1 4 ∷ known 2 1 ∷ known 3 1 ∷ known 4 0 ∷ known 5 4 ∷ known 6 2 ∷ []
+unfoldable pub knownTags : List KnownTag
+knownTags = knownTag 0 0 ∷ knownTag 1 4 ∷ knownTag 2 1 ∷ knownTag 3 1 ∷ knownTag 4 0 ∷ knownTag 5 4 ∷ knownTag 6 2 ∷ []
 
 -- The length is the one that the list has for the kind; of a kind that it does not have each length is right.
-abbrev pub rightIn : List Known → ℕ → ℕ → Bool
+abbrev pub rightIn : List KnownTag → ℕ → ℕ → Bool
 rightIn [] kind len = true
 rightIn (k ∷ ks) kind len = cond (eqb (k .kind) kind) (eqb (k .length) len) (rightIn ks kind len)
 
@@ -53,14 +53,14 @@ lengthRight kind len = rightIn knownTags kind len
 -- The first row of a kind: its place in the list, or 7 where the list does not have it. From there on the list says the same.
 pub record KnownRow (kind row : ℕ) : Type 0 where
   pub low : row ≤ 7
-  pub here : row < 7 → getD (map (λ (k : Known). k .kind) knownTags) row 0 ≡ kind
+  pub here : row < 7 → getD (map (λ (k : KnownTag). k .kind) knownTags) row 0 ≡ kind
   pub same : (len : ℕ) → rightIn (drop row knownTags) kind len ≡ lengthRight kind len
 
 -- ─── Refusal 2: the extension check ───
 
 abbrev pub allRight : List (List ℕ) → Bool
 allRight [] = true
-allRight (t ∷ ts) = lengthRight (kindOf t) (lengthOf t) && allRight ts
+allRight (t ∷ ts) = lengthRight (tagKind t) (tagLength t) && allRight ts
 
 -- One more where the kind is 0x05, the trade date.
 unfoldable pub countDate : ℕ → ℕ → ℕ
@@ -69,7 +69,7 @@ countDate kind n = cond (eqb kind 5) (n + 1) n
 -- How often 0x05 stands among the tags, counted on from n.
 abbrev pub dates : List (List ℕ) → ℕ → ℕ
 dates [] n = n
-dates (t ∷ ts) n = dates ts (countDate (kindOf t) n)
+dates (t ∷ ts) n = dates ts (countDate (tagKind t) n)
 
 -- The tags end with the extension, the known ones have their lengths, and 0x05 does not stand twice.
 abbrev pub goodRun : Run → ℕ → Bool
@@ -81,12 +81,12 @@ goodTags extension = goodRun (runOf tag extension) 0
 -- ─── The tags that have a meaning here ───
 
 -- The place of the data of the first tag of a kind, in a list of tags that starts at `at`.
-abbrev pub placeIn : ℕ → List (List ℕ) → ℕ → TagPlace
-placeIn at [] kind = NoTag
-placeIn at (t ∷ ts) kind = cond (eqb (kindOf t) kind) (Data (at + 2) (length t - 2)) (placeIn (at + length t) ts kind)
+abbrev pub tagIn : ℕ → List (List ℕ) → ℕ → TagPlace
+tagIn at [] kind = NoTag
+tagIn at (t ∷ ts) kind = cond (eqb (tagKind t) kind) (Data (at + 2) (length t - 2)) (tagIn (at + length t) ts kind)
 
 unfoldable pub tagPlace : List ℕ → ℕ → TagPlace
-tagPlace extension kind = placeIn 0 (tagsOf extension) kind
+tagPlace extension kind = tagIn 0 (tagsOf extension) kind
 
 -- The data lies inside the extension.
 abbrev pub TagInside : List ℕ → TagPlace → Type 0
@@ -106,8 +106,8 @@ unfoldable pub tagRunOf : List ℕ → TagRun
 tagRunOf extension = cond (goodTags extension) (Good (tradeDateOf extension)) Broken
 
 -- Where the data of the trade date lies that is seen last.
-unfoldable pub markPlace : ℕ → ℕ → ℕ → ℕ
-markPlace kind place at = cond (eqb kind 5) (at + 2) place
+unfoldable pub datePlace : ℕ → ℕ → ℕ → ℕ
+datePlace kind place at = cond (eqb kind 5) (at + 2) place
 
 -- The keep-alive tag 0x04 is there.
 abbrev pub isThere : TagPlace → Bool

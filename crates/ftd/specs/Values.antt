@@ -1,4 +1,6 @@
 -- Which bytes are a value of an item's type (01, "Typed items"; Table 6 and Appendix B).
+pub mod Laws
+pub mod Helpers
 use Prim.Native.Nat.{ℕ, _+_, _-_, _*_}
 use mathlib.Core.List.{List, [], _∷_, _++_}
 use mathlib.Core.Bool.{Bool, true, false, cond, not, _&&_, _||_}
@@ -66,8 +68,8 @@ twoDigits a b = digitOf a * 10 + digitOf b
 abbrev pub monthOf : List ℕ → ℕ
 monthOf l = twoDigits (getD l 4 0) (getD l 5 0)
 
-abbrev pub dayOf : List ℕ → ℕ
-dayOf l = twoDigits (getD l 6 0) (getD l 7 0)
+abbrev pub dayDigits : List ℕ → ℕ
+dayDigits l = twoDigits (getD l 6 0) (getD l 7 0)
 
 -- Month 01 to 12, day 01 to 31.
 abbrev pub rightDay : ℕ → ℕ → Bool
@@ -76,7 +78,7 @@ rightDay month day = (leb 1 month && leb month 12) && (leb 1 day && leb day 31)
 -- All spaces, or YYYYMMDD with month 01 to 12 and day 01 to 31.
 unfoldable pub isDate : List ℕ → Bool
 isDate l =
-    eqb (length l) 8 && (every isSpace l || (every isDigit l && rightDay (monthOf l) (dayOf l)))
+    eqb (length l) 8 && (every isSpace l || (every isDigit l && rightDay (monthOf l) (dayDigits l)))
 
 -- ─── An item ───
 

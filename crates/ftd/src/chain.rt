@@ -7,9 +7,9 @@ ghost use lib.ListN.{length, getD};
 ghost use Rattle.ftd.specs.Bytes.{put, joined};
 ghost use Rattle.ftd.specs.Runs.{runOf};
 ghost use Rattle.ftd.specs.Fields.{field};
-ghost use Rattle.ftd.specs.Writing.{messageBytes, answerOf, outputOf};
-ghost use Rattle.ftd.specs.ChainLaws.{ChainLaws};
-ghost use Rattle.ftd.specs.Chains.{shapely, shaped, NextPiece, FoundPiece, pieceAt, tagsFor, extensionBytes, chainAt, packetFor, packetsOf, PutRest, measureOf, sizeAnswer, chainVerdict, placeVerdict};
+ghost use Rattle.ftd.specs.Write.{messageBytes, writtenAnswer, writtenOutput};
+ghost use Rattle.ftd.specs.Chain.Laws.{ChainLaws};
+ghost use Rattle.ftd.specs.Chain.{shapely, shaped, NextPiece, FoundPiece, pieceAt, tagsFor, extensionBytes, chainAt, packetFor, packetsOf, PutRest, measureOf, sizeAnswer, chainVerdict, placeVerdict};
 use crate::bytes::copy_at;
 use crate::bytes::put8;
 use crate::bytes::put32;
@@ -256,7 +256,7 @@ pub fn chain_size(m: Message, content: &[u8]) -> ChainSize
 
 // All packets of a message, one behind the other.
 pub fn write_chain(m: Message, content: &[u8], out: &mut [u8]) -> Written
-    ensures { λ r. ⌜ (r ≡ answerOf (chainVerdict (now (content .entry))) (joined (packetsOf m (now (content .entry)))) (now (out .entry))) × (now (out .exit) ≡ outputOf (chainVerdict (now (content .entry))) (joined (packetsOf m (now (content .entry)))) (now (out .entry))) ⌝ }
+    ensures { λ r. ⌜ (r ≡ writtenAnswer (chainVerdict (now (content .entry))) (joined (packetsOf m (now (content .entry)))) (now (out .entry))) × (now (out .exit) ≡ writtenOutput (chainVerdict (now (content .entry))) (joined (packetsOf m (now (content .entry)))) (now (out .entry))) ⌝ }
 {
     let date = m.date;
     if 32768 < content.len() {
@@ -295,7 +295,7 @@ fn find_piece(content: &[u8], i: usize) -> PiecePlace
 
 // Packet i of a message, counted from 0.
 pub fn write_packet(m: Message, content: &[u8], i: usize, out: &mut [u8]) -> Written
-    ensures { λ r. ⌜ (r ≡ answerOf (placeVerdict m (now (content .entry)) i) (getD (packetsOf m (now (content .entry))) i []) (now (out .entry))) × (now (out .exit) ≡ outputOf (placeVerdict m (now (content .entry)) i) (getD (packetsOf m (now (content .entry))) i []) (now (out .entry))) ⌝ }
+    ensures { λ r. ⌜ (r ≡ writtenAnswer (placeVerdict m (now (content .entry)) i) (getD (packetsOf m (now (content .entry))) i []) (now (out .entry))) × (now (out .exit) ≡ writtenOutput (placeVerdict m (now (content .entry)) i) (getD (packetsOf m (now (content .entry))) i []) (now (out .entry))) ⌝ }
 {
     let date = m.date;
     if is_shaped(content, 32768) {

@@ -2,7 +2,7 @@
 ghost use mathlib.Core.Path.{_≡_};
 ghost use Prim.Native.Nat.{_+_, _<_, _≤_};
 ghost use lib.ListN.{length, getD};
-ghost use Rattle.ftd.specs.CompositionRule.{CompositionRule};
+ghost use Rattle.ftd.specs.Composition.Rule.{CompositionRule};
 ghost use Rattle.ftd.specs.Composition.{directionOf, oneIf, countOf, inRange, appendixE, lineAt, lineHolds, allHold, composed};
 use crate::bytes::be32;
 use crate::bytes::number16;

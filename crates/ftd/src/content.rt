@@ -1,7 +1,7 @@
 // The content check: refusals 7, 8, 9 and 10, in that order. Its parts are `chain::is_shaped`, `items::wrong_width`,
 // `items::walk_items` and `composition::is_composed`.
 ghost use mathlib.Core.Path.{_≡_};
-ghost use Rattle.ftd.specs.Content.{contentOf};
+ghost use Rattle.ftd.specs.Content.{contentCheck};
 use crate::chain::is_shaped;
 use crate::composition::Direction;
 use crate::composition::is_composed;
@@ -11,7 +11,7 @@ use crate::refusal::Refusal;
 
 // The first refusal of content that is given for a message, or none.
 pub fn check_content(tid: u32, direction: Direction, content: &[u8], limit: usize) -> Checked
-    ensures { λ r. ⌜ r ≡ contentOf tid direction (now (content .entry)) limit ⌝ }
+    ensures { λ r. ⌜ r ≡ contentCheck tid direction (now (content .entry)) limit ⌝ }
 {
     if is_shaped(content, limit) {
         match check_items(content) {

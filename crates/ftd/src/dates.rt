@@ -3,13 +3,13 @@ ghost use mathlib.Core.Path.{_≡_};
 ghost use Prim.Native.Nat.{_≤_};
 ghost use lib.ListN.{length};
 ghost use Rattle.ftd.specs.Bytes.{put};
-ghost use Rattle.ftd.specs.Writing.{answerOf, outputOf};
-ghost use Rattle.ftd.specs.WriteValues.{fitVerdict};
-ghost use Rattle.ftd.specs.Values.{monthOf, dayOf};
+ghost use Rattle.ftd.specs.Write.{writtenAnswer, writtenOutput};
+ghost use Rattle.ftd.specs.Signed.Write.{fitVerdict};
+ghost use Rattle.ftd.specs.Values.{monthOf, dayDigits};
 ghost use Rattle.ftd.specs.Dates.{yearOf, dateValue, dateBytes, dateFits};
 use crate::bytes::wide16;
 use crate::refusal::Refusal;
-use crate::store::put_digits;
+use crate::signed::put_digits;
 use crate::texts::put_spaces;
 use crate::values::Class;
 use crate::values::all_in;
@@ -36,7 +36,7 @@ fn year(s: &[u8]) -> u16
 // The day in eight bytes.
 fn day(s: &[u8]) -> Date
     requires { ⌜ length (now s) ≡ 8 ⌝ }
-    ensures { λ r. ⌜ r ≡ Date.Day (yearOf (now (s .entry))) (monthOf (now (s .entry))) (dayOf (now (s .entry))) ⌝ }
+    ensures { λ r. ⌜ r ≡ Date.Day (yearOf (now (s .entry))) (monthOf (now (s .entry))) (dayDigits (now (s .entry))) ⌝ }
 {
     Date::Day {
         year: year(s),
@@ -105,8 +105,8 @@ fn put_date(out: &mut [u8], v: Date)
 
 // A value as a Date.
 pub fn write_date(out: &mut [u8], v: Date) -> Written
-    ensures answer { λ r. ⌜ r ≡ answerOf (fitVerdict (dateFits v)) (dateBytes v) (now (out .entry)) ⌝ }
-    ensures output { λ _. ⌜ now (out .exit) ≡ outputOf (fitVerdict (dateFits v)) (dateBytes v) (now (out .entry)) ⌝ }
+    ensures answer { λ r. ⌜ r ≡ writtenAnswer (fitVerdict (dateFits v)) (dateBytes v) (now (out .entry)) ⌝ }
+    ensures output { λ _. ⌜ now (out .exit) ≡ writtenOutput (fitVerdict (dateFits v)) (dateBytes v) (now (out .entry)) ⌝ }
 {
     if date_fits(v) {
         if out.len() < 8 {

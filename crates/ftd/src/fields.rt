@@ -4,9 +4,9 @@ ghost use Prim.Native.Nat.{_+_, _-_, _<_, _≤_};
 ghost use lib.ListN.{length, drop};
 ghost use Rattle.ftd.specs.Bytes.{put};
 ghost use Rattle.ftd.specs.Runs.{front};
-ghost use Rattle.ftd.specs.Fields.{field, exactRun, placeOf, FieldInside, fieldWith};
-ghost use Rattle.ftd.specs.FieldLaws.{FieldLaws};
-ghost use Rattle.ftd.specs.Writing.{fieldVerdict, answerOf, outputOf};
+ghost use Rattle.ftd.specs.Fields.{field, exactRun, fieldPlaceOf, FieldInside, fieldWith};
+ghost use Rattle.ftd.specs.Fields.Laws.{FieldLaws};
+ghost use Rattle.ftd.specs.Write.{fieldVerdict, writtenAnswer, writtenOutput};
 use crate::bytes::be16;
 use crate::bytes::be32;
 use crate::bytes::copy_at;
@@ -62,7 +62,7 @@ pub fn exact_run(content: &[u8], count: u16) -> bool
 
 // Field i of a content, counted from 0.
 pub fn field_place(content: &[u8], i: usize) -> FieldPlace
-    ensures { λ r. ⌜ (r ≡ placeOf (now (content .entry)) i) × FieldInside (now (content .entry)) r ⌝ }
+    ensures { λ r. ⌜ (r ≡ fieldPlaceOf (now (content .entry)) i) × FieldInside (now (content .entry)) r ⌝ }
 {
     let mut at: usize = 0;
     let mut left = i;
@@ -95,7 +95,7 @@ fn put_field(out: &mut [u8], to: usize, fid: u32, bytes: &[u8])
 
 // A field with a FID and bytes, at the start of the output.
 pub fn write_field(fid: u32, bytes: &[u8], out: &mut [u8]) -> Written
-    ensures { λ r. ⌜ (r ≡ answerOf (fieldVerdict (now (bytes .entry))) (fieldWith fid (now (bytes .entry))) (now (out .entry))) × (now (out .exit) ≡ outputOf (fieldVerdict (now (bytes .entry))) (fieldWith fid (now (bytes .entry))) (now (out .entry))) ⌝ }
+    ensures { λ r. ⌜ (r ≡ writtenAnswer (fieldVerdict (now (bytes .entry))) (fieldWith fid (now (bytes .entry))) (now (out .entry))) × (now (out .exit) ≡ writtenOutput (fieldVerdict (now (bytes .entry))) (fieldWith fid (now (bytes .entry))) (now (out .entry))) ⌝ }
 {
     if 4074 < bytes.len() {
         return Written::Refused(Refusal::FieldRun);

@@ -3,12 +3,12 @@ ghost use mathlib.Core.Bool.{_&&_};
 ghost use mathlib.Core.Path.{_≡_};
 ghost use lib.Dec.{ltb, eqb};
 ghost use Rattle.ftd.specs.Bytes.{bytes16, bytes32};
-ghost use Rattle.ftd.specs.Writing.{answerOf, outputOf};
-ghost use Rattle.ftd.specs.WriteValues.{fitVerdict, numberBytes, numberFits, floatBytes, floatFits};
+ghost use Rattle.ftd.specs.Write.{writtenAnswer, writtenOutput};
+ghost use Rattle.ftd.specs.Signed.Write.{fitVerdict, numberBytes, numberFits, floatBytes, floatFits};
 ghost use Rattle.ftd.specs.Texts.{textBytes, textFits};
 ghost use Rattle.ftd.specs.Dates.{dateBytes, dateFits};
-ghost use Rattle.ftd.specs.Wholes.{charValue, wordValue, intValue};
-ghost use Rattle.ftd.specs.ItemValues.{word, int, char, number, float, wholeAs, signedAs, dateAs, textAs, typedValue, givenAt, itemValueOf, itemFits, itemWritten, ItemLaws};
+ghost use Rattle.ftd.specs.Whole.{charValue, wordValue, intValue};
+ghost use Rattle.ftd.specs.Item.{word, int, char, number, float, wholeAs, signedAs, dateAs, textAs, typedValue, givenAt, itemValueOf, itemFits, itemWritten, ItemLaws};
 use crate::bytes::be16;
 use crate::bytes::be32;
 use crate::dates::Date;
@@ -20,8 +20,8 @@ use crate::refusal::Refusal;
 use crate::signed::Signed;
 use crate::signed::read_float;
 use crate::signed::read_number;
-use crate::store::write_float;
-use crate::store::write_number;
+use crate::signed::write_float;
+use crate::signed::write_number;
 use crate::texts::text_size;
 use crate::texts::write_text;
 use crate::values::Class;
@@ -157,8 +157,8 @@ pub fn read_item(fid: u32, i: usize, field: &[u8]) -> FieldItem
 
 // A value written as its type; an item of another type is refused.
 fn word_out(out: &mut [u8], kind: u8, x: u16) -> Written
-    ensures answer { λ r. ⌜ r ≡ answerOf (fitVerdict (eqb kind 1 && ltb x 65536)) (bytes16 x) (now (out .entry)) ⌝ }
-    ensures output { λ _. ⌜ now (out .exit) ≡ outputOf (fitVerdict (eqb kind 1 && ltb x 65536)) (bytes16 x) (now (out .entry)) ⌝ }
+    ensures answer { λ r. ⌜ r ≡ writtenAnswer (fitVerdict (eqb kind 1 && ltb x 65536)) (bytes16 x) (now (out .entry)) ⌝ }
+    ensures output { λ _. ⌜ now (out .exit) ≡ writtenOutput (fitVerdict (eqb kind 1 && ltb x 65536)) (bytes16 x) (now (out .entry)) ⌝ }
 {
     if kind == 1 {
         return write_word(out, x);
@@ -167,8 +167,8 @@ fn word_out(out: &mut [u8], kind: u8, x: u16) -> Written
 }
 
 fn int_out(out: &mut [u8], kind: u8, x: u32) -> Written
-    ensures answer { λ r. ⌜ r ≡ answerOf (fitVerdict (eqb kind 2 && ltb x 4294967296)) (bytes32 x) (now (out .entry)) ⌝ }
-    ensures output { λ _. ⌜ now (out .exit) ≡ outputOf (fitVerdict (eqb kind 2 && ltb x 4294967296)) (bytes32 x) (now (out .entry)) ⌝ }
+    ensures answer { λ r. ⌜ r ≡ writtenAnswer (fitVerdict (eqb kind 2 && ltb x 4294967296)) (bytes32 x) (now (out .entry)) ⌝ }
+    ensures output { λ _. ⌜ now (out .exit) ≡ writtenOutput (fitVerdict (eqb kind 2 && ltb x 4294967296)) (bytes32 x) (now (out .entry)) ⌝ }
 {
     if kind == 2 {
         return write_int(out, x);
@@ -177,8 +177,8 @@ fn int_out(out: &mut [u8], kind: u8, x: u32) -> Written
 }
 
 fn text_out(out: &mut [u8], kind: u8, width: usize, t: &[u8]) -> Written
-    ensures answer { λ r. ⌜ r ≡ answerOf (fitVerdict (eqb kind 3 && textFits width (now (t .entry)))) (textBytes width (now (t .entry))) (now (out .entry)) ⌝ }
-    ensures output { λ _. ⌜ now (out .exit) ≡ outputOf (fitVerdict (eqb kind 3 && textFits width (now (t .entry)))) (textBytes width (now (t .entry))) (now (out .entry)) ⌝ }
+    ensures answer { λ r. ⌜ r ≡ writtenAnswer (fitVerdict (eqb kind 3 && textFits width (now (t .entry)))) (textBytes width (now (t .entry))) (now (out .entry)) ⌝ }
+    ensures output { λ _. ⌜ now (out .exit) ≡ writtenOutput (fitVerdict (eqb kind 3 && textFits width (now (t .entry)))) (textBytes width (now (t .entry))) (now (out .entry)) ⌝ }
 {
     if kind == 3 {
         return write_text(out, width, t);
@@ -187,8 +187,8 @@ fn text_out(out: &mut [u8], kind: u8, width: usize, t: &[u8]) -> Written
 }
 
 fn number_out(out: &mut [u8], kind: u8, width: usize, negative: bool, units: u64) -> Written
-    ensures answer { λ r. ⌜ r ≡ answerOf (fitVerdict (eqb kind 4 && numberFits width negative units)) (numberBytes width negative units) (now (out .entry)) ⌝ }
-    ensures output { λ _. ⌜ now (out .exit) ≡ outputOf (fitVerdict (eqb kind 4 && numberFits width negative units)) (numberBytes width negative units) (now (out .entry)) ⌝ }
+    ensures answer { λ r. ⌜ r ≡ writtenAnswer (fitVerdict (eqb kind 4 && numberFits width negative units)) (numberBytes width negative units) (now (out .entry)) ⌝ }
+    ensures output { λ _. ⌜ now (out .exit) ≡ writtenOutput (fitVerdict (eqb kind 4 && numberFits width negative units)) (numberBytes width negative units) (now (out .entry)) ⌝ }
 {
     if kind == 4 {
         return write_number(out, width, negative, units);
@@ -204,8 +204,8 @@ fn float_out(
     negative: bool,
     units: u64,
 ) -> Written
-    ensures answer { λ r. ⌜ r ≡ answerOf (fitVerdict (eqb kind 5 && floatFits scale width negative units)) (floatBytes scale width negative units) (now (out .entry)) ⌝ }
-    ensures output { λ _. ⌜ now (out .exit) ≡ outputOf (fitVerdict (eqb kind 5 && floatFits scale width negative units)) (floatBytes scale width negative units) (now (out .entry)) ⌝ }
+    ensures answer { λ r. ⌜ r ≡ writtenAnswer (fitVerdict (eqb kind 5 && floatFits scale width negative units)) (floatBytes scale width negative units) (now (out .entry)) ⌝ }
+    ensures output { λ _. ⌜ now (out .exit) ≡ writtenOutput (fitVerdict (eqb kind 5 && floatFits scale width negative units)) (floatBytes scale width negative units) (now (out .entry)) ⌝ }
 {
     if kind == 5 {
         return write_float(out, scale, width, negative, units);
@@ -214,8 +214,8 @@ fn float_out(
 }
 
 fn date_out(out: &mut [u8], kind: u8, v: Date) -> Written
-    ensures answer { λ r. ⌜ r ≡ answerOf (fitVerdict (eqb kind 6 && dateFits v)) (dateBytes v) (now (out .entry)) ⌝ }
-    ensures output { λ _. ⌜ now (out .exit) ≡ outputOf (fitVerdict (eqb kind 6 && dateFits v)) (dateBytes v) (now (out .entry)) ⌝ }
+    ensures answer { λ r. ⌜ r ≡ writtenAnswer (fitVerdict (eqb kind 6 && dateFits v)) (dateBytes v) (now (out .entry)) ⌝ }
+    ensures output { λ _. ⌜ now (out .exit) ≡ writtenOutput (fitVerdict (eqb kind 6 && dateFits v)) (dateBytes v) (now (out .entry)) ⌝ }
 {
     if kind == 6 {
         return write_date(out, v);
@@ -226,8 +226,8 @@ fn date_out(out: &mut [u8], kind: u8, v: Date) -> Written
 // A value as item i of a field, at the start of the output; of a text, the bytes given beside it. What does not fit the item is
 // refused with 9, and so is a value where there is no such item.
 pub fn write_item(fid: u32, i: usize, value: FieldItem, text: &[u8], out: &mut [u8]) -> Written
-    ensures answer { λ r. ⌜ r ≡ answerOf (fitVerdict (itemFits fid i value (now (text .entry)))) (itemWritten fid i value (now (text .entry))) (now (out .entry)) ⌝ }
-    ensures output { λ _. ⌜ now (out .exit) ≡ outputOf (fitVerdict (itemFits fid i value (now (text .entry)))) (itemWritten fid i value (now (text .entry))) (now (out .entry)) ⌝ }
+    ensures answer { λ r. ⌜ r ≡ writtenAnswer (fitVerdict (itemFits fid i value (now (text .entry)))) (itemWritten fid i value (now (text .entry))) (now (out .entry)) ⌝ }
+    ensures output { λ _. ⌜ now (out .exit) ≡ writtenOutput (fitVerdict (itemFits fid i value (now (text .entry)))) (itemWritten fid i value (now (text .entry))) (now (out .entry)) ⌝ }
 {
     match item_place(fid, i) {
         ItemPlace::NoItem => Written::Refused(Refusal::Item),

@@ -3,7 +3,7 @@ ghost use mathlib.Core.Bool.{true};
 ghost use mathlib.Core.Path.{_≡_};
 ghost use Prim.Native.Nat.{_+_, _<_, _≤_};
 ghost use lib.ListN.{length, take, drop};
-ghost use Rattle.ftd.specs.TableRule.{rowAt, kindColumn, widthColumn, scaleColumn};
+ghost use Rattle.ftd.specs.Table.Rule.{rowAt, kindColumn, widthColumn, scaleColumn};
 ghost use Rattle.ftd.specs.Items.{otherWidth, wrongWidth, itemGood, walkOf, wrongItem, checkOf};
 use crate::bytes::be32;
 use crate::bytes::size32;

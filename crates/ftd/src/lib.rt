@@ -17,13 +17,11 @@ pub mod values; // which bytes are a value of an item's type
 pub mod content; // the content check as one
 pub mod mode; // the mode of a message type
 pub mod places; // an item of a field by place
-pub mod signed; // Numbers and Floats: signed values
-pub mod store; // values of Number and Float, written
+pub mod signed; // Numbers and Floats: read, written, and as signed integers
 pub mod texts; // values of String, read and written
 pub mod whole; // values of Char, Word and Int, read and written
 pub mod dates; // values of Date, read and written
 pub mod item; // values of items, by FID and item number
-pub mod plain; // values of Number and Float as plain signed numbers
 
 // Demand 2, as a promise.
 pub fn keeps_demand_two()

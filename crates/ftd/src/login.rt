@@ -5,9 +5,9 @@ ghost use Prim.Native.Nat.{_+_, _<_, _≤_};
 ghost use lib.ListN.{length};
 ghost use Rattle.ftd.specs.Bytes.{put};
 ghost use Rattle.ftd.specs.Fields.{fieldsOf};
-ghost use Rattle.ftd.specs.Writing.{answerOf, outputOf};
-ghost use Rattle.ftd.specs.Chains.{tagsFor, extensionBytes};
-ghost use Rattle.ftd.specs.Logins.{loginBytes, endingBytes, loginVerdict, LoginLaws};
+ghost use Rattle.ftd.specs.Write.{writtenAnswer, writtenOutput};
+ghost use Rattle.ftd.specs.Chain.{tagsFor, extensionBytes};
+ghost use Rattle.ftd.specs.Login.{loginBytes, endingBytes, loginVerdict, LoginLaws};
 use crate::bytes::copy_at;
 use crate::chain::next_piece;
 use crate::chain::put_tags;
@@ -91,7 +91,7 @@ fn put_login(out: &mut [u8], date: TradeDate, content: &[u8], ending: Ending, fi
 // A login packet or its answer; refused with 7 where the content is not whole fields, or more than one packet holds with what stands
 // behind it. One walk: the first piece is all of the content, or something is wrong with it.
 pub fn write_login(date: TradeDate, content: &[u8], ending: Ending, out: &mut [u8]) -> Written
-    ensures { λ r. ⌜ (r ≡ answerOf (loginVerdict (now (content .entry)) ending) (loginBytes date (now (content .entry) ++ endingBytes ending)) (now (out .entry))) × (now (out .exit) ≡ outputOf (loginVerdict (now (content .entry)) ending) (loginBytes date (now (content .entry) ++ endingBytes ending)) (now (out .entry))) ⌝ }
+    ensures { λ r. ⌜ (r ≡ writtenAnswer (loginVerdict (now (content .entry)) ending) (loginBytes date (now (content .entry) ++ endingBytes ending)) (now (out .entry))) × (now (out .exit) ≡ writtenOutput (loginVerdict (now (content .entry)) ending) (loginBytes date (now (content .entry) ++ endingBytes ending)) (now (out .entry))) ⌝ }
 {
     let tail = ending_len(ending);
     if 4080 - tail < content.len() {

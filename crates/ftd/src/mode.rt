@@ -1,6 +1,6 @@
 // The mode of a message, by its TID.
 ghost use mathlib.Core.Path.{_≡_};
-ghost use Rattle.ftd.specs.Modes.{modeOf};
+ghost use Rattle.ftd.specs.Mode.{modeOf};
 
 pub enum Mode {
     Private,

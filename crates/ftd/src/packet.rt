@@ -5,9 +5,9 @@ ghost use Prim.Native.Nat.{_+_, _<_, _≤_};
 ghost use lib.ListN.{length, getD};
 ghost use Rattle.ftd.specs.Bench.{Bench};
 ghost use Rattle.ftd.specs.Fields.{FieldInside};
-ghost use Rattle.ftd.specs.Laws.{ReadLaws};
+ghost use Rattle.ftd.specs.Packet.Laws.{ReadLaws};
 ghost use Rattle.ftd.specs.Tags.{tradeDateOf};
-ghost use Rattle.ftd.specs.Packets.{saidIn, Said, kindOf, extensionLength, bodyLength, notOnePacket, noMessagePacket, wrongBody, isSkipped, isLetter, chainOf, chainLetter, headerOf, acceptedOf, messageOf, wholeOf, readOf, extensionOf, bearsMark, withMark, datedOf, FitsIn, movedBy, fieldOf, fieldBytes};
+ghost use Rattle.ftd.specs.Packet.{saidIn, SaysLengths, kindOf, extensionLength, bodyLength, notOnePacket, noMessagePacket, wrongBody, isSkipped, isLetter, chainOf, chainLetter, headerOf, acceptedOf, messageOf, wholeOf, readOf, extensionOf, bearsDate, withDate, datedOf, FitsIn, movedBy, fieldOf, fieldBytes};
 use crate::bytes::be16;
 use crate::bytes::be32;
 use crate::bytes::size8;
@@ -211,7 +211,7 @@ fn header_of(p: &[u8], ext: usize) -> Header
 
 // A message packet with nothing wrong: its values and places.
 fn accept(p: &[u8], ext: usize, body: usize) -> Packet
-    requires { ⌜ Said (now p) ext body × (4 + ext + body ≤ length (now p)) × (16 ≤ body) ⌝ }
+    requires { ⌜ SaysLengths (now p) ext body × (4 + ext + body ≤ length (now p)) × (16 ≤ body) ⌝ }
     ensures { λ r. ⌜ r ≡ acceptedOf (now (p .entry)) ⌝ }
 {
     Packet::Message {
@@ -226,7 +226,7 @@ fn accept(p: &[u8], ext: usize, body: usize) -> Packet
 
 // A message packet that is there whole: refusals 4 to 7, or its values.
 fn read_message(p: &[u8], ext: usize, body: usize) -> Packet
-    requires { ⌜ Said (now p) ext body × (4 + ext + body ≤ length (now p)) × (16 ≤ body) ⌝ }
+    requires { ⌜ SaysLengths (now p) ext body × (4 + ext + body ≤ length (now p)) × (16 ≤ body) ⌝ }
     ensures { λ r. ⌜ r ≡ messageOf (now (p .entry)) ⌝ }
 {
     let at = 4 + ext;
@@ -247,7 +247,7 @@ fn read_message(p: &[u8], ext: usize, body: usize) -> Packet
 
 // A link packet or a message packet.
 fn bears_mark(packet: Packet) -> bool
-    ensures { λ r. ⌜ r ≡ bearsMark packet ⌝ }
+    ensures { λ r. ⌜ r ≡ bearsDate packet ⌝ }
 {
     match packet {
         Packet::Short => false,
@@ -271,7 +271,7 @@ fn bears_mark(packet: Packet) -> bool
 
 // The mark goes with what bears one.
 fn with_mark(packet: Packet, date: TradeDate) -> Dated
-    ensures { λ r. ⌜ r ≡ withMark packet date ⌝ }
+    ensures { λ r. ⌜ r ≡ withDate packet date ⌝ }
 {
     if bears_mark(packet) {
         return Dated {
@@ -287,8 +287,8 @@ fn with_mark(packet: Packet, date: TradeDate) -> Dated
 
 // A packet that is there whole: skipped, refused with 2, a link packet or a message packet.
 fn read_whole(p: &[u8], kind: u8, ext: usize, body: usize) -> Dated
-    requires { ⌜ Said (now p) ext body × (kind ≡ kindOf (now p)) × (4 + ext + body ≤ length (now p)) × (wrongBody kind body ≡ false) ⌝ }
-    ensures { λ r. ⌜ r ≡ withMark (wholeOf (now (p .entry))) (tradeDateOf (extensionOf (now (p .entry)))) ⌝ }
+    requires { ⌜ SaysLengths (now p) ext body × (kind ≡ kindOf (now p)) × (4 + ext + body ≤ length (now p)) × (wrongBody kind body ≡ false) ⌝ }
+    ensures { λ r. ⌜ r ≡ withDate (wholeOf (now (p .entry))) (tradeDateOf (extensionOf (now (p .entry)))) ⌝ }
 {
     let at = 4 + ext;
     if is_skipped(kind, body) {

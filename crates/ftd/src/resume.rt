@@ -4,7 +4,7 @@ ghost use Prim.Native.Nat.{_+_, _<_, _≤_};
 ghost use lib.ListN.{length, drop};
 ghost use Rattle.ftd.specs.Bytes.{put};
 ghost use Rattle.ftd.specs.Fields.{FieldInside};
-ghost use Rattle.ftd.specs.Writing.{answerOf, outputOf, fine};
+ghost use Rattle.ftd.specs.Write.{writtenAnswer, writtenOutput, fine};
 ghost use Rattle.ftd.specs.Resume.{firstOf, resumeOf, resumeBytes, ResumeLaws};
 use crate::bytes::be16;
 use crate::bytes::be32;
@@ -84,7 +84,7 @@ pub(crate) fn put_resume(out: &mut [u8], at: usize, series: u16, number: u32)
 
 // The start field for a series and a number, at the start of the output.
 pub fn write_resume(series: u16, number: u32, out: &mut [u8]) -> Written
-    ensures { λ r. ⌜ (r ≡ answerOf fine (resumeBytes series number) (now (out .entry))) × (now (out .exit) ≡ outputOf fine (resumeBytes series number) (now (out .entry))) ⌝ }
+    ensures { λ r. ⌜ (r ≡ writtenAnswer fine (resumeBytes series number) (now (out .entry))) × (now (out .exit) ≡ writtenOutput fine (resumeBytes series number) (now (out .entry))) ⌝ }
 {
     if out.len() < 12 {
         return Written::Refused(Refusal::TooSmall);

@@ -2,7 +2,7 @@
 // A look-up takes no search: FIDs are 1 to 46, and START, COUNT and WIDE have an entry for each.
 ghost use mathlib.Core.Path.{_≡_};
 ghost use Prim.Native.Nat.{_+_, _<_, _≤_};
-ghost use Rattle.ftd.specs.TableRule.{placeOf, TableRule, rowAt, kindColumn, widthColumn, scaleColumn};
+ghost use Rattle.ftd.specs.Table.Rule.{rowsPlace, TableRule, rowAt, kindColumn, widthColumn, scaleColumn};
 use crate::bytes::size8;
 use crate::bytes::size16;
 
@@ -1314,7 +1314,7 @@ const WIDE: [u16; 47] = [
 // The first row of a field.
 pub(crate) fn start_of(fid: usize) -> usize
     requires { ⌜ fid < 47 ⌝ }
-    ensures { λ r. ⌜ (r ≡ placeOf fid .start) × (r < 65536) ⌝ }
+    ensures { λ r. ⌜ (r ≡ rowsPlace fid .start) × (r < 65536) ⌝ }
 {
     size16(START[fid])
 }
@@ -1322,7 +1322,7 @@ pub(crate) fn start_of(fid: usize) -> usize
 // Where the rows of a field end.
 pub(crate) fn end_of(fid: usize) -> usize
     requires { ⌜ fid < 47 ⌝ }
-    ensures { λ r. ⌜ (r ≡ placeOf fid .start + placeOf fid .count) × (r ≤ 379) ⌝ }
+    ensures { λ r. ⌜ (r ≡ rowsPlace fid .start + rowsPlace fid .count) × (r ≤ 379) ⌝ }
 {
     start_of(fid) + count_of(fid)
 }
@@ -1330,7 +1330,7 @@ pub(crate) fn end_of(fid: usize) -> usize
 // How many rows a field has.
 pub(crate) fn count_of(fid: usize) -> usize
     requires { ⌜ fid < 47 ⌝ }
-    ensures { λ r. ⌜ (r ≡ placeOf fid .count) × (r < 256) ⌝ }
+    ensures { λ r. ⌜ (r ≡ rowsPlace fid .count) × (r < 256) ⌝ }
 {
     size8(COUNT[fid])
 }
@@ -1338,7 +1338,7 @@ pub(crate) fn count_of(fid: usize) -> usize
 // The width of a field.
 pub(crate) fn wide_of(fid: usize) -> usize
     requires { ⌜ fid < 47 ⌝ }
-    ensures { λ r. ⌜ r ≡ placeOf fid .wide ⌝ }
+    ensures { λ r. ⌜ r ≡ rowsPlace fid .wide ⌝ }
 {
     size16(WIDE[fid])
 }

@@ -3,7 +3,7 @@ ghost use mathlib.Core.Path.{_≡_};
 ghost use Prim.Native.Nat.{_+_, _-_, _≤_};
 ghost use lib.ListN.{length, drop};
 ghost use Rattle.ftd.specs.Runs.{front};
-ghost use Rattle.ftd.specs.Tags.{tag, KnownRow, lengthRight, countDate, markPlace, goodTags, tagRunOf, tagPlace, TagInside, tradeDateOf, keepAliveOf};
+ghost use Rattle.ftd.specs.Tags.{tag, KnownRow, lengthRight, countDate, datePlace, goodTags, tagRunOf, tagPlace, TagInside, tradeDateOf, keepAliveOf};
 use crate::bytes::be32;
 use crate::bytes::size8;
 
@@ -87,7 +87,7 @@ fn count_date(kind: u8, dates: usize) -> usize
 // The place of a trade date's data, or the one seen before.
 fn mark_place(kind: u8, place: usize, at: usize) -> usize
     requires { ⌜ at + 2 ≤ 18446744073709551615 ⌝ }
-    ensures { λ r. ⌜ r ≡ markPlace kind place at ⌝ }
+    ensures { λ r. ⌜ r ≡ datePlace kind place at ⌝ }
 {
     if kind == 0x05 {
         return at + 2;

@@ -3,8 +3,8 @@ ghost use mathlib.Core.Path.{_≡_};
 ghost use Prim.Native.Nat.{_-_, _≤_};
 ghost use lib.ListN.{length, replicate};
 ghost use Rattle.ftd.specs.Bytes.{put};
-ghost use Rattle.ftd.specs.Writing.{answerOf, outputOf};
-ghost use Rattle.ftd.specs.WriteValues.{fitVerdict};
+ghost use Rattle.ftd.specs.Write.{writtenAnswer, writtenOutput};
+ghost use Rattle.ftd.specs.Signed.Write.{fitVerdict};
 ghost use Rattle.ftd.specs.Texts.{trimmed, textValue, textBytes, textFits};
 use crate::bytes::copy_at;
 use crate::bytes::put8;
@@ -71,8 +71,8 @@ fn put_text(out: &mut [u8], width: usize, value: &[u8])
 
 // A value as a String of a width.
 pub fn write_text(out: &mut [u8], width: usize, value: &[u8]) -> Written
-    ensures answer { λ r. ⌜ r ≡ answerOf (fitVerdict (textFits width (now (value .entry)))) (textBytes width (now (value .entry))) (now (out .entry)) ⌝ }
-    ensures output { λ _. ⌜ now (out .exit) ≡ outputOf (fitVerdict (textFits width (now (value .entry)))) (textBytes width (now (value .entry))) (now (out .entry)) ⌝ }
+    ensures answer { λ r. ⌜ r ≡ writtenAnswer (fitVerdict (textFits width (now (value .entry)))) (textBytes width (now (value .entry))) (now (out .entry)) ⌝ }
+    ensures output { λ _. ⌜ now (out .exit) ≡ writtenOutput (fitVerdict (textFits width (now (value .entry)))) (textBytes width (now (value .entry))) (now (out .entry)) ⌝ }
 {
     if text_fits(width, value) {
         if out.len() < width {

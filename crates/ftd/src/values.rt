@@ -5,7 +5,7 @@ ghost use mathlib.Core.Path.{_≡_};
 ghost use Prim.Native.Nat.{_+_, _-_, _<_, _≤_};
 ghost use lib.ListN.{length, take, drop};
 ghost use Rattle.ftd.specs.Values.{every, isListed, isNumber, isFloat, digitOf, twoDigits, rightDay, isDate, isValue};
-ghost use Rattle.ftd.specs.Classes.{inClass};
+ghost use Rattle.ftd.specs.Values.Helpers.{inClass};
 use crate::bytes::size8;
 
 // The values of the enumerations of kinds 7 to 16, with 0: eight entries for each, 1 where the value is listed.

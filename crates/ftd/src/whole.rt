@@ -3,9 +3,9 @@ ghost use mathlib.Core.Bool.{true};
 ghost use mathlib.Core.List.{[], _∷_};
 ghost use mathlib.Core.Path.{_≡_};
 ghost use Rattle.ftd.specs.Bytes.{bytes16, bytes32};
-ghost use Rattle.ftd.specs.Writing.{answerOf, outputOf};
-ghost use Rattle.ftd.specs.WriteValues.{fitVerdict};
-ghost use Rattle.ftd.specs.Wholes.{charFits, charValue, wordValue, intValue};
+ghost use Rattle.ftd.specs.Write.{writtenAnswer, writtenOutput};
+ghost use Rattle.ftd.specs.Signed.Write.{fitVerdict};
+ghost use Rattle.ftd.specs.Whole.{charFits, charValue, wordValue, intValue};
 use crate::bytes::be16;
 use crate::bytes::be32;
 use crate::bytes::put8;
@@ -80,8 +80,8 @@ pub fn read_int(s: &[u8]) -> Whole
 
 // A byte as a Char of that kind.
 pub fn write_char(out: &mut [u8], kind: u8, b: u8) -> Written
-    ensures answer { λ r. ⌜ r ≡ answerOf (fitVerdict (charFits kind b)) (b ∷ []) (now (out .entry)) ⌝ }
-    ensures output { λ _. ⌜ now (out .exit) ≡ outputOf (fitVerdict (charFits kind b)) (b ∷ []) (now (out .entry)) ⌝ }
+    ensures answer { λ r. ⌜ r ≡ writtenAnswer (fitVerdict (charFits kind b)) (b ∷ []) (now (out .entry)) ⌝ }
+    ensures output { λ _. ⌜ now (out .exit) ≡ writtenOutput (fitVerdict (charFits kind b)) (b ∷ []) (now (out .entry)) ⌝ }
 {
     if char_fits(kind, b) {
         if out.len() < 1 {
@@ -95,8 +95,8 @@ pub fn write_char(out: &mut [u8], kind: u8, b: u8) -> Written
 
 // A number as a Word.
 pub fn write_word(out: &mut [u8], x: u16) -> Written
-    ensures answer { λ r. ⌜ r ≡ answerOf (fitVerdict true) (bytes16 x) (now (out .entry)) ⌝ }
-    ensures output { λ _. ⌜ now (out .exit) ≡ outputOf (fitVerdict true) (bytes16 x) (now (out .entry)) ⌝ }
+    ensures answer { λ r. ⌜ r ≡ writtenAnswer (fitVerdict true) (bytes16 x) (now (out .entry)) ⌝ }
+    ensures output { λ _. ⌜ now (out .exit) ≡ writtenOutput (fitVerdict true) (bytes16 x) (now (out .entry)) ⌝ }
 {
     if out.len() < 2 {
         return Written::Refused(Refusal::TooSmall);
@@ -107,8 +107,8 @@ pub fn write_word(out: &mut [u8], x: u16) -> Written
 
 // A number as an Int.
 pub fn write_int(out: &mut [u8], x: u32) -> Written
-    ensures answer { λ r. ⌜ r ≡ answerOf (fitVerdict true) (bytes32 x) (now (out .entry)) ⌝ }
-    ensures output { λ _. ⌜ now (out .exit) ≡ outputOf (fitVerdict true) (bytes32 x) (now (out .entry)) ⌝ }
+    ensures answer { λ r. ⌜ r ≡ writtenAnswer (fitVerdict true) (bytes32 x) (now (out .entry)) ⌝ }
+    ensures output { λ _. ⌜ now (out .exit) ≡ writtenOutput (fitVerdict true) (bytes32 x) (now (out .entry)) ⌝ }
 {
     if out.len() < 4 {
         return Written::Refused(Refusal::TooSmall);

@@ -4,10 +4,10 @@ ghost use mathlib.Core.Path.{_≡_};
 ghost use Prim.Native.Nat.{_+_, _<_, _≤_};
 ghost use lib.ListN.{length};
 ghost use Rattle.ftd.specs.Bytes.{put};
-ghost use Rattle.ftd.specs.Packets.{isSkipped};
+ghost use Rattle.ftd.specs.Packet.{isSkipped};
 ghost use Rattle.ftd.specs.Tags.{goodTags};
-ghost use Rattle.ftd.specs.WriteLaws.{WriteLaws};
-ghost use Rattle.ftd.specs.Writing.{frameHead, packetBytes, headerBytes, messageBytes, isPlain, plainVerdict, messageVerdict, answerOf, outputOf};
+ghost use Rattle.ftd.specs.Write.Laws.{WriteLaws};
+ghost use Rattle.ftd.specs.Write.{frameHead, packetBytes, headerBytes, messageBytes, isPlain, plainVerdict, messageVerdict, writtenAnswer, writtenOutput};
 use crate::bytes::copy_at;
 use crate::bytes::put8;
 use crate::bytes::put16;
@@ -92,7 +92,7 @@ fn put_message(out: &mut [u8], to: usize, h: Header, extension: &[u8], content: 
 
 // A link packet (type 0x00 or 0x01, no body) or a skipped one (type 0x00 with a body, any other type).
 pub fn write_plain(kind: u8, extension: &[u8], body: &[u8], out: &mut [u8]) -> Written
-    ensures { λ r. ⌜ (r ≡ answerOf (plainVerdict kind (now (extension .entry)) (now (body .entry))) (packetBytes kind (now (extension .entry)) (now (body .entry))) (now (out .entry))) × (now (out .exit) ≡ outputOf (plainVerdict kind (now (extension .entry)) (now (body .entry))) (packetBytes kind (now (extension .entry)) (now (body .entry))) (now (out .entry))) ⌝ }
+    ensures { λ r. ⌜ (r ≡ writtenAnswer (plainVerdict kind (now (extension .entry)) (now (body .entry))) (packetBytes kind (now (extension .entry)) (now (body .entry))) (now (out .entry))) × (now (out .exit) ≡ writtenOutput (plainVerdict kind (now (extension .entry)) (now (body .entry))) (packetBytes kind (now (extension .entry)) (now (body .entry))) (now (out .entry))) ⌝ }
 {
     if 127 < extension.len() {
         return Written::Refused(Refusal::LongExtension);
@@ -126,7 +126,7 @@ fn plain_tags(kind: u8, extension: &[u8], body: usize) -> bool
 
 // A message packet.
 pub fn write_message(h: Header, extension: &[u8], content: &[u8], out: &mut [u8]) -> Written
-    ensures { λ r. ⌜ (r ≡ answerOf (messageVerdict h (now (extension .entry)) (now (content .entry))) (messageBytes h (now (extension .entry)) (now (content .entry))) (now (out .entry))) × (now (out .exit) ≡ outputOf (messageVerdict h (now (extension .entry)) (now (content .entry))) (messageBytes h (now (extension .entry)) (now (content .entry))) (now (out .entry))) ⌝ }
+    ensures { λ r. ⌜ (r ≡ writtenAnswer (messageVerdict h (now (extension .entry)) (now (content .entry))) (messageBytes h (now (extension .entry)) (now (content .entry))) (now (out .entry))) × (now (out .exit) ≡ writtenOutput (messageVerdict h (now (extension .entry)) (now (content .entry))) (messageBytes h (now (extension .entry)) (now (content .entry))) (now (out .entry))) ⌝ }
 {
     if 127 < extension.len() {
         return Written::Refused(Refusal::LongExtension);

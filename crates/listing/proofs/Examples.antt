@@ -4,7 +4,7 @@ use Rattle.ftd.specs.Bytes.{be16Of, be32Of}
 use Rattle.ftd.specs.Runs.{front, runOf}
 use Rattle.ftd.specs.Tags.{tag, knownTags, lengthRight, countDate, goodTags, tagPlace, keepAliveOf}
 use Rattle.ftd.specs.Fields.{field, exactRun}
-use Rattle.ftd.specs.Packets.{saidLength, saidIn, extensionOf, versionOf, tidOf, letterOf, seriesOf, messageNumberOf, fieldCountOf, contentLengthOf, contentOf, restMissing, wrongBody, isSkipped, isLetter, chainOf, headerOf, acceptedOf, messageOf, wholeOf, readOf}
+use Rattle.ftd.specs.Packet.{saidLength, saidIn, extensionOf, versionOf, tidOf, letterOf, seriesOf, messageNumberOf, fieldCountOf, contentLengthOf, contentOf, restMissing, wrongBody, isSkipped, isLetter, chainOf, headerOf, acceptedOf, messageOf, wholeOf, readOf}
 use Rattle.listing.specs.Text.{decimalIn, decimalOf, hexDigit, hexOf}
 use Rattle.listing.specs.Lines.{isHeart, linkText, startText, messageText, refusedText, lineWith, lineOf, isLast, nextOf, linesIn, listingFrom}
 use Rattle.listing.specs.Examples.{input, output, Examples}

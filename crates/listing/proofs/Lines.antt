@@ -7,13 +7,13 @@ use native.Mathlib.Omega.{arith}
 use borrow.Author.Tests.{lt-ltb, le-ltb, le-leb, lt-leb}
 use lib.ListN.{length, take, drop, length-drop}
 use lib.Seq.{take-all}
-use Rattle.ftd.specs.Packets.{saidIn, readOf}
+use Rattle.ftd.specs.Packet.{saidIn, readOf}
 use Rattle.listing.specs.declared.Line.{Line}
 use Rattle.listing.specs.declared.Line.the-variants.{TooSmall, Last, More}
 use Rattle.listing.specs.Text.{Wrote, long, end}
 use Rattle.listing.specs.Lines.{packetText, lineWith, lineOf, goesOn, isLast, nextOf, answerOf, outOf}
 use Rattle.ftd.specs.declared.packet.Packet.{Packet}
-use Rattle.ftd.proofs.Put.{put-zero}
+use Rattle.ftd.proofs.bytes.Put.{put-zero}
 use Rattle.listing.proofs.Whole.{There, there}
 
 -- What the function promises of its answer and of the buffer.

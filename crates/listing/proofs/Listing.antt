@@ -7,7 +7,7 @@ use native.Mathlib.Omega.{arith}
 use borrow.Author.Tests.{le-leb, leb-false}
 use lib.ListN.{length, drop, length-drop}
 use lib.Dec.{leb}
-use Rattle.ftd.specs.Packets.{saidIn, readOf}
+use Rattle.ftd.specs.Packet.{saidIn, readOf}
 use Rattle.listing.specs.Lines.{lineOf, goesOn, isLast, nextOf, linesIn, listingFrom}
 use Rattle.listing.specs.Laws.{Listed}
 use Rattle.listing.proofs.Whole.{There, there, never}

@@ -6,7 +6,7 @@ use native.Mathlib.Omega.{arith}
 use native.Mathlib.Nat.{add-zero}
 use lib.ListN.{length, length-append, take-append-drop}
 use Rattle.ftd.specs.Bytes.{put}
-use Rattle.ftd.proofs.Put.{put-put}
+use Rattle.ftd.proofs.bytes.Put.{put-put}
 use Rattle.listing.specs.Text.{Wrote}
 
 -- No text changes nothing.

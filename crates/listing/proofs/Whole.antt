@@ -6,11 +6,11 @@ use mathlib.Core.Bool.{true, false}
 use native.Mathlib.Omega.{arith}
 use borrow.Author.Tests.{le-leb}
 use lib.ListN.{length}
-use Rattle.ftd.specs.Laws.{Inside}
-use Rattle.ftd.specs.Packets.{saidLength, saidIn, readOf}
+use Rattle.ftd.specs.Packet.Laws.{Inside}
+use Rattle.ftd.specs.Packet.{saidLength, saidIn, readOf}
 use Rattle.ftd.specs.declared.packet.Packet.{Packet}
 use Rattle.ftd.specs.declared.packet.Packet.the-variants.{Short, Link, Skipped, Message, Refused}
-use Rattle.ftd.proofs.Reading.{inside}
+use Rattle.ftd.proofs.packet.Laws.{inside}
 use Rattle.listing.specs.Lines.{goesOn}
 
 -- The packet at the front has four bytes at least, and all that its first four say.

@@ -6,8 +6,8 @@ use lib.ListN.{length, drop}
 use lib.Dec.{ltb, leb, eqb}
 use Rattle.ftd.specs.Bytes.{part}
 use Rattle.ftd.specs.Tags.{keepAliveOf}
-use Rattle.ftd.specs.Refusals.{numberOf}
-use Rattle.ftd.specs.Packets.{saidIn, chainLetter, readOf}
+use Rattle.ftd.specs.Refusal.{numberOf}
+use Rattle.ftd.specs.Packet.{saidIn, chainLetter, readOf}
 use Rattle.ftd.specs.declared.packet.Packet.{Packet}
 use Rattle.ftd.specs.declared.packet.Packet.the-variants.{Short, Link, Skipped, Message, Refused}
 use Rattle.listing.specs.declared.Line.{Line}

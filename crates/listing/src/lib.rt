@@ -4,7 +4,7 @@ ghost use mathlib.Core.Path.{_≡_};
 ghost use mathlib.Core.List.{[], _∷_, _++_};
 ghost use Prim.Native.Nat.{_+_, _<_, _≤_};
 ghost use lib.ListN.{length};
-ghost use Rattle.ftd.specs.Laws.{Inside};
+ghost use Rattle.ftd.specs.Packet.Laws.{Inside};
 ghost use Rattle.listing.specs.Text.{Wrote, decimalOf, hexDigit, hexOf, tab, tabbed};
 ghost use Rattle.listing.specs.Lines.{refusedText, startText, messageText, isHeart, linkText, packetText, lineWith, goesOn, answerOf, outOf};
 ghost use Rattle.listing.specs.Laws.{Listed};

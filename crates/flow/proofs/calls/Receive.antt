@@ -9,8 +9,8 @@ use borrow.Author.Tests.{ltb-false, leb-true, leb-false, eqb-true, not-true, not
 use lib.ListN.{length}
 use lib.Dec.{ltb, leb, eqb}
 use Rattle.ftd.specs.Bytes.{part, put}
-use Rattle.ftd.specs.Packets.{kindOf, bodyLength, headMissing, restMissing, longExtension, wrongBody, isSkipped, brokenTag, isLink, wrongVersion, wrongLetter, wrongContentLength, wrongFields, span, acceptedOf, messageOf, wholeOf, readOf, withMark, datedOf, notOnePacket}
-use Rattle.ftd.specs.Refusals.{numberOf}
+use Rattle.ftd.specs.Packet.{kindOf, bodyLength, headMissing, restMissing, longExtension, wrongBody, isSkipped, brokenTag, isLink, wrongVersion, wrongLetter, wrongContentLength, wrongFields, span, acceptedOf, messageOf, wholeOf, readOf, withDate, datedOf, notOnePacket}
+use Rattle.ftd.specs.Refusal.{numberOf}
 use Rattle.ftd.specs.declared.refusal.Refusal.{Refusal}
 use Rattle.ftd.specs.declared.refusal.Refusal.the-variants.{NotOnePacket, UnknownSeries, NotLoggedIn, OtherDay, OutOfLine, BrokenChain, TooSmall}
 use Rattle.ftd.specs.declared.tags.TradeDate.{TradeDate}
@@ -171,7 +171,7 @@ Low (Message h extension c) = Unit
 Low (Unread r) = numberOf r < 13
 
 read-low : (p : List ℕ) → Low (datedOf p .packet)
-unfolding datedOf withMark readOf wholeOf messageOf acceptedOf
+unfolding datedOf withDate readOf wholeOf messageOf acceptedOf
 read-low p =
     by-when Low (headMissing p) (λ q. tt) λ q.
     by-when Low (longExtension p) (λ q. omega arith) λ q.

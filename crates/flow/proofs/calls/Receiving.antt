@@ -6,9 +6,9 @@ use mathlib.Core.List.{List}
 use mathlib.Core.Bool.{true, false, not, _||_}
 use borrow.Author.Tests.{eqb-true, not-false}
 use lib.Dec.{eqb}
-use Rattle.ftd.specs.Logins.{loginTid}
+use Rattle.ftd.specs.Login.{loginTid}
 use Rattle.ftd.specs.Bytes.{part}
-use Rattle.ftd.specs.Packets.{datedOf, notOnePacket, noMessagePacket}
+use Rattle.ftd.specs.Packet.{datedOf, notOnePacket, noMessagePacket}
 use Rattle.ftd.specs.Items.{wrongWidth, wrongItem}
 use Rattle.ftd.specs.Composition.{composed}
 use Rattle.ftd.specs.declared.composition.Direction.the-variants.{Down}

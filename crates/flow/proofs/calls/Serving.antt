@@ -9,10 +9,10 @@ use mathlib.Core.Option.{Option, none, some}
 use borrow.Author.Tests.{ltb-true, ltb-false, leb-false, eqb-false, not-true, not-false}
 use lib.ListN.{length}
 use lib.Dec.{ltb, leb, eqb}
-use Rattle.ftd.specs.Logins.{loginTid, loginBytes}
+use Rattle.ftd.specs.Login.{loginTid, loginBytes}
 use Rattle.ftd.specs.Bytes.{part, put}
-use Rattle.ftd.specs.Packets.{datedOf, notOnePacket, noMessagePacket}
-use Rattle.ftd.specs.Chains.{shaped}
+use Rattle.ftd.specs.Packet.{datedOf, notOnePacket, noMessagePacket}
+use Rattle.ftd.specs.Chain.{shaped}
 use Rattle.ftd.specs.Items.{wrongWidth, wrongItem}
 use Rattle.ftd.specs.Composition.{composed, countOf}
 use Rattle.ftd.specs.Resume.{resumeOf, resumeFid}

@@ -8,8 +8,8 @@ use mathlib.Core.Option.{some}
 use borrow.Author.Tests.{eqb-true, eqb-false}
 use lib.ListN.{length, getElem?}
 use lib.Dec.{eqb}
-use Rattle.ftd.specs.Packets.{datedOf}
-use Rattle.ftd.specs.Chains.{shaped, packetsOf, piecesOf}
+use Rattle.ftd.specs.Packet.{datedOf}
+use Rattle.ftd.specs.Chain.{shaped, packetsOf, piecesOf}
 use Rattle.ftd.specs.declared.tags.TradeDate.{TradeDate}
 use Rattle.ftd.specs.declared.tags.TradeDate.the-variants.{None, At}
 use Rattle.flow.specs.declared.receiver.Receiver.{Receiver}

@@ -5,7 +5,7 @@ use mathlib.Core.Path.{_≡_, refl, ap, _∙_}
 use mathlib.Core.List.{List}
 use mathlib.Core.Bool.{Bool, true, false}
 use lib.ListN.{getElem?}
-use Rattle.ftd.specs.Packets.{datedOf}
+use Rattle.ftd.specs.Packet.{datedOf}
 use Rattle.ftd.specs.declared.tags.TradeDate.{TradeDate}
 use Rattle.ftd.specs.declared.tags.TradeDate.the-variants.{None, At}
 use Rattle.ftd.specs.declared.packet.Dated.{Dated as Read}
@@ -22,7 +22,7 @@ use Rattle.flow.proofs.common.Rows.{by-given}
 use Rattle.flow.proofs.common.Days.{Upto, upto-test}
 use Rattle.flow.proofs.ends.ReceiverLookups.{Eight, eight-stays}
 use Rattle.flow.proofs.ends.ReceiverOpened.{openedWith, fresh-eight, opened-kept, opened-live, opened-eight, connect-kept, connect-live, connect-eight}
-use Rattle.ftd.proofs.Logins.{login-back}
+use Rattle.ftd.proofs.login.Laws.{login-back}
 use Rattle.flow.proofs.source.Answers.{GenuineAnswer, GenuineAnswers}
 use Rattle.flow.proofs.steps.Turns.{Turn, stays, opens, connects, confirms, receives, open-turn, request-turn, confirm-turn, receive-turn, by-series}
 use native.Mathlib.Omega.{arith}

@@ -7,10 +7,10 @@ use mathlib.Core.Bool.{Bool, true}
 use borrow.Author.Tests.{eqb-true, not-false}
 use lib.ListN.{length}
 use Rattle.ftd.specs.Bytes.{part}
-use Rattle.ftd.specs.Packets.{datedOf}
-use Rattle.ftd.specs.Chains.{shaped, tagsFor, extensionBytes}
+use Rattle.ftd.specs.Packet.{datedOf}
+use Rattle.ftd.specs.Chain.{shaped, tagsFor, extensionBytes}
 use Rattle.ftd.specs.Resume.{resumeOf}
-use Rattle.ftd.specs.Logins.{loginBytes}
+use Rattle.ftd.specs.Login.{loginBytes}
 use Rattle.ftd.specs.declared.resume.Resume.the-variants.{Next}
 use Rattle.ftd.specs.declared.packet.Span.{Span}
 use Rattle.ftd.specs.declared.packet.Header.{Header}
@@ -27,7 +27,7 @@ use Rattle.flow.specs.Receiving.{requestLoginOf}
 use Rattle.flow.proofs.common.Lists.{Every}
 use Rattle.flow.proofs.ends.ReceiverLookups.{Eight}
 use Rattle.flow.proofs.calls.Serving.{LoginTests}
-use Rattle.ftd.proofs.Logins.{login-back, login-content}
+use Rattle.ftd.proofs.login.Laws.{login-back, login-content}
 use Rattle.flow.proofs.packets.Requests.{fullOf, full-shaped, request-start, by-written}
 use Rattle.flow.proofs.steps.Turns.{Turn, turn-onward, turn-open}
 use Rattle.flow.proofs.logins.Timely.{Reached, timed-onward, timed-now, Request, start-reached}

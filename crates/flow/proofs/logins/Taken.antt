@@ -8,9 +8,9 @@ use mathlib.Core.Bool.{true}
 use mathlib.Core.Option.{some}
 use lib.ListN.{length, drop, getElem?, length-append}
 use lib.Seq.{take-append-seam}
-use Rattle.ftd.specs.Logins.{loginBytes}
+use Rattle.ftd.specs.Login.{loginBytes}
 use Rattle.ftd.specs.Bytes.{part}
-use Rattle.ftd.specs.Packets.{datedOf}
+use Rattle.ftd.specs.Packet.{datedOf}
 use Rattle.ftd.specs.Resume.{resumeOf}
 use Rattle.ftd.specs.declared.packet.Header.{Header}
 use Rattle.ftd.specs.declared.packet.Span.{Span}

@@ -8,8 +8,8 @@ use lib.ListN.{length, drop}
 use lib.Seq.{take-append-seam}
 use lib.Dec.{T, ltb}
 use Rattle.ftd.specs.Resume.{resumeFid}
-use Rattle.ftd.specs.Logins.{loginTid, loginHeader, loginBytes}
-use Rattle.ftd.specs.Chains.{shaped}
+use Rattle.ftd.specs.Login.{loginTid, loginHeader, loginBytes}
+use Rattle.ftd.specs.Chain.{shaped}
 use Rattle.ftd.specs.Items.{wrongWidth, wrongItem}
 use Rattle.ftd.specs.Composition.{composed, countOf}
 use Rattle.ftd.specs.declared.refusal.Refusal.the-variants.{UnknownSeries, OtherDay}

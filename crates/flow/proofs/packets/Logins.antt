@@ -3,9 +3,9 @@ use Prim.Native.Nat.{ℕ}
 use mathlib.Core.Path.{_≡_}
 use mathlib.Core.List.{List}
 use mathlib.Core.Bool.{true}
-use Rattle.ftd.specs.Chains.{shaped}
-use Rattle.ftd.specs.Logins.{loginHeader, loginBytes}
-use Rattle.ftd.proofs.Logins.{login-back, login-one, login-message, login-content}
+use Rattle.ftd.specs.Chain.{shaped}
+use Rattle.ftd.specs.Login.{loginHeader, loginBytes}
+use Rattle.ftd.proofs.login.Laws.{login-back, login-one, login-message, login-content}
 use Rattle.ftd.specs.declared.tags.TradeDate.{TradeDate}
 use Rattle.flow.specs.declared.sender.Sender.{Sender}
 use Rattle.flow.specs.declared.receiver.Receiver.{Receiver}

@@ -5,10 +5,10 @@ use mathlib.Core.List.{List, [], append-nil}
 use mathlib.Core.Bool.{true}
 use lib.ListN.{length}
 use Rattle.ftd.specs.Bytes.{part}
-use Rattle.ftd.specs.Packets.{span, datedOf}
-use Rattle.ftd.specs.Chains.{shaped, tagsFor, extensionBytes, headerFor, packetsOf}
-use Rattle.ftd.specs.ChainLaws.{pieceOf, packetOf, letterAt}
-use Rattle.ftd.proofs.Chains.{chain-laws}
+use Rattle.ftd.specs.Packet.{span, datedOf}
+use Rattle.ftd.specs.Chain.{shaped, tagsFor, extensionBytes, headerFor, packetsOf}
+use Rattle.ftd.specs.Chain.Laws.{pieceAtPlace, packetAtPlace, letterAt}
+use Rattle.ftd.proofs.chain.Laws.{chain-laws}
 use Rattle.ftd.specs.declared.chain.Message.{Message}
 use Rattle.ftd.specs.declared.packet.Span.{Span}
 use Rattle.ftd.specs.declared.packet.Header.{Header}
@@ -23,23 +23,23 @@ module _ (m : Message) (c : List ℕ) (j : ℕ) (inside : j < length (packetsOf 
 
   -- Its header, and where its piece lies.
   abbrev pub headerAt : Header
-  headerAt = headerFor m (letterAt m c j) (pieceOf c j .count)
+  headerAt = headerFor m (letterAt m c j) (pieceAtPlace c j .count)
 
   abbrev pub spanAt : Span
-  spanAt = span (4 + tags + 16) (length (pieceOf c j .bytes))
+  spanAt = span (4 + tags + 16) (length (pieceAtPlace c j .bytes))
 
-  pub packet-piece : part (packetOf m c j) (spanAt .start) (spanAt .len) ≡ pieceOf c j .bytes
+  pub packet-piece : part (packetAtPlace m c j) (spanAt .start) (spanAt .len) ≡ pieceAtPlace c j .bytes
   packet-piece = rw append-nil at (chain-laws .piece-back m c j [] inside)
 
   module _ (limit : ℕ) (good : shaped c limit ≡ true) where
-    pub packet-dated : datedOf (packetOf m c j) ≡ record { packet = Accepted headerAt (span 4 tags) spanAt; date = m .date }
+    pub packet-dated : datedOf (packetAtPlace m c j) ≡ record { packet = Accepted headerAt (span 4 tags) spanAt; date = m .date }
     packet-dated = rw append-nil at (chain-laws .dated-back m c limit j [] good inside)
 
     -- To Receive it is a message packet of the message's series, number and TID, with the letter of its place and its piece.
     pub packet-received : (e : Receiver) (buffer : List ℕ)
-        → receiveOf e (packetOf m c j) buffer ≡ receiveWith e headerAt (m .date) spanAt (pieceOf c j .bytes) buffer
+        → receiveOf e (packetAtPlace m c j) buffer ≡ receiveWith e headerAt (m .date) spanAt (pieceAtPlace c j .bytes) buffer
     unfolding receiveOf
     packet-received e buffer =
         rw (chain-laws .one-packet m c limit j good inside .0)
-        (ap (λ (d : Dated). receiveRead e (packetOf m c j) buffer (d .date) (d .packet)) packet-dated
+        (ap (λ (d : Dated). receiveRead e (packetAtPlace m c j) buffer (d .date) (d .packet)) packet-dated
         ∙ ap (λ (l : List ℕ). receiveWith e headerAt (m .date) spanAt l buffer) packet-piece)

@@ -9,8 +9,8 @@ use borrow.Author.Tests.{ltb-false, not-false}
 use lib.ListN.{length, drop}
 use lib.Seq.{take-append-seam}
 use lib.Dec.{T, ltb, eqb}
-use Rattle.ftd.specs.Logins.{loginTid, loginHeader, loginBytes}
-use Rattle.ftd.specs.Chains.{shaped}
+use Rattle.ftd.specs.Login.{loginTid, loginHeader, loginBytes}
+use Rattle.ftd.specs.Chain.{shaped}
 use Rattle.ftd.specs.Items.{wrongWidth, wrongItem}
 use Rattle.ftd.specs.Composition.{composed, countOf}
 use Rattle.ftd.specs.Resume.{resumeOf, resumeBytes, resumeFid}
@@ -19,7 +19,7 @@ use Rattle.ftd.specs.declared.refusal.Refusal.the-variants.{FieldRun, FieldLeng
 use Rattle.ftd.specs.declared.composition.Direction.the-variants.{Up, Down}
 use Rattle.ftd.specs.declared.tags.TradeDate.{TradeDate}
 use Rattle.ftd.specs.declared.resume.Resume.the-variants.{Next}
-use Rattle.ftd.proofs.Resumed.{counts, back}
+use Rattle.ftd.proofs.resume.Behind.{counts, back}
 use Rattle.flow.specs.declared.sender.Sender.{Sender}
 use Rattle.flow.specs.declared.sender.LoggedIn.{LoggedIn}
 use Rattle.flow.specs.declared.sender.LoggedIn.the-variants.{Wrote as Answered}
@@ -34,8 +34,8 @@ use Rattle.flow.specs.Serving.{wrongRun, startOf, wrongStart, loginWith,
 use Rattle.flow.specs.Receiving.{nextWanted, requestOf, requestBytes, requestLoginOf}
 use Rattle.flow.proofs.common.Rows.{by-when}
 use Rattle.flow.proofs.common.Bools.{or-neither}
-use Rattle.ftd.proofs.Singles.{shaped-ended}
-use Rattle.ftd.proofs.StartFields.{start-shaped}
+use Rattle.ftd.proofs.chain.Singles.{shaped-ended}
+use Rattle.ftd.proofs.resume.Content.{start-shaped}
 use Rattle.flow.proofs.packets.Logins.{login-given}
 
 -- ─── Content with a start field behind it that Ask takes, for a series and a next number ───

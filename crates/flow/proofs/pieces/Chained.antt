@@ -7,8 +7,8 @@ use mathlib.Core.Bool.{true}
 use lib.ListN.{length, length-append}
 use lib.Dec.{eqb}
 use Rattle.ftd.specs.Bytes.{part, put}
-use Rattle.ftd.specs.Chains.{piecesOf, chainAt}
-use Rattle.ftd.specs.ChainLaws.{pieceOf}
+use Rattle.ftd.specs.Chain.{piecesOf, chainAt}
+use Rattle.ftd.specs.Chain.Laws.{pieceAtPlace}
 use Rattle.ftd.specs.declared.tags.TradeDate.{TradeDate}
 use Rattle.ftd.specs.declared.tags.TradeDate.the-variants.{At}
 use Rattle.ftd.specs.declared.packet.Span.{Span}
@@ -59,14 +59,14 @@ module _ (e : Receiver) (eight : Eight e) (h : Header) (d : ℕ) (at : Span) (bu
 
     -- Behind the first n pieces in its part, piece j is put.
     piece-put : (n : ℕ) → n ≡ j → isOpen e s ≡ true → (held : ℕ) → held ≡ length (firstPieces c n) → part buffer (partStart e s) held ≡ firstPieces c n
-        → Room e buffer held (pieceOf c j .bytes)
-        → (held + length (pieceOf c j .bytes) ≡ length (firstPieces c (suc j)))
-        × (part (put buffer (partStart e s + held) (pieceOf c j .bytes)) (partStart e s) (held + length (pieceOf c j .bytes)) ≡ firstPieces c (suc j))
+        → Room e buffer held (pieceAtPlace c j .bytes)
+        → (held + length (pieceAtPlace c j .bytes) ≡ length (firstPieces c (suc j)))
+        × (part (put buffer (partStart e s + held) (pieceAtPlace c j .bytes)) (partStart e s) (held + length (pieceAtPlace c j .bytes)) ≡ firstPieces c (suc j))
     piece-put n q o held k b room =
-        let f : firstPieces c (suc j) ≡ firstPieces c n ++ pieceOf c j .bytes = rw q (first-suc c j inside) in
+        let f : firstPieces c (suc j) ≡ firstPieces c n ++ pieceAtPlace c j .bytes = rw q (first-suc c j inside) in
         let g : partStart e s + held ≤ length buffer = omega (arith, part-inside e eight s o, room .parts, room .chain) in (
-          rw (f, length-append (firstPieces c n) (pieceOf c j .bytes)) (omega arith),
-          part-put buffer (pieceOf c j .bytes) (partStart e s) held g ∙ rw (b, f),
+          rw (f, length-append (firstPieces c n) (pieceAtPlace c j .bytes)) (omega arith),
+          part-put buffer (pieceAtPlace c j .bytes) (partStart e s) held g ∙ rw (b, f),
         )
 
     -- A piece that was held.
@@ -90,14 +90,14 @@ module _ (e : Receiver) (eight : Eight e) (h : Header) (d : ℕ) (at : Span) (bu
     held-here : 0 < j → Next e h (At d) → Goes-on (liveOf e s) h → Held e buffer (h .series) (h .tid) (h .number) d c j
     held-here p n g = before p n (record { open-series = n .reached .open-series; login = n .reached .login; chain = g .chain })
 
-    pub goes-on-put : 0 < j → Next e h (At d) → Goes-on (liveOf e s) h → Room e buffer (liveOf e s .held) (pieceOf c j .bytes)
-        → (liveOf e s .held + length (pieceOf c j .bytes) ≡ length (firstPieces c (suc j)))
-        × (part (put buffer (partStart e s + liveOf e s .held) (pieceOf c j .bytes)) (partStart e s) (liveOf e s .held + length (pieceOf c j .bytes)) ≡ firstPieces c (suc j))
+    pub goes-on-put : 0 < j → Next e h (At d) → Goes-on (liveOf e s) h → Room e buffer (liveOf e s .held) (pieceAtPlace c j .bytes)
+        → (liveOf e s .held + length (pieceAtPlace c j .bytes) ≡ length (firstPieces c (suc j)))
+        × (part (put buffer (partStart e s + liveOf e s .held) (pieceAtPlace c j .bytes)) (partStart e s) (liveOf e s .held + length (pieceAtPlace c j .bytes)) ≡ firstPieces c (suc j))
     goes-on-put p n g room =
         let x = held-here p n g in
         piece-put j refl (n .reached .open-series) (liveOf e s .held) (x .held) (rw (x .held) (x .bytes)) room
 
-    pub took-holding : (r : Wrote Receiver Received) → Took e h (At d) at (pieceOf c j .bytes) buffer r → Holding (r .end) (r .bytes) (h .series) (h .tid) (h .number) d c (suc j)
+    pub took-holding : (r : Wrote Receiver Received) → Took e h (At d) at (pieceAtPlace c j .bytes) buffer r → Holding (r .end) (r .bytes) (h .series) (h .tid) (h .number) d c (suc j)
     took-holding r (unknown q) = λ x. clash (isOpen e s) (x .open-series) q
     took-holding r (not-in q) = λ x. clash (liveOf e s .login) (x .login) q
     took-holding r (refuses f q n) = no-chain _ _ _ (n .open-series)

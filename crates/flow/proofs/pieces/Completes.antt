@@ -9,9 +9,9 @@ use borrow.Author.Tests.{le-ltb, eq-eqb, ne-eqb}
 use lib.ListN.{length, length-append}
 use lib.Dec.{eqb}
 use Rattle.ftd.specs.Bytes.{part}
-use Rattle.ftd.specs.Chains.{shaped, piecesOf, chainAt}
-use Rattle.ftd.specs.ChainLaws.{pieceOf}
-use Rattle.ftd.proofs.Chained.{shaped-facts}
+use Rattle.ftd.specs.Chain.{shaped, piecesOf, chainAt}
+use Rattle.ftd.specs.Chain.Laws.{pieceAtPlace}
+use Rattle.ftd.proofs.chain.Pieces.{shaped-facts}
 use Rattle.ftd.specs.declared.refusal.Refusal.{Refusal}
 use Rattle.ftd.specs.declared.tags.TradeDate.the-variants.{At}
 use Rattle.ftd.specs.declared.packet.Span.{Span}
@@ -59,7 +59,7 @@ module _ (e : Receiver) (eight : Eight e) (h : Header) (d : ℕ) (at : Span) (p 
     (good : shaped c 32768 ≡ true)
     (letter : h .chain ≡ chainAt (eqb j 0) (eqb (j + 1) (length (piecesOf c))))
     (inside : j < length (piecesOf c))
-    (piece : part p (at .start) (at .len) ≡ pieceOf c j .bytes)
+    (piece : part p (at .start) (at .len) ≡ pieceAtPlace c j .bytes)
     (before : 0 < j → Next e h (At d) → Holding e buffer (h .series) (h .tid) (h .number) d c j)
     (opens : 0 < j → Wants e buffer (h .series) (h .number) d → Chain-open e (h .series))
   where
@@ -67,23 +67,23 @@ module _ (e : Receiver) (eight : Eight e) (h : Header) (d : ℕ) (at : Span) (p 
     s = h .series
 
     -- What is held and the piece are within the content.
-    fits : (held : ℕ) → held ≡ length (firstPieces c j) → held + length (pieceOf c j .bytes) ≤ 32768
+    fits : (held : ℕ) → held ≡ length (firstPieces c j) → held + length (pieceAtPlace c j .bytes) ≤ 32768
     fits held q =
         let f = shaped-facts c 32768 (shaped c 32768) refl good in
         let n = first-inside c 32768 (suc j) good in
-        let k : length (firstPieces c (suc j)) ≡ length (firstPieces c j) + length (pieceOf c j .bytes) =
-        ap length (first-suc c j inside) ∙ length-append (firstPieces c j) (pieceOf c j .bytes) in
+        let k : length (firstPieces c (suc j)) ≡ length (firstPieces c j) + length (pieceAtPlace c j .bytes) =
+        ap length (first-suc c j inside) ∙ length-append (firstPieces c j) (pieceAtPlace c j .bytes) in
         omega (arith, f .0)
 
     later : Later h → 0 < j
     later (inl q) = at-middle j (length (piecesOf c)) (sym letter ∙ q) .0
     later (inr q) = at-last j (length (piecesOf c)) (sym letter ∙ q) .0
 
-    roomy : Wants e buffer s (h .number) d → (held : ℕ) → held ≡ length (firstPieces c j) → (bufferShort e buffer || chainLong held (pieceOf c j .bytes)) ≡ false
-    roomy r held q = rw (le-ltb (length buffer) (allParts e) (r .room)) (le-ltb 32768 (held + length (pieceOf c j .bytes)) (fits held q))
+    roomy : Wants e buffer s (h .number) d → (held : ℕ) → held ≡ length (firstPieces c j) → (bufferShort e buffer || chainLong held (pieceAtPlace c j .bytes)) ≡ false
+    roomy r held q = rw (le-ltb (length buffer) (allParts e) (r .room)) (le-ltb 32768 (held + length (pieceAtPlace c j .bytes)) (fits held q))
 
     -- Wants, it is not refused from 15 on.
-    not-refused : Wants e buffer s (h .number) d → (r : Refusal) → Why e h (At d) (pieceOf c j .bytes) buffer r → ⊥
+    not-refused : Wants e buffer s (h .number) d → (r : Refusal) → Why e h (At d) (pieceAtPlace c j .bytes) buffer r → ⊥
     not-refused r f (other-day q) = clash (differs (At d) (keptOf e s .date)) q (rw (r .date, eq-eqb d d refl))
     not-refused r f (out-of-line q) =
         let last = keptOf e s .last in
@@ -96,10 +96,10 @@ module _ (e : Receiver) (eight : Eight e) (h : Header) (d : ℕ) (at : Span) (p 
         clash (brokenChain (liveOf e s) h) q (rw (o .chain, eq-eqb (liveOf e s .tid) (h .tid) (x .tid)))
     not-refused r f (no-room-first n x q) =
         let z = at-first j (length (piecesOf c)) (sym letter ∙ x) .0 in
-        clash (bufferShort e buffer || chainLong 0 (pieceOf c j .bytes)) q (roomy r 0 (rw z))
+        clash (bufferShort e buffer || chainLong 0 (pieceAtPlace c j .bytes)) q (roomy r 0 (rw z))
     not-refused r f (no-room-later n l g q) =
         let x = before (later l) n (opens (later l) r) in
-        clash (bufferShort e buffer || chainLong (liveOf e s .held) (pieceOf c j .bytes)) q (roomy r (liveOf e s .held) (x .held))
+        clash (bufferShort e buffer || chainLong (liveOf e s .held) (pieceAtPlace c j .bytes)) q (roomy r (liveOf e s .held) (x .held))
 
     -- ─── Before the last packet: behind it there is a chain ───
 
@@ -108,7 +108,7 @@ module _ (e : Receiver) (eight : Eight e) (h : Header) (d : ℕ) (at : Span) (p 
         let x = with-changed e eight s o (keptOf e s .date) (keptOf e s .last) (holding (h .tid) held) in
         record { open-series = x .opens s ∙ o; login = ap (λ (l : LiveSeries). l .login) (x .live); chain = ap (λ (l : LiveSeries). l .chain) (x .live) }
 
-    pub took-opens : j + 1 < length (piecesOf c) → (r : Wrote Receiver Received) → Took e h (At d) at (pieceOf c j .bytes) buffer r
+    pub took-opens : j + 1 < length (piecesOf c) → (r : Wrote Receiver Received) → Took e h (At d) at (pieceAtPlace c j .bytes) buffer r
         → Wants (r .end) (r .bytes) s (h .number) d → Chain-open (r .end) s
     took-opens more r (unknown q) = λ y. clash (isOpen e s) (y .open-series) q
     took-opens more r (not-in q) = λ y. clash (liveOf e s .login) (y .login) q
@@ -124,7 +124,7 @@ module _ (e : Receiver) (eight : Eight e) (h : Header) (d : ℕ) (at : Span) (p 
 
     -- ─── The last packet: it is handed on ───
 
-    pub took-completes : j + 1 ≡ length (piecesOf c) → Wants e buffer s (h .number) d → (r : Wrote Receiver Received) → Took e h (At d) at (pieceOf c j .bytes) buffer r
+    pub took-completes : j + 1 ≡ length (piecesOf c) → Wants e buffer s (h .number) d → (r : Wrote Receiver Received) → Took e h (At d) at (pieceAtPlace c j .bytes) buffer r
         → messageIn (receivedSaid p (r .bytes) (r .answer)) ≡ record { tid = h .tid; content = c } ∷ []
     took-completes end y r (unknown q) = clash (isOpen e s) (y .open-series) q
     took-completes end y r (not-in q) = clash (liveOf e s .login) (y .login) q

@@ -7,8 +7,8 @@ use mathlib.Core.Bool.{true}
 use lib.ListN.{length}
 use lib.Dec.{eqb}
 use Rattle.ftd.specs.Bytes.{part, put}
-use Rattle.ftd.specs.Chains.{shaped, piecesOf, chainAt}
-use Rattle.ftd.specs.ChainLaws.{pieceOf}
+use Rattle.ftd.specs.Chain.{shaped, piecesOf, chainAt}
+use Rattle.ftd.specs.Chain.Laws.{pieceAtPlace}
 use Rattle.ftd.specs.declared.tags.TradeDate.the-variants.{At}
 use Rattle.ftd.specs.declared.packet.Span.{Span}
 use Rattle.ftd.specs.declared.packet.Chain.the-variants.{Single, Last}
@@ -36,7 +36,7 @@ module _ (e : Receiver) (eight : Eight e) (h : Header) (d : ℕ) (at : Span) (p 
     (good : shaped c limit ≡ true)
     (letter : h .chain ≡ chainAt (eqb j 0) (eqb (j + 1) (length (piecesOf c))))
     (inside : j < length (piecesOf c))
-    (piece : part p (at .start) (at .len) ≡ pieceOf c j .bytes)
+    (piece : part p (at .start) (at .len) ≡ pieceAtPlace c j .bytes)
     (before : 0 < j → Next e h (At d) → Holding e buffer (h .series) (h .tid) (h .number) d c j)
   where
     abbrev s : ℕ
@@ -72,17 +72,17 @@ module _ (e : Receiver) (eight : Eight e) (h : Header) (d : ℕ) (at : Span) (p 
         let g : firstPieces c j ≡ [] = rw (z .0) in
         ap (λ (l : List ℕ). record { tid = h .tid; content = l }) (piece ∙ sym (rw g at f) ∙ first-all c limit (suc j) good (omega arith))
 
-    pub content-last : Next e h (At d) → h .chain ≡ Last → Goes-on (liveOf e s) h → Room e buffer (liveOf e s .held) (pieceOf c j .bytes)
+    pub content-last : Next e h (At d) → h .chain ≡ Last → Goes-on (liveOf e s) h → Room e buffer (liveOf e s .held) (pieceAtPlace c j .bytes)
         → record {
           tid = h .tid;
-          content = part (put buffer (partStart e s + liveOf e s .held) (pieceOf c j .bytes)) (partStart e s) (liveOf e s .held + length (pieceOf c j .bytes));
+          content = part (put buffer (partStart e s + liveOf e s .held) (pieceAtPlace c j .bytes)) (partStart e s) (liveOf e s .held + length (pieceAtPlace c j .bytes));
         } ≡ x
     content-last n q g room =
         let z = at-last j (length (piecesOf c)) (sym letter ∙ q) in
         let b = goes-on-put e eight h d at buffer c j letter inside before (z .0) n g room in
         ap (λ (l : List ℕ). record { tid = h .tid; content = l }) (b .1 ∙ first-all c limit (suc j) good (omega arith))
 
-    pub took-delivered : (r : Wrote Receiver Received) → Took e h (At d) at (pieceOf c j .bytes) buffer r
+    pub took-delivered : (r : Wrote Receiver Received) → Took e h (At d) at (pieceAtPlace c j .bytes) buffer r
         → Delivered e s d (h .number) x (r .end) (messageIn (receivedSaid p (r .bytes) (r .answer))) (reportIn (receivedSaid p (r .bytes) (r .answer)))
     took-delivered r (unknown q) = keeps (moves-not e s)
     took-delivered r (not-in q) = keeps (moves-not e s)

@@ -9,9 +9,9 @@ use lib.ListN.{length, getD, take, drop, take-append-drop, length-append, length
 use lib.Seq.{take-suc, take-all, take-append-seam}
 use lib.Dec.{eqb}
 use Rattle.ftd.specs.Bytes.{joined}
-use Rattle.ftd.specs.Chains.{shaped, Piece, none, piecesOf, chainAt}
-use Rattle.ftd.specs.ChainLaws.{pieceOf}
-use Rattle.ftd.proofs.Chains.{chain-laws, joined-append}
+use Rattle.ftd.specs.Chain.{shaped, Piece, noFields, piecesOf, chainAt}
+use Rattle.ftd.specs.Chain.Laws.{pieceAtPlace}
+use Rattle.ftd.proofs.chain.Laws.{chain-laws, joined-append}
 use Rattle.ftd.specs.declared.packet.Chain.the-variants.{Single, First, Middle, Last}
 
 -- ─── The first n pieces ───
@@ -23,11 +23,11 @@ module _ (c : List ℕ) where
   abbrev all : List (List ℕ)
   all = map (λ (p : Piece). p .bytes) (piecesOf c)
 
-  pub first-suc : (j : ℕ) → j < length (piecesOf c) → firstPieces c (suc j) ≡ firstPieces c j ++ pieceOf c j .bytes
+  pub first-suc : (j : ℕ) → j < length (piecesOf c) → firstPieces c (suc j) ≡ firstPieces c j ++ pieceAtPlace c j .bytes
   first-suc j h =
       ap joined (take-suc all j [] (rw (length-map (piecesOf c) (λ (p : Piece). p .bytes)) h))
       ∙ joined-append (take j all) (getD all j [] ∷ [])
-      ∙ ap (λ (l : List ℕ). firstPieces c j ++ l) (append-nil (getD all j []) ∙ List·getD-map (λ (p : Piece). p .bytes) (piecesOf c) j none)
+      ∙ ap (λ (l : List ℕ). firstPieces c j ++ l) (append-nil (getD all j []) ∙ List·getD-map (λ (p : Piece). p .bytes) (piecesOf c) j noFields)
 
   pub first-all : (limit n : ℕ) → shaped c limit ≡ true → n ≡ length (piecesOf c) → firstPieces c n ≡ c
   first-all limit n h e =

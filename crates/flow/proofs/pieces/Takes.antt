@@ -8,11 +8,11 @@ use mathlib.Core.Option.{some}
 use lib.ListN.{length, getElem?}
 use lib.Dec.{eqb}
 use Rattle.ftd.specs.Bytes.{part}
-use Rattle.ftd.specs.Packets.{datedOf}
-use Rattle.ftd.specs.Chains.{shaped, piecesOf, chainAt, headerFor, packetsOf}
-use Rattle.ftd.specs.ChainLaws.{pieceOf}
-use Rattle.ftd.specs.ChainLaws.{packetOf as packetAt}
-use Rattle.ftd.proofs.Chains.{chain-laws}
+use Rattle.ftd.specs.Packet.{datedOf}
+use Rattle.ftd.specs.Chain.{shaped, piecesOf, chainAt, headerFor, packetsOf}
+use Rattle.ftd.specs.Chain.Laws.{pieceAtPlace}
+use Rattle.ftd.specs.Chain.Laws.{packetAtPlace as packetAt}
+use Rattle.ftd.proofs.chain.Laws.{chain-laws}
 use Rattle.ftd.specs.declared.tags.TradeDate.the-variants.{At}
 use Rattle.ftd.specs.declared.chain.Message.{Message as Headed}
 use Rattle.ftd.specs.declared.packet.Dated.{Dated}
@@ -63,12 +63,12 @@ module _ {s t k d : ℕ} {c : List ℕ} {j : ℕ} {p : List ℕ} (at : PacketAt 
   pub take-date : datedOf p .date ≡ At d
   take-date = rw (← is) (ap (λ (x : Dated). x .date) (packet-dated m c j inside mostContent (at .good)))
 
-  took : (e : Receiver) (buffer : List ℕ) → Took e (headerAt m c j inside) (At d) (spanAt m c j inside) (pieceOf c j .bytes) buffer (receiveOf e p buffer)
+  took : (e : Receiver) (buffer : List ℕ) → Took e (headerAt m c j inside) (At d) (spanAt m c j inside) (pieceAtPlace c j .bytes) buffer (receiveOf e p buffer)
   took e buffer =
       rw (← is)
-      (rw (packet-received m c j inside mostContent (at .good) e buffer) (receive-with e (headerAt m c j inside) (At d) (spanAt m c j inside) (pieceOf c j .bytes) buffer))
+      (rw (packet-received m c j inside mostContent (at .good) e buffer) (receive-with e (headerAt m c j inside) (At d) (spanAt m c j inside) (pieceAtPlace c j .bytes) buffer))
 
-  piece : part p (spanAt m c j inside .start) (spanAt m c j inside .len) ≡ pieceOf c j .bytes
+  piece : part p (spanAt m c j inside .start) (spanAt m c j inside .len) ≡ pieceAtPlace c j .bytes
   piece = rw is at (packet-piece m c j inside)
 
   letter : headerAt m c j inside .chain ≡ chainAt (eqb j 0) (eqb (j + 1) (length (piecesOf c)))
@@ -80,7 +80,7 @@ module _ {s t k d : ℕ} {c : List ℕ} {j : ℕ} {p : List ℕ} (at : PacketAt 
     -- Another series' part of the buffer, chain, mark and last stay.
     pub take-elsewhere : (u : ℕ) → (u ≡ s → ⊥) → Elsewhere e buffer (receiveOf e p buffer .end) (receiveOf e p buffer .bytes) u
     unfolding headerFor
-    take-elsewhere u n = took-elsewhere e eight (headerAt m c j inside) (At d) (spanAt m c j inside) (pieceOf c j .bytes) buffer (receiveOf e p buffer) (took e buffer) u n
+    take-elsewhere u n = took-elsewhere e eight (headerAt m c j inside) (At d) (spanAt m c j inside) (pieceAtPlace c j .bytes) buffer (receiveOf e p buffer) (took e buffer) u n
 
     module _ (before : Before e buffer s t k d c j) where
       held : 0 < j → Next e (headerAt m c j inside) (At d) → Holding e buffer s t k d c j

@@ -10,7 +10,7 @@ use mathlib.Core.Option.{some}
 use borrow.Author.Tests.{eqb-true}
 use lib.ListN.{length, getElem?}
 use lib.Dec.{eqb}
-use Rattle.ftd.specs.Logins.{loginBytes}
+use Rattle.ftd.specs.Login.{loginBytes}
 use Rattle.ftd.specs.declared.tags.TradeDate.the-variants.{At}
 use Rattle.flow.specs.declared.receiver.Receiver.{Receiver}
 use Rattle.flow.specs.Ends.{isOpen, allParts, dayOf, lastOf}

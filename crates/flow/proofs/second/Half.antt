@@ -9,10 +9,10 @@ use mathlib.Core.List.{List, [], _∷_, _++_}
 use mathlib.Core.Bool.{true}
 use lib.ListN.{length, length-take}
 use lib.Dec.{T}
-use Rattle.ftd.specs.Logins.{loginBytes}
+use Rattle.ftd.specs.Login.{loginBytes}
 use Rattle.ftd.specs.declared.tags.TradeDate.{TradeDate}
 use Rattle.ftd.specs.declared.tags.TradeDate.the-variants.{At}
-use Rattle.ftd.proofs.TableRule.{is-true}
+use Rattle.ftd.proofs.table.Rule.{is-true}
 use Rattle.flow.specs.Ends.{isOpen, keptOf}
 use Rattle.flow.specs.World.{Event, World, start, step, run, inRun, inRuns}
 use Rattle.flow.specs.Agreement.{publishedOn, handedOn, reported, since, CaughtUp}

@@ -8,8 +8,8 @@ use mathlib.Core.Bool.{Bool, true, false}
 use borrow.Author.Tests.{ltb-false, eq-eqb}
 use lib.ListN.{length}
 use Rattle.ftd.specs.Bytes.{part, put}
-use Rattle.ftd.specs.Packets.{datedOf}
-use Rattle.ftd.proofs.Put.{length-put}
+use Rattle.ftd.specs.Packet.{datedOf}
+use Rattle.ftd.proofs.bytes.Put.{length-put}
 use Rattle.ftd.specs.declared.tags.TradeDate.{TradeDate}
 use Rattle.ftd.specs.declared.tags.TradeDate.the-variants.{At}
 use Rattle.ftd.specs.declared.packet.Span.{Span}

@@ -9,11 +9,11 @@ use mathlib.Core.Option.{some}
 use borrow.Author.Tests.{le-ltb, eqb-true, eqb-false}
 use lib.ListN.{length, getElem?}
 use lib.Dec.{eqb}
-use Rattle.ftd.specs.Logins.{loginBytes}
-use Rattle.ftd.specs.Packets.{datedOf}
-use Rattle.ftd.specs.Chains.{shaped, headerFor, packetsOf}
-use Rattle.ftd.specs.ChainLaws.{pieceOf}
-use Rattle.ftd.specs.ChainLaws.{packetOf as packetAt}
+use Rattle.ftd.specs.Login.{loginBytes}
+use Rattle.ftd.specs.Packet.{datedOf}
+use Rattle.ftd.specs.Chain.{shaped, headerFor, packetsOf}
+use Rattle.ftd.specs.Chain.Laws.{pieceAtPlace}
+use Rattle.ftd.specs.Chain.Laws.{packetAtPlace as packetAt}
 use Rattle.ftd.specs.declared.chain.Message.{Message as Headed}
 use Rattle.ftd.specs.declared.packet.Span.{Span}
 use Rattle.ftd.specs.declared.packet.Header.{Header}
@@ -111,9 +111,9 @@ packet-handed s d k ps g j p at e buffer x =
     let q = place-getD (packetsOf m (g .content)) j p [] f in
     rw (← q)
     (rw (packet-received m (g .content) j i 32768 (g .shape) e buffer)
-    (took-handed e (headerAt m (g .content) j i) (At d) (spanAt m (g .content) j i) (packetAt m (g .content) j) (pieceOf (g .content) j .bytes) buffer x
-    (receiveWith e (headerAt m (g .content) j i) (At d) (spanAt m (g .content) j i) (pieceOf (g .content) j .bytes) buffer)
-    (receive-with e (headerAt m (g .content) j i) (At d) (spanAt m (g .content) j i) (pieceOf (g .content) j .bytes) buffer)))
+    (took-handed e (headerAt m (g .content) j i) (At d) (spanAt m (g .content) j i) (packetAt m (g .content) j) (pieceAtPlace (g .content) j .bytes) buffer x
+    (receiveWith e (headerAt m (g .content) j i) (At d) (spanAt m (g .content) j i) (pieceAtPlace (g .content) j .bytes) buffer)
+    (receive-with e (headerAt m (g .content) j i) (At d) (spanAt m (g .content) j i) (pieceAtPlace (g .content) j .bytes) buffer)))
 
 -- ─── A message delivered whole is received ───
 

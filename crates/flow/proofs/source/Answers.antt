@@ -8,10 +8,10 @@ use borrow.Author.Tests.{not-false}
 use lib.ListN.{getElem?}
 use lib.Dec.{ltb}
 use Rattle.ftd.specs.Resume.{resumeFid}
-use Rattle.ftd.specs.Logins.{loginTid, loginBytes}
+use Rattle.ftd.specs.Login.{loginTid, loginBytes}
 use Rattle.ftd.specs.Bytes.{part}
-use Rattle.ftd.specs.Packets.{datedOf}
-use Rattle.ftd.specs.Chains.{shaped}
+use Rattle.ftd.specs.Packet.{datedOf}
+use Rattle.ftd.specs.Chain.{shaped}
 use Rattle.ftd.specs.Items.{wrongWidth, wrongItem}
 use Rattle.ftd.specs.Composition.{composed, countOf}
 use Rattle.ftd.specs.declared.composition.Direction.the-variants.{Up, Down}

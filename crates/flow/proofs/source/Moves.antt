@@ -7,9 +7,9 @@ use mathlib.Core.Bool.{false}
 use mathlib.Core.Option.{some}
 use lib.ListN.{length, drop, getElem?}
 use lib.Seq.{take-append-seam}
-use Rattle.ftd.specs.Logins.{loginBytes}
+use Rattle.ftd.specs.Login.{loginBytes}
 use Rattle.ftd.specs.Bytes.{part, put}
-use Rattle.ftd.specs.Packets.{datedOf}
+use Rattle.ftd.specs.Packet.{datedOf}
 use Rattle.ftd.specs.Resume.{resumeOf}
 use Rattle.ftd.specs.declared.tags.TradeDate.the-variants.{At}
 use Rattle.ftd.specs.declared.packet.Header.{Header}

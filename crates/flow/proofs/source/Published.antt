@@ -9,8 +9,8 @@ use lib.ListN.{length, take, drop, length-append}
 use lib.Seq.{take-at, length-take-le}
 use lib.Dec.{eqb}
 use Rattle.ftd.specs.Bytes.{joined, put}
-use Rattle.ftd.proofs.Chains.{joined-append}
-use Rattle.ftd.proofs.Put.{length-put}
+use Rattle.ftd.proofs.chain.Laws.{joined-append}
+use Rattle.ftd.proofs.bytes.Put.{length-put}
 use Rattle.ftd.specs.declared.tags.TradeDate.{TradeDate}
 use Rattle.ftd.specs.declared.tags.TradeDate.the-variants.{None}
 use Rattle.flow.specs.declared.sender.Place.{Place}

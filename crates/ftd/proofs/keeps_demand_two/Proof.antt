@@ -1,10 +1,10 @@
 -- `keeps_demand_two` meets its contract. Assumes nothing.
-use Rattle.ftd.proofs.Reading.{read-laws}
-use Rattle.ftd.proofs.RoundTrip.{write-laws}
-use Rattle.ftd.proofs.Chains.{chain-laws}
-use Rattle.ftd.proofs.FieldTrips.{field-laws}
-use Rattle.ftd.proofs.ItemValues.{item-laws}
-use Rattle.ftd.proofs.ValueLaws.{value-laws}
+use Rattle.ftd.proofs.packet.Laws.{read-laws}
+use Rattle.ftd.proofs.write.Laws.{write-laws}
+use Rattle.ftd.proofs.chain.Laws.{chain-laws}
+use Rattle.ftd.proofs.fields.Laws.{field-laws}
+use Rattle.ftd.proofs.item.Laws.{item-laws}
+use Rattle.ftd.proofs.values.Laws.{value-laws}
 use Rattle.ftd.proofs.keeps_demand_two.Statement.{statement}
 use Rattle.ftd.proofs.keeps_demand_two.Tie as tie
 

@@ -1,7 +1,7 @@
 -- `line_inside` meets its contract, by the laws of `Lines`; the next place fits since the packet is there whole. Assumes nothing.
 use native.Mathlib.Omega.{arith}
 use borrow.Author.Needs.{needs}
-use Rattle.ftd.proofs.Reading.{inside}
+use Rattle.ftd.proofs.packet.Laws.{inside}
 use Rattle.listing.proofs.Lines.{next-fits, inside-more, inside-last}
 use Rattle.listing.proofs.line_inside.Statement.{statement}
 use Rattle.listing.proofs.line_inside.Tie as tie

@@ -6,7 +6,7 @@ use native.Mathlib.Numerals.{add-one}
 use lib.ListN.{length, length-set}
 use lib.Seq.{paste, paste-zero, paste-suc}
 use borrow.Author.Needs.{needs}
-use Rattle.ftd.proofs.Put.{paste-put}
+use Rattle.ftd.proofs.bytes.Put.{paste-put}
 use Rattle.ftd.proofs.bytes.copy_at.Statement.{statement}
 use Rattle.ftd.proofs.bytes.copy_at.Tie as tie
 

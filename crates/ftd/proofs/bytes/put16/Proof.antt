@@ -2,7 +2,7 @@ use native.Mathlib.Omega.{arith}
 use native.Mathlib.Numerals.{towards-suc}
 use lib.ListN.{length-set}
 use Rattle.ftd.specs.Bytes.{bytes16}
-use Rattle.ftd.proofs.Put.{sets-put}
+use Rattle.ftd.proofs.bytes.Put.{sets-put}
 use borrow.Author.Needs.{needs}
 use Rattle.ftd.proofs.bytes.put16.Statement.{statement}
 use Rattle.ftd.proofs.bytes.put16.Tie as tie

@@ -2,7 +2,7 @@ use native.Mathlib.Omega.{arith}
 use native.Mathlib.Numerals.{towards-suc}
 use lib.ListN.{length-set}
 use Rattle.ftd.specs.Bytes.{bytes32}
-use Rattle.ftd.proofs.Put.{sets-put}
+use Rattle.ftd.proofs.bytes.Put.{sets-put}
 use borrow.Author.Needs.{needs}
 use Rattle.ftd.proofs.bytes.put32.Statement.{statement}
 use Rattle.ftd.proofs.bytes.put32.Tie as tie

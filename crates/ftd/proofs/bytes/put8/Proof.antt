@@ -1,6 +1,6 @@
 use mathlib.Core.List.{[], _∷_}
 use native.Mathlib.Omega.{arith}
-use Rattle.ftd.proofs.Put.{sets-put}
+use Rattle.ftd.proofs.bytes.Put.{sets-put}
 use borrow.Author.Needs.{needs}
 use Rattle.ftd.proofs.bytes.put8.Statement.{statement}
 use Rattle.ftd.proofs.bytes.put8.Tie as tie

@@ -4,7 +4,7 @@ use lib.ListN.{length}
 use borrow.Author.Needs.{needs}
 use borrow.Fn.Kinds.{In}
 use borrow.Fn.PlainCycle.{Measures, is, falls, and}
-use Rattle.ftd.proofs.Rest.{last-small, last-put, none-here, more-broken, more-fits, more-small, more-put}
+use Rattle.ftd.proofs.chain.Rest.{last-small, last-put, none-here, more-broken, more-fits, more-small, more-put}
 use Rattle.ftd.proofs.chain.put_rest.Reads as put-rest
 use Rattle.ftd.proofs.chain.put_rest.Kinds as put-rest-kinds
 use Rattle.ftd.proofs.chain.+put_rest.Lts-put_rest as put-rest-lts

@@ -1,7 +1,7 @@
 -- `chain::chain_size` meets its contract. Assumes nothing.
 use mathlib.Core.Path.{_∙_}
 use borrow.Author.Needs.{needs}
-use Rattle.ftd.proofs.Chained.{size-over, size-is}
+use Rattle.ftd.proofs.chain.Pieces.{size-over, size-is}
 use Rattle.ftd.proofs.chain.chain_size.Statement.{statement}
 use Rattle.ftd.proofs.chain.chain_size.Tie as tie
 

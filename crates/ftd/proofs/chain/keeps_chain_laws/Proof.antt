@@ -1,5 +1,5 @@
 -- `chain::keeps_chain_laws` meets its contract. Assumes nothing.
-use Rattle.ftd.proofs.Chains.{chain-laws}
+use Rattle.ftd.proofs.chain.Laws.{chain-laws}
 use Rattle.ftd.proofs.chain.keeps_chain_laws.Statement.{statement}
 use Rattle.ftd.proofs.chain.keeps_chain_laws.Tie as tie
 

@@ -2,7 +2,7 @@
 use borrow.Author.Needs.{needs}
 use Prim.Native.Nat.{_-_, _*_, _≤_}
 use lib.ListN.{length}
-use Rattle.ftd.proofs.Measured.{Counted, counted-none, counted-last, counted-broken, counted-turn}
+use Rattle.ftd.proofs.chain.Sizes.{Counted, counted-none, counted-last, counted-broken, counted-turn}
 use Rattle.ftd.proofs.chain.measure.Statement.{statement}
 use Rattle.ftd.proofs.chain.measure.Tie as tie
 

@@ -1,7 +1,7 @@
 use Prim.Native.Nat.{_%_}
 use native.Mathlib.Omega.{arith}
 use mathlib.Core.Path.{_≡_}
-use Rattle.ftd.specs.Chains.{packetFor, headerFor}
+use Rattle.ftd.specs.Chain.{packetFor, headerFor}
 use borrow.Author.Needs.{needs}
 use Rattle.ftd.proofs.chain.put_piece.Statement.{statement}
 use Rattle.ftd.proofs.chain.put_piece.Tie as tie

@@ -1,6 +1,6 @@
 use lib.ListN.{length}
 use Prim.Native.Nat.{_≤_}
-use Rattle.ftd.proofs.Written.{message-put}
+use Rattle.ftd.proofs.write.Puts.{message-put}
 use native.Mathlib.Omega.{arith}
 use borrow.Author.Needs.{needs}
 use Rattle.ftd.proofs.chain.put_tagged.Statement.{statement}

@@ -1,7 +1,7 @@
 use lib.ListN.{length}
 use Prim.Native.Nat.{_+_, _≤_}
-use Rattle.ftd.proofs.Written.{date-put}
-use Rattle.ftd.proofs.Put.{put-nil}
+use Rattle.ftd.proofs.write.Puts.{date-put}
+use Rattle.ftd.proofs.bytes.Put.{put-nil}
 use mathlib.Core.Path.{sym}
 use native.Mathlib.Omega.{arith}
 use borrow.Author.Needs.{needs}

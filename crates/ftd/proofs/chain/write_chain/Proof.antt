@@ -1,9 +1,9 @@
 -- `chain::write_chain` meets its contract. Assumes nothing.
 use borrow.Author.Needs.{needs}
 use borrow.Author.Tests.{lt-leb}
-use Rattle.ftd.specs.Chains.{shaped, chainVerdict}
-use Rattle.ftd.proofs.Written.{by-refusal}
-use Rattle.ftd.proofs.Rest.{all-broken, all-small, all-put}
+use Rattle.ftd.specs.Chain.{shaped, chainVerdict}
+use Rattle.ftd.proofs.write.Puts.{by-refusal}
+use Rattle.ftd.proofs.chain.Rest.{all-broken, all-small, all-put}
 use Rattle.ftd.proofs.chain.write_chain.Statement.{statement}
 use Rattle.ftd.proofs.chain.write_chain.Tie as tie
 

@@ -1,8 +1,8 @@
 use native.Mathlib.Omega.{arith}
 use borrow.Author.Tests.{lt-ltb, le-ltb}
-use Rattle.ftd.specs.Chains.{placeVerdict}
-use Rattle.ftd.proofs.Written.{by-refusal, by-other, by-room, by-writing}
-use Rattle.ftd.proofs.Chained.{shaped-facts, packet-here, packet-none, packet-size}
+use Rattle.ftd.specs.Chain.{placeVerdict}
+use Rattle.ftd.proofs.write.Puts.{by-refusal, by-other, by-room, by-writing}
+use Rattle.ftd.proofs.chain.Pieces.{shaped-facts, packet-here, packet-none, packet-size}
 use borrow.Author.Needs.{needs}
 use Rattle.ftd.proofs.chain.write_packet.Statement.{statement}
 use Rattle.ftd.proofs.chain.write_packet.Tie as tie

@@ -6,8 +6,8 @@ use lib.ListN.{length, drop}
 use Rattle.ftd.specs.Composition.{counted, countOf}
 use Rattle.ftd.specs.Runs.{runOf}
 use Rattle.ftd.specs.Fields.{field}
-use Rattle.ftd.proofs.Turns.{field-head}
-use Rattle.ftd.proofs.Counts.{count-over, count-turn}
+use Rattle.ftd.proofs.runs.Turns.{field-head}
+use Rattle.ftd.proofs.composition.Counts.{count-over, count-turn}
 use Rattle.ftd.proofs.composition.count_field.Statement.{statement}
 use Rattle.ftd.proofs.composition.count_field.Tie as tie
 

@@ -1,5 +1,5 @@
 -- `composition::keeps_composition_rule` meets its contract. Assumes nothing.
-use Rattle.ftd.proofs.CompositionRule.{composition-rule}
+use Rattle.ftd.proofs.composition.Rule.{composition-rule}
 use Rattle.ftd.proofs.composition.keeps_composition_rule.Statement.{statement}
 use Rattle.ftd.proofs.composition.keeps_composition_rule.Tie as tie
 

@@ -1,5 +1,5 @@
-use Rattle.ftd.specs.Composition.{appendixE, tids, directions, fids, leasts, mosts, lineAt}
-use Rattle.ftd.proofs.Counts.{other-tid, other-direction, line-here}
+use Rattle.ftd.specs.Composition.{appendixE, lineTids, directions, fids, leasts, mosts, lineAt}
+use Rattle.ftd.proofs.composition.Counts.{other-tid, other-direction, line-here}
 use borrow.Author.Needs.{needs}
 use Rattle.ftd.proofs.composition.line_holds.Statement.{statement}
 use Rattle.ftd.proofs.composition.line_holds.Tie as tie
@@ -14,14 +14,14 @@ number16-requires : tie.Need-number16-requires
 number16-requires c κs = search needs
 
 returns : tie.Need-returns
-unfolding lineAt tids directions fids leasts mosts appendixE
+unfolding lineAt lineTids directions fids leasts mosts appendixE
 returns c = search (needs, other-tid)
 
 array-read-if2 : tie.Need-array-read-if2
 array-read-if2 c = search needs
 
 returns-2 : tie.Need-returns-2
-unfolding lineAt tids directions fids leasts mosts appendixE
+unfolding lineAt lineTids directions fids leasts mosts appendixE
 returns-2 c = search (needs, other-direction)
 
 array-read-size8 : tie.Need-array-read-size8
@@ -52,7 +52,7 @@ in-range-requires : tie.Need-in-range-requires
 in-range-requires c κs = search needs
 
 returns-3 : tie.Need-returns-3
-unfolding lineAt tids directions fids leasts mosts appendixE
+unfolding lineAt lineTids directions fids leasts mosts appendixE
 returns-3 c = search (needs, line-here)
 
 pub line-holds-spec : {M : Type 1} → statement M

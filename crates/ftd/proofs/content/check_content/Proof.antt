@@ -1,4 +1,4 @@
-use Rattle.ftd.proofs.Contents.{by-shape, by-item, by-composition, by-passing}
+use Rattle.ftd.proofs.content.Verdicts.{by-shape, by-item, by-composition, by-passing}
 use borrow.Author.Needs.{needs}
 use Rattle.ftd.proofs.content.check_content.Statement.{statement}
 use Rattle.ftd.proofs.content.check_content.Tie as tie

@@ -1,6 +1,6 @@
 -- `dates::date_fits` meets its contract. Assumes nothing.
 use borrow.Author.Needs.{needs}
-use Rattle.ftd.proofs.Dated.{no-date, unused-date, day-fits, year-over}
+use Rattle.ftd.proofs.dates.Verdicts.{no-date, unused-date, day-fits, year-over}
 use Rattle.ftd.proofs.dates.date_fits.Statement.{statement}
 use Rattle.ftd.proofs.dates.date_fits.Tie as tie
 

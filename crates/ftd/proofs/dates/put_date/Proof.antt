@@ -1,6 +1,6 @@
 -- `dates::put_date` meets its contract. Assumes nothing.
 use borrow.Author.Needs.{needs}
-use Rattle.ftd.proofs.Dated.{put-nothing, put-unused, put-the-day}
+use Rattle.ftd.proofs.dates.Verdicts.{put-nothing, put-unused, put-the-day}
 use Rattle.ftd.proofs.dates.put_date.Statement.{statement}
 use Rattle.ftd.proofs.dates.put_date.Tie as tie
 

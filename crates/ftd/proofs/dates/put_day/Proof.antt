@@ -1,6 +1,6 @@
 -- `dates::put_day` meets its contract. Assumes nothing.
 use borrow.Author.Needs.{needs}
-use Rattle.ftd.proofs.Dated.{put-three}
+use Rattle.ftd.proofs.dates.Verdicts.{put-three}
 use Rattle.ftd.proofs.dates.put_day.Statement.{statement}
 use Rattle.ftd.proofs.dates.put_day.Tie as tie
 

@@ -1,6 +1,6 @@
 -- `dates::read_date` meets its contract. Assumes nothing.
 use borrow.Author.Needs.{needs}
-use Rattle.ftd.proofs.Dated.{date-none, date-eight, date-unused, date-day}
+use Rattle.ftd.proofs.dates.Verdicts.{date-none, date-eight, date-unused, date-day}
 use Rattle.ftd.proofs.dates.read_date.Statement.{statement}
 use Rattle.ftd.proofs.dates.read_date.Tie as tie
 

@@ -1,7 +1,7 @@
 -- `dates::write_date` meets its contract. Assumes nothing.
 use borrow.Author.Needs.{needs}
-use Rattle.ftd.proofs.Dated.{date-wide}
-use Rattle.ftd.proofs.Stored.{misfit, no-room, stored}
+use Rattle.ftd.proofs.dates.Verdicts.{date-wide}
+use Rattle.ftd.proofs.signed.Stores.{misfit, no-room, stored}
 use Rattle.ftd.proofs.dates.write_date.Statement.{statement}
 use Rattle.ftd.proofs.dates.write_date.Tie as tie
 

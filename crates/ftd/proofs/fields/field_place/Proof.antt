@@ -5,19 +5,19 @@ use native.Mathlib.Omega.{arith}
 use borrow.Author.Needs.{needs}
 use lib.ListN.{length, drop}
 use Rattle.ftd.specs.Runs.{runOf}
-use Rattle.ftd.specs.Fields.{field, placeIn, placeOf}
-use Rattle.ftd.proofs.Turns.{field-head, place-over, place-here, place-turn}
+use Rattle.ftd.specs.Fields.{field, fieldIn, fieldPlaceOf}
+use Rattle.ftd.proofs.runs.Turns.{field-head, place-over, place-here, place-turn}
 use Rattle.ftd.proofs.fields.field_place.Statement.{statement}
 use Rattle.ftd.proofs.fields.field_place.Tie as tie
 
 abbrev Inv-loop : tie.InvT-loop
-Inv-loop content i at₀ left₀ at left = (at ≤ length content) × (placeIn at (runOf field (drop at content) .entries) left ≡ placeOf content i)
+Inv-loop content i at₀ left₀ at left = (at ≤ length content) × (fieldIn at (runOf field (drop at content) .entries) left ≡ fieldPlaceOf content i)
 
 abbrev μ-loop : tie.MeasureT-loop
 μ-loop content i at₀ left₀ at left = length content - at
 
 loop-holds : tie.Need-loop-holds Inv-loop μ-loop
-unfolding placeOf
+unfolding fieldPlaceOf
 loop-holds c = (search needs, refl)
 
 field-size-requires : tie.Need-field-size-requires Inv-loop μ-loop

@@ -1,5 +1,5 @@
 -- `fields::keeps_field_laws` meets its contract. Assumes nothing.
-use Rattle.ftd.proofs.FieldTrips.{field-laws}
+use Rattle.ftd.proofs.fields.Laws.{field-laws}
 use Rattle.ftd.proofs.fields.keeps_field_laws.Statement.{statement}
 use Rattle.ftd.proofs.fields.keeps_field_laws.Tie as tie
 

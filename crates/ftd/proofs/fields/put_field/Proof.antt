@@ -1,5 +1,5 @@
 use native.Mathlib.Omega.{arith}
-use Rattle.ftd.proofs.Written.{field-put}
+use Rattle.ftd.proofs.write.Puts.{field-put}
 use borrow.Author.Needs.{needs}
 use Rattle.ftd.proofs.fields.put_field.Statement.{statement}
 use Rattle.ftd.proofs.fields.put_field.Tie as tie

@@ -1,6 +1,6 @@
-use Rattle.ftd.proofs.Written.{length-field, by-refusal, by-room, by-writing}
+use Rattle.ftd.proofs.write.Puts.{length-field, by-refusal, by-room, by-writing}
 use borrow.Author.Tests.{lt-ltb, le-ltb}
-use Rattle.ftd.specs.Writing.{fieldVerdict}
+use Rattle.ftd.specs.Write.{fieldVerdict}
 use borrow.Author.Needs.{needs}
 use Rattle.ftd.proofs.fields.write_field.Statement.{statement}
 use Rattle.ftd.proofs.fields.write_field.Tie as tie

@@ -1,6 +1,6 @@
 -- `item::char_item` meets its contract. Assumes nothing.
 use borrow.Author.Needs.{needs}
-use Rattle.ftd.proofs.ItemReads.{char-given, char-none, char-long}
+use Rattle.ftd.proofs.item.Readings.{char-given, char-none, char-long}
 use Rattle.ftd.proofs.item.char_item.Statement.{statement}
 use Rattle.ftd.proofs.item.char_item.Tie as tie
 

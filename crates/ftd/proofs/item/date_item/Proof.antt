@@ -1,6 +1,6 @@
 -- `item::date_item` meets its contract. Assumes nothing.
 use borrow.Author.Needs.{needs}
-use Rattle.ftd.proofs.ItemReads.{unused-given, day-given}
+use Rattle.ftd.proofs.item.Readings.{unused-given, day-given}
 use Rattle.ftd.proofs.item.date_item.Statement.{statement}
 use Rattle.ftd.proofs.item.date_item.Tie as tie
 

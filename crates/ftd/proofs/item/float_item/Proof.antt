@@ -1,6 +1,6 @@
 -- `item::float_item` meets its contract. Assumes nothing.
 use borrow.Author.Needs.{needs}
-use Rattle.ftd.proofs.ItemReads.{float-given}
+use Rattle.ftd.proofs.item.Readings.{float-given}
 use Rattle.ftd.proofs.item.float_item.Statement.{statement}
 use Rattle.ftd.proofs.item.float_item.Tie as tie
 

@@ -1,6 +1,6 @@
 -- `item::int_item` meets its contract. Assumes nothing.
 use borrow.Author.Needs.{needs}
-use Rattle.ftd.proofs.ItemReads.{int-given, int-long}
+use Rattle.ftd.proofs.item.Readings.{int-given, int-long}
 use Rattle.ftd.proofs.item.int_item.Statement.{statement}
 use Rattle.ftd.proofs.item.int_item.Tie as tie
 

@@ -1,5 +1,5 @@
 -- `item::keeps_item_laws` meets its contract. Assumes nothing.
-use Rattle.ftd.proofs.ItemValues.{item-laws}
+use Rattle.ftd.proofs.item.Laws.{item-laws}
 use Rattle.ftd.proofs.item.keeps_item_laws.Statement.{statement}
 use Rattle.ftd.proofs.item.keeps_item_laws.Tie as tie
 

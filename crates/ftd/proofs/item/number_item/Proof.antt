@@ -1,6 +1,6 @@
 -- `item::number_item` meets its contract. Assumes nothing.
 use borrow.Author.Needs.{needs}
-use Rattle.ftd.proofs.ItemReads.{number-given}
+use Rattle.ftd.proofs.item.Readings.{number-given}
 use Rattle.ftd.proofs.item.number_item.Statement.{statement}
 use Rattle.ftd.proofs.item.number_item.Tie as tie
 

@@ -1,6 +1,6 @@
 -- `item::read_item` meets its contract. Assumes nothing.
 use borrow.Author.Needs.{needs}
-use Rattle.ftd.proofs.ItemReads.{place-behind, place-short, no-place, place-read}
+use Rattle.ftd.proofs.item.Readings.{place-behind, place-short, no-place, place-read}
 use Rattle.ftd.proofs.item.read_item.Statement.{statement}
 use Rattle.ftd.proofs.item.read_item.Tie as tie
 

@@ -1,6 +1,6 @@
 -- `item::text_item` meets its contract. Assumes nothing.
 use borrow.Author.Needs.{needs}
-use Rattle.ftd.proofs.ItemReads.{text-given, text-none}
+use Rattle.ftd.proofs.item.Readings.{text-given, text-none}
 use Rattle.ftd.proofs.item.text_item.Statement.{statement}
 use Rattle.ftd.proofs.item.text_item.Tie as tie
 

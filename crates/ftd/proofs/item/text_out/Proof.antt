@@ -1,6 +1,6 @@
 -- `item::text_out` meets its contract. Assumes nothing.
 use borrow.Author.Needs.{needs}
-use Rattle.ftd.proofs.ItemWrites.{other-type, right-type}
+use Rattle.ftd.proofs.item.Writings.{other-type, right-type}
 use Rattle.ftd.proofs.item.text_out.Statement.{statement}
 use Rattle.ftd.proofs.item.text_out.Tie as tie
 

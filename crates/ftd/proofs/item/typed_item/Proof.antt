@@ -1,6 +1,6 @@
 -- `item::typed_item` meets its contract. Assumes nothing.
 use borrow.Author.Needs.{needs}
-use Rattle.ftd.proofs.ItemReads.{by-word, by-int, by-text, by-number, by-float, by-date, by-char}
+use Rattle.ftd.proofs.item.Readings.{by-word, by-int, by-text, by-number, by-float, by-date, by-char}
 use Rattle.ftd.proofs.item.typed_item.Statement.{statement}
 use Rattle.ftd.proofs.item.typed_item.Tie as tie
 

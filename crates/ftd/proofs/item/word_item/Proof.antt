@@ -1,6 +1,6 @@
 -- `item::word_item` meets its contract. Assumes nothing.
 use borrow.Author.Needs.{needs}
-use Rattle.ftd.proofs.ItemReads.{word-given, word-long}
+use Rattle.ftd.proofs.item.Readings.{word-given, word-long}
 use Rattle.ftd.proofs.item.word_item.Statement.{statement}
 use Rattle.ftd.proofs.item.word_item.Tie as tie
 

@@ -1,6 +1,6 @@
 -- `item::word_out` meets its contract. Assumes nothing.
 use borrow.Author.Needs.{needs}
-use Rattle.ftd.proofs.ItemWrites.{other-type, small-type}
+use Rattle.ftd.proofs.item.Writings.{other-type, small-type}
 use Rattle.ftd.proofs.item.word_out.Statement.{statement}
 use Rattle.ftd.proofs.item.word_out.Tie as tie
 

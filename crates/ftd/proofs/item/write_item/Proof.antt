@@ -1,6 +1,6 @@
 -- `item::write_item` meets its contract. Assumes nothing.
 use borrow.Author.Needs.{needs}
-use Rattle.ftd.proofs.ItemWrites.{no-place, none-given, wrong-given, char-taken, word-taken, int-taken, text-taken, number-taken, float-taken, date-taken}
+use Rattle.ftd.proofs.item.Writings.{no-place, none-given, wrong-given, char-taken, word-taken, int-taken, text-taken, number-taken, float-taken, date-taken}
 use Rattle.ftd.proofs.item.write_item.Statement.{statement}
 use Rattle.ftd.proofs.item.write_item.Tie as tie
 

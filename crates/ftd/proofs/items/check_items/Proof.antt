@@ -1,6 +1,6 @@
 -- `items::check_items` meets its contract. Assumes nothing.
 use borrow.Author.Needs.{needs}
-use Rattle.ftd.proofs.Walked.{check-width, check-walk}
+use Rattle.ftd.proofs.items.Walk.{check-width, check-walk}
 use Rattle.ftd.proofs.items.check_items.Statement.{statement}
 use Rattle.ftd.proofs.items.check_items.Tie as tie
 

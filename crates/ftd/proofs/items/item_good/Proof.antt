@@ -1,7 +1,7 @@
 -- `items::item_good` meets its contract. Assumes nothing.
 use mathlib.Core.Bool.{false≢true}
 use borrow.Author.Needs.{needs}
-use Rattle.ftd.proofs.Walked.{item-short, item-there}
+use Rattle.ftd.proofs.items.Walk.{item-short, item-there}
 use Rattle.ftd.proofs.items.item_good.Statement.{statement}
 use Rattle.ftd.proofs.items.item_good.Tie as tie
 

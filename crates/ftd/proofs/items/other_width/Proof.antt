@@ -1,6 +1,6 @@
 -- `items::other_width` meets its contract. Assumes nothing.
 use borrow.Author.Needs.{needs}
-use Rattle.ftd.proofs.Walked.{width-unknown, width-empty, width-known}
+use Rattle.ftd.proofs.items.Walk.{width-unknown, width-empty, width-known}
 use Rattle.ftd.proofs.items.other_width.Statement.{statement}
 use Rattle.ftd.proofs.items.other_width.Tie as tie
 

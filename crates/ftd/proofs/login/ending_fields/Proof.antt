@@ -1,6 +1,6 @@
 -- `login::ending_fields` meets its contract. Assumes nothing.
 use native.Mathlib.Omega.{arith}
-use Rattle.ftd.proofs.LoginWrites.{no-fields, one-field}
+use Rattle.ftd.proofs.login.Writes.{no-fields, one-field}
 use borrow.Author.Needs.{needs}
 use Rattle.ftd.proofs.login.ending_fields.Statement.{statement}
 use Rattle.ftd.proofs.login.ending_fields.Tie as tie

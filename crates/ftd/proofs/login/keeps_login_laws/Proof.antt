@@ -1,5 +1,5 @@
 -- `login::keeps_login_laws` meets its contract. Assumes nothing.
-use Rattle.ftd.proofs.Logins.{login-laws}
+use Rattle.ftd.proofs.login.Laws.{login-laws}
 use Rattle.ftd.proofs.login.keeps_login_laws.Statement.{statement}
 use Rattle.ftd.proofs.login.keeps_login_laws.Tie as tie
 

@@ -4,7 +4,7 @@ use mathlib.Core.Path.{sym}
 use native.Mathlib.Omega.{arith}
 use borrow.Author.Needs.{needs}
 use lib.ListN.{length}
-use Rattle.ftd.proofs.Put.{put-nil}
+use Rattle.ftd.proofs.bytes.Put.{put-nil}
 use Rattle.ftd.proofs.login.put_ending.Statement.{statement}
 use Rattle.ftd.proofs.login.put_ending.Tie as tie
 

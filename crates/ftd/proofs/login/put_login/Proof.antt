@@ -1,6 +1,6 @@
 -- `login::put_login` meets its contract. Assumes nothing.
 use borrow.Author.Needs.{needs}
-use Rattle.ftd.proofs.LoginWrites.{login-put}
+use Rattle.ftd.proofs.login.Writes.{login-put}
 use Rattle.ftd.proofs.login.put_login.Statement.{statement}
 use Rattle.ftd.proofs.login.put_login.Tie as tie
 

@@ -1,8 +1,8 @@
 -- `login::write_login` meets its contract. Assumes nothing.
 use native.Mathlib.Omega.{arith}
 use borrow.Author.Needs.{needs}
-use Rattle.ftd.proofs.Written.{by-refusal, by-room, by-writing}
-use Rattle.ftd.proofs.LoginWrites.{login-size, login-long, login-broken, login-right, login-fields}
+use Rattle.ftd.proofs.write.Puts.{by-refusal, by-room, by-writing}
+use Rattle.ftd.proofs.login.Writes.{login-size, login-long, login-broken, login-right, login-fields}
 use Rattle.ftd.proofs.login.write_login.Statement.{statement}
 use Rattle.ftd.proofs.login.write_login.Tie as tie
 

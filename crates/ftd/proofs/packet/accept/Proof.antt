@@ -1,4 +1,4 @@
-use Rattle.ftd.proofs.Decided.{accepted-made}
+use Rattle.ftd.proofs.packet.Verdicts.{accepted-made}
 use borrow.Author.Needs.{needs}
 use Rattle.ftd.proofs.packet.accept.Statement.{statement}
 use Rattle.ftd.proofs.packet.accept.Tie as tie

@@ -1,5 +1,5 @@
 -- `packet::chain_of` meets its contract. Assumes nothing.
-use Rattle.ftd.specs.Packets.{chainOf}
+use Rattle.ftd.specs.Packet.{chainOf}
 use Rattle.ftd.proofs.Tests.{tests}
 use Rattle.ftd.proofs.packet.chain_of.Statement.{statement}
 use Rattle.ftd.proofs.packet.chain_of.Tie as tie

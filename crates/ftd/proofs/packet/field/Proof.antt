@@ -2,7 +2,7 @@
 use native.Mathlib.Nat.{add-sub-cancel-left}
 use native.Mathlib.Omega.{arith}
 use borrow.Author.Needs.{needs}
-use Rattle.ftd.specs.Packets.{fieldBytes}
+use Rattle.ftd.specs.Packet.{fieldBytes}
 use Rattle.ftd.proofs.packet.field.Statement.{statement}
 use Rattle.ftd.proofs.packet.field.Tie as tie
 

@@ -1,5 +1,5 @@
-use Rattle.ftd.proofs.Reading.{content-inside, place-fits, field-found}
-use Rattle.ftd.specs.Packets.{fieldOf}
+use Rattle.ftd.proofs.packet.Laws.{content-inside, place-fits, field-found}
+use Rattle.ftd.specs.Packet.{fieldOf}
 use mathlib.Core.Path.{sym, _∙_}
 use native.Mathlib.Omega.{arith}
 use borrow.Author.Needs.{needs}

@@ -1,4 +1,4 @@
-use Rattle.ftd.proofs.Decided.{header-made}
+use Rattle.ftd.proofs.packet.Verdicts.{header-made}
 use borrow.Author.Needs.{needs}
 use Rattle.ftd.proofs.packet.header_of.Statement.{statement}
 use Rattle.ftd.proofs.packet.header_of.Tie as tie

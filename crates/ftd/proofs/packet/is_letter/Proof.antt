@@ -1,5 +1,5 @@
 -- `packet::is_letter` meets its contract. Assumes nothing.
-use Rattle.ftd.specs.Packets.{isLetter}
+use Rattle.ftd.specs.Packet.{isLetter}
 use Rattle.ftd.proofs.Tests.{tests}
 use Rattle.ftd.proofs.packet.is_letter.Statement.{statement}
 use Rattle.ftd.proofs.packet.is_letter.Tie as tie

@@ -1,5 +1,5 @@
 -- `packet::is_skipped` meets its contract. Assumes nothing.
-use Rattle.ftd.specs.Packets.{isSkipped}
+use Rattle.ftd.specs.Packet.{isSkipped}
 use Rattle.ftd.proofs.Tests.{tests}
 use Rattle.ftd.proofs.packet.is_skipped.Statement.{statement}
 use Rattle.ftd.proofs.packet.is_skipped.Tie as tie

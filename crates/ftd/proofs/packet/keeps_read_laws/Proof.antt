@@ -1,5 +1,5 @@
 -- `packet::keeps_read_laws` meets its contract. Assumes nothing.
-use Rattle.ftd.proofs.Reading.{read-laws}
+use Rattle.ftd.proofs.packet.Laws.{read-laws}
 use Rattle.ftd.proofs.packet.keeps_read_laws.Statement.{statement}
 use Rattle.ftd.proofs.packet.keeps_read_laws.Tie as tie
 

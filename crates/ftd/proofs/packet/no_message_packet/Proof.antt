@@ -1,6 +1,6 @@
 -- `packet::no_message_packet` meets its contract. Assumes nothing.
 use borrow.Author.Needs.{needs}
-use Rattle.ftd.proofs.OnePackets.{other-kind, body-short, body-over}
+use Rattle.ftd.proofs.packet.One.{other-kind, body-short, body-over}
 use Rattle.ftd.proofs.packet.no_message_packet.Statement.{statement}
 use Rattle.ftd.proofs.packet.no_message_packet.Tie as tie
 

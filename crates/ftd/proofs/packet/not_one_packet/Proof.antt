@@ -1,6 +1,6 @@
 -- `packet::not_one_packet` meets its contract. Assumes nothing.
 use borrow.Author.Needs.{needs}
-use Rattle.ftd.proofs.OnePackets.{one-short, one-said}
+use Rattle.ftd.proofs.packet.One.{one-short, one-said}
 use Rattle.ftd.proofs.packet.not_one_packet.Statement.{statement}
 use Rattle.ftd.proofs.packet.not_one_packet.Tie as tie
 

@@ -1,7 +1,7 @@
 -- `packet::read_dated` meets its contract. Assumes nothing.
 use mathlib.Core.Path.{refl, sym, _∙_}
 use borrow.Author.Needs.{needs}
-use Rattle.ftd.proofs.Dating.{dated-head-missing, dated-long, dated-body, dated-rest-missing, dated-there}
+use Rattle.ftd.proofs.packet.Dates.{dated-head-missing, dated-long, dated-body, dated-rest-missing, dated-there}
 use Rattle.ftd.proofs.packet.read_dated.Statement.{statement}
 use Rattle.ftd.proofs.packet.read_dated.Tie as tie
 

@@ -1,4 +1,4 @@
-use Rattle.ftd.proofs.Decided.{version-wrong, letter-wrong, length-wrong, fields-wrong, message-good}
+use Rattle.ftd.proofs.packet.Verdicts.{version-wrong, letter-wrong, length-wrong, fields-wrong, message-good}
 use borrow.Author.Needs.{needs}
 use Rattle.ftd.proofs.packet.read_message.Statement.{statement}
 use Rattle.ftd.proofs.packet.read_message.Tie as tie

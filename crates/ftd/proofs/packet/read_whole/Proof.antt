@@ -1,7 +1,7 @@
 -- `packet::read_whole` meets its contract. Assumes nothing.
 use borrow.Author.Needs.{needs}
-use Rattle.ftd.proofs.Decided.{body-least}
-use Rattle.ftd.proofs.Dating.{dated-skipped, dated-broken, dated-link, dated-message}
+use Rattle.ftd.proofs.packet.Verdicts.{body-least}
+use Rattle.ftd.proofs.packet.Dates.{dated-skipped, dated-broken, dated-link, dated-message}
 use Rattle.ftd.proofs.packet.read_whole.Statement.{statement}
 use Rattle.ftd.proofs.packet.read_whole.Tie as tie
 

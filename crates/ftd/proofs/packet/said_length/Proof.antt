@@ -1,7 +1,7 @@
 -- `packet::said_length` meets its contract. Assumes nothing.
 use borrow.Author.Tests.{lt-leb, le-leb}
 use borrow.Author.Needs.{needs}
-use Rattle.ftd.specs.Packets.{saidIn, saidLength}
+use Rattle.ftd.specs.Packet.{saidIn, saidLength}
 use Rattle.ftd.proofs.packet.said_length.Statement.{statement}
 use Rattle.ftd.proofs.packet.said_length.Tie as tie
 

@@ -1,6 +1,6 @@
 -- `packet::with_mark` meets its contract. Assumes nothing.
 use borrow.Author.Needs.{needs}
-use Rattle.ftd.specs.Packets.{withMark}
+use Rattle.ftd.specs.Packet.{withDate}
 use Rattle.ftd.proofs.packet.with_mark.Statement.{statement}
 use Rattle.ftd.proofs.packet.with_mark.Tie as tie
 
@@ -8,11 +8,11 @@ bears-mark-requires : tie.Need-bears-mark-requires
 bears-mark-requires c κs = search needs
 
 returns : tie.Need-returns
-unfolding withMark
+unfolding withDate
 returns c = rw (← (c .before .bears-mark .ensures), c .if1 .taken)
 
 returns-2 : tie.Need-returns-2
-unfolding withMark
+unfolding withDate
 returns-2 c = rw (← (c .before .bears-mark .ensures), c .if1 .left)
 
 pub with-mark-spec : {M : Type 1} → statement M

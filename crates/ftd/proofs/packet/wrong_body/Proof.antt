@@ -1,5 +1,5 @@
 -- `packet::wrong_body` meets its contract. Assumes nothing.
-use Rattle.ftd.specs.Packets.{wrongBody}
+use Rattle.ftd.specs.Packet.{wrongBody}
 use Rattle.ftd.proofs.Tests.{tests}
 use Rattle.ftd.proofs.packet.wrong_body.Statement.{statement}
 use Rattle.ftd.proofs.packet.wrong_body.Tie as tie

@@ -1,6 +1,6 @@
 -- `places::item` meets its contract. Assumes nothing.
 use borrow.Author.Needs.{needs}
-use Rattle.ftd.proofs.Placed.{item-none, item-behind, item-short, item-part}
+use Rattle.ftd.proofs.places.Walk.{item-none, item-behind, item-short, item-part}
 use Rattle.ftd.proofs.places.item.Statement.{statement}
 use Rattle.ftd.proofs.places.item.Tie as tie
 

@@ -1,5 +1,5 @@
 -- `resume::keeps_resume_laws` meets its contract. Assumes nothing.
-use Rattle.ftd.proofs.StartFields.{resume-laws}
+use Rattle.ftd.proofs.resume.Content.{resume-laws}
 use Rattle.ftd.proofs.resume.keeps_resume_laws.Statement.{statement}
 use Rattle.ftd.proofs.resume.keeps_resume_laws.Tie as tie
 

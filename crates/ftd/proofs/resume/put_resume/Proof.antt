@@ -1,5 +1,5 @@
 use native.Mathlib.Omega.{arith}
-use Rattle.ftd.proofs.Written.{resume-put}
+use Rattle.ftd.proofs.write.Puts.{resume-put}
 use borrow.Author.Needs.{needs}
 use Rattle.ftd.proofs.resume.put_resume.Statement.{statement}
 use Rattle.ftd.proofs.resume.put_resume.Tie as tie

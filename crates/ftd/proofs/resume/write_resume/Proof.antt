@@ -1,5 +1,5 @@
 use mathlib.Core.Path.{refl}
-use Rattle.ftd.proofs.Written.{by-room, by-writing}
+use Rattle.ftd.proofs.write.Puts.{by-room, by-writing}
 use borrow.Author.Needs.{needs}
 use Rattle.ftd.proofs.resume.write_resume.Statement.{statement}
 use Rattle.ftd.proofs.resume.write_resume.Tie as tie

@@ -6,7 +6,7 @@ use native.Mathlib.Nat.{le-refl}
 use borrow.Author.Needs.{needs}
 use lib.ListN.{take, drop}
 use Rattle.ftd.specs.Signed.{pow10, digitsOf}
-use Rattle.ftd.proofs.Digits.{bound-turn, bound-digit, bound-end, digits-turn, digits-end}
+use Rattle.ftd.proofs.signed.Powers.{bound-turn, bound-digit, bound-end, digits-turn, digits-end}
 use Rattle.ftd.proofs.signed.digits.Statement.{statement}
 use Rattle.ftd.proofs.signed.digits.Tie as tie
 

@@ -3,7 +3,7 @@ use Prim.Native.Nat.{_+_, _≤_}
 use native.Mathlib.Omega.{arith}
 use borrow.Author.Needs.{needs}
 use lib.ListN.{length}
-use Rattle.ftd.proofs.Digits.{float-long, float-none, float-read, float-some}
+use Rattle.ftd.proofs.signed.Powers.{float-long, float-none, float-read, float-some}
 use Rattle.ftd.proofs.signed.read_float.Statement.{statement}
 use Rattle.ftd.proofs.signed.read_float.Tie as tie
 

@@ -1,6 +1,6 @@
 -- `signed::read_number` meets its contract. Assumes nothing.
 use borrow.Author.Needs.{needs}
-use Rattle.ftd.proofs.Digits.{number-long, number-wrong, number-read, number-some}
+use Rattle.ftd.proofs.signed.Powers.{number-long, number-wrong, number-read, number-some}
 use Rattle.ftd.proofs.signed.read_number.Statement.{statement}
 use Rattle.ftd.proofs.signed.read_number.Tie as tie
 

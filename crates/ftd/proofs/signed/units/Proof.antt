@@ -1,6 +1,6 @@
 -- `signed::units` meets its contract. Assumes nothing.
 use borrow.Author.Needs.{needs}
-use Rattle.ftd.proofs.Digits.{first-bound, second-bound, parts-units}
+use Rattle.ftd.proofs.signed.Powers.{first-bound, second-bound, parts-units}
 use Rattle.ftd.proofs.signed.units.Statement.{statement}
 use Rattle.ftd.proofs.signed.units.Tie as tie
 

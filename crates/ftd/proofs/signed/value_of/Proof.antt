@@ -1,6 +1,6 @@
 -- `signed::value_of` meets its contract. Assumes nothing.
 use borrow.Author.Needs.{needs}
-use Rattle.ftd.proofs.Digits.{value-minus, value-plain}
+use Rattle.ftd.proofs.signed.Powers.{value-minus, value-plain}
 use Rattle.ftd.proofs.signed.value_of.Statement.{statement}
 use Rattle.ftd.proofs.signed.value_of.Tie as tie
 

@@ -1,8 +1,8 @@
 -- `table::count_of` meets its contract. Assumes nothing.
 use mathlib.Core.Path.{_∙_}
 use borrow.Author.Needs.{needs}
-use Rattle.ftd.specs.TableRule.{places}
-use Rattle.ftd.proofs.TableRule.{count-col, counts}
+use Rattle.ftd.specs.Table.Rule.{places}
+use Rattle.ftd.proofs.table.Rule.{count-col, counts}
 use Rattle.ftd.proofs.table.count_of.Statement.{statement}
 use Rattle.ftd.proofs.table.count_of.Tie as tie
 

@@ -1,6 +1,6 @@
 -- `table::end_of` meets its contract. Assumes nothing.
 use borrow.Author.Needs.{needs}
-use Rattle.ftd.proofs.TableRule.{rows-end}
+use Rattle.ftd.proofs.table.Rule.{rows-end}
 use Rattle.ftd.proofs.table.end_of.Statement.{statement}
 use Rattle.ftd.proofs.table.end_of.Tie as tie
 

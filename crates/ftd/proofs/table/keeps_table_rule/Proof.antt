@@ -1,5 +1,5 @@
 -- `table::keeps_table_rule` meets its contract. Assumes nothing.
-use Rattle.ftd.proofs.TableRule.{table-rule}
+use Rattle.ftd.proofs.table.Rule.{table-rule}
 use Rattle.ftd.proofs.table.keeps_table_rule.Statement.{statement}
 use Rattle.ftd.proofs.table.keeps_table_rule.Tie as tie
 

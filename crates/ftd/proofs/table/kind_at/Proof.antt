@@ -1,5 +1,5 @@
 -- `table::kind_at` meets its contract. Assumes nothing.
-use Rattle.ftd.proofs.TableRule.{kind-col}
+use Rattle.ftd.proofs.table.Rule.{kind-col}
 use borrow.Author.Needs.{needs}
 use Rattle.ftd.proofs.table.kind_at.Statement.{statement}
 use Rattle.ftd.proofs.table.kind_at.Tie as tie

@@ -1,5 +1,5 @@
 -- `table::scale_at` meets its contract. Assumes nothing.
-use Rattle.ftd.proofs.TableRule.{scale-col}
+use Rattle.ftd.proofs.table.Rule.{scale-col}
 use borrow.Author.Needs.{needs}
 use Rattle.ftd.proofs.table.scale_at.Statement.{statement}
 use Rattle.ftd.proofs.table.scale_at.Tie as tie

@@ -1,8 +1,8 @@
 -- `table::start_of` meets its contract. Assumes nothing.
 use mathlib.Core.Path.{_∙_}
 use borrow.Author.Needs.{needs}
-use Rattle.ftd.specs.TableRule.{places}
-use Rattle.ftd.proofs.TableRule.{start-col, starts}
+use Rattle.ftd.specs.Table.Rule.{places}
+use Rattle.ftd.proofs.table.Rule.{start-col, starts}
 use Rattle.ftd.proofs.table.start_of.Statement.{statement}
 use Rattle.ftd.proofs.table.start_of.Tie as tie
 

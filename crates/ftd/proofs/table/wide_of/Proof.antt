@@ -1,8 +1,8 @@
 -- `table::wide_of` meets its contract. Assumes nothing.
 use mathlib.Core.Path.{_∙_}
 use borrow.Author.Needs.{needs}
-use Rattle.ftd.specs.TableRule.{places}
-use Rattle.ftd.proofs.TableRule.{wide-col, wides}
+use Rattle.ftd.specs.Table.Rule.{places}
+use Rattle.ftd.proofs.table.Rule.{wide-col, wides}
 use Rattle.ftd.proofs.table.wide_of.Statement.{statement}
 use Rattle.ftd.proofs.table.wide_of.Tie as tie
 

@@ -1,6 +1,6 @@
 -- `table::width_at` meets its contract. Assumes nothing.
 use mathlib.Core.Path.{_∙_}
-use Rattle.ftd.proofs.TableRule.{width-col}
+use Rattle.ftd.proofs.table.Rule.{width-col}
 use borrow.Author.Needs.{needs}
 use Rattle.ftd.proofs.table.width_at.Statement.{statement}
 use Rattle.ftd.proofs.table.width_at.Tie as tie

@@ -5,13 +5,13 @@ use native.Mathlib.Omega.{arith}
 use borrow.Author.Needs.{needs}
 use lib.ListN.{length, drop}
 use Rattle.ftd.specs.Runs.{runOf}
-use Rattle.ftd.specs.Tags.{tag, placeIn, tagPlace}
-use Rattle.ftd.proofs.Turns.{tag-head, find-over, find-here, find-turn}
+use Rattle.ftd.specs.Tags.{tag, tagIn, tagPlace}
+use Rattle.ftd.proofs.runs.Turns.{tag-head, find-over, find-here, find-turn}
 use Rattle.ftd.proofs.tags.find_tag.Statement.{statement}
 use Rattle.ftd.proofs.tags.find_tag.Tie as tie
 
 abbrev Inv-loop : tie.InvT-loop
-Inv-loop extension kind at₀ at = (at ≤ length extension) × (placeIn at (runOf tag (drop at extension) .entries) kind ≡ tagPlace extension kind)
+Inv-loop extension kind at₀ at = (at ≤ length extension) × (tagIn at (runOf tag (drop at extension) .entries) kind ≡ tagPlace extension kind)
 
 abbrev μ-loop : tie.MeasureT-loop
 μ-loop extension kind at₀ at = length extension - at

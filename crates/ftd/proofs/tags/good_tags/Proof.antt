@@ -1,7 +1,7 @@
 -- `tags::good_tags` meets its contract. Assumes nothing.
 use mathlib.Core.Path.{sym}
 use borrow.Author.Needs.{needs}
-use Rattle.ftd.proofs.Marked.{run-broken, run-good}
+use Rattle.ftd.proofs.tags.Walk.{run-broken, run-good}
 use Rattle.ftd.proofs.tags.good_tags.Statement.{statement}
 use Rattle.ftd.proofs.tags.good_tags.Tie as tie
 

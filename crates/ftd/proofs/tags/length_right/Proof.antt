@@ -1,7 +1,7 @@
 -- `tags::length_right` meets its contract. Assumes nothing.
 use borrow.Author.Needs.{needs}
 use Rattle.ftd.specs.Tags.{knownTags}
-use Rattle.ftd.proofs.Known.{lengths, right-over, right-row}
+use Rattle.ftd.proofs.tags.KnownTags.{lengths, right-over, right-row}
 use Rattle.ftd.proofs.tags.length_right.Statement.{statement}
 use Rattle.ftd.proofs.tags.length_right.Tie as tie
 

@@ -1,6 +1,6 @@
 -- `tags::mark_place` meets its contract. Assumes nothing.
 use borrow.Author.Needs.{needs}
-use Rattle.ftd.specs.Tags.{markPlace}
+use Rattle.ftd.specs.Tags.{datePlace}
 use Rattle.ftd.proofs.Tests.{tests}
 use Rattle.ftd.proofs.tags.mark_place.Statement.{statement}
 use Rattle.ftd.proofs.tags.mark_place.Tie as tie
@@ -9,11 +9,11 @@ add-result : tie.Need-add-result
 add-result c = search needs
 
 returns : tie.Need-returns
-unfolding markPlace
+unfolding datePlace
 returns c = search tests
 
 returns-2 : tie.Need-returns-2
-unfolding markPlace
+unfolding datePlace
 returns-2 c = search tests
 
 pub mark-place-spec : {M : Type 1} → statement M

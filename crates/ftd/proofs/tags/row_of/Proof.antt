@@ -3,7 +3,7 @@ use Prim.Native.Nat.{ℕ, _-_, _≤_}
 use mathlib.Core.Path.{_≡_, refl}
 use borrow.Author.Needs.{needs}
 use lib.ListN.{drop}
-use Rattle.ftd.proofs.Known.{kinds, row-here, row-turn, row-end}
+use Rattle.ftd.proofs.tags.KnownTags.{kinds, row-here, row-turn, row-end}
 use Rattle.ftd.specs.Tags.{rightIn, knownTags, lengthRight}
 use Rattle.ftd.proofs.tags.row_of.Statement.{statement}
 use Rattle.ftd.proofs.tags.row_of.Tie as tie

@@ -4,7 +4,7 @@ use mathlib.Core.Path.{_≡_, refl}
 use borrow.Author.Needs.{needs}
 use lib.ListN.{length, replicate}
 use Rattle.ftd.specs.Bytes.{put}
-use Rattle.ftd.proofs.Trimmed.{spaces-turn, spaces-done}
+use Rattle.ftd.proofs.texts.Laws.{spaces-turn, spaces-done}
 use Rattle.ftd.proofs.texts.put_spaces.Statement.{statement}
 use Rattle.ftd.proofs.texts.put_spaces.Tie as tie
 

@@ -1,6 +1,6 @@
 -- `texts::put_text` meets its contract. Assumes nothing.
 use borrow.Author.Needs.{needs}
-use Rattle.ftd.proofs.Trimmed.{text-put}
+use Rattle.ftd.proofs.texts.Laws.{text-put}
 use Rattle.ftd.proofs.texts.put_text.Statement.{statement}
 use Rattle.ftd.proofs.texts.put_text.Tie as tie
 

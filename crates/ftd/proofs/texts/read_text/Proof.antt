@@ -2,7 +2,7 @@
 use mathlib.Core.Path.{sym}
 use borrow.Author.Needs.{needs}
 use lib.Seq.{length-take-le}
-use Rattle.ftd.proofs.Trimmed.{trim-part}
+use Rattle.ftd.proofs.texts.Laws.{trim-part}
 use Rattle.ftd.proofs.texts.read_text.Statement.{statement}
 use Rattle.ftd.proofs.texts.read_text.Tie as tie
 

@@ -1,6 +1,6 @@
 -- `texts::text_fits` meets its contract. Assumes nothing.
 use borrow.Author.Needs.{needs}
-use Rattle.ftd.proofs.Trimmed.{text-wide, text-other, text-ends}
+use Rattle.ftd.proofs.texts.Laws.{text-wide, text-other, text-ends}
 use Rattle.ftd.proofs.texts.text_fits.Statement.{statement}
 use Rattle.ftd.proofs.texts.text_fits.Tie as tie
 

@@ -5,7 +5,7 @@ use mathlib.Core.Path.{_≡_}
 use borrow.Author.Needs.{needs}
 use lib.ListN.{length, drop}
 use Rattle.ftd.specs.Values.{every, isSpace}
-use Rattle.ftd.proofs.Trimmed.{trim-end, trim-found, trim-turn, trim-none}
+use Rattle.ftd.proofs.texts.Laws.{trim-end, trim-found, trim-turn, trim-none}
 use Rattle.ftd.proofs.texts.text_size.Statement.{statement}
 use Rattle.ftd.proofs.texts.text_size.Tie as tie
 

@@ -1,7 +1,7 @@
 -- `texts::write_text` meets its contract. Assumes nothing.
 use borrow.Author.Needs.{needs}
-use Rattle.ftd.proofs.Trimmed.{text-low, text-full}
-use Rattle.ftd.proofs.Stored.{misfit, no-room, stored}
+use Rattle.ftd.proofs.texts.Laws.{text-low, text-full}
+use Rattle.ftd.proofs.signed.Stores.{misfit, no-room, stored}
 use Rattle.ftd.proofs.texts.write_text.Statement.{statement}
 use Rattle.ftd.proofs.texts.write_text.Tie as tie
 

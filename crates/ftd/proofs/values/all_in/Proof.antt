@@ -4,9 +4,9 @@ use mathlib.Core.Bool.{_&&_}
 use mathlib.Core.Path.{_≡_, refl}
 use borrow.Author.Needs.{needs}
 use lib.ListN.{take, drop}
-use Rattle.ftd.specs.Classes.{inClass}
+use Rattle.ftd.specs.Values.Helpers.{inClass}
 use Rattle.ftd.specs.Values.{every}
-use Rattle.ftd.proofs.Checked.{all-end, all-turn}
+use Rattle.ftd.proofs.values.Checks.{all-end, all-turn}
 use Rattle.ftd.proofs.values.all_in.Statement.{statement}
 use Rattle.ftd.proofs.values.all_in.Tie as tie
 

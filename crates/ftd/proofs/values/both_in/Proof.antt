@@ -1,6 +1,6 @@
 -- `values::both_in` meets its contract. Assumes nothing.
 use borrow.Author.Needs.{needs}
-use Rattle.ftd.proofs.Checked.{parts-wrong, parts-right}
+use Rattle.ftd.proofs.values.Checks.{parts-wrong, parts-right}
 use Rattle.ftd.proofs.values.both_in.Statement.{statement}
 use Rattle.ftd.proofs.values.both_in.Tie as tie
 

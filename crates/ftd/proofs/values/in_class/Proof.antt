@@ -1,6 +1,6 @@
 -- `values::in_class` meets its contract. Assumes nothing.
 use borrow.Author.Needs.{needs}
-use Rattle.ftd.proofs.Checked.{text-low, text-high, digit-low, digit-high, zero-class, space-class}
+use Rattle.ftd.proofs.values.Checks.{text-low, text-high, digit-low, digit-high, zero-class, space-class}
 use Rattle.ftd.proofs.values.in_class.Statement.{statement}
 use Rattle.ftd.proofs.values.in_class.Tie as tie
 

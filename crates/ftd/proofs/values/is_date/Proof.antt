@@ -1,6 +1,6 @@
 -- `values::is_date` meets its contract. Assumes nothing.
 use borrow.Author.Needs.{needs}
-use Rattle.ftd.proofs.Checked.{date-width, date-spaces, date-other, date-digits}
+use Rattle.ftd.proofs.values.Checks.{date-width, date-spaces, date-other, date-digits}
 use Rattle.ftd.proofs.values.is_date.Statement.{statement}
 use Rattle.ftd.proofs.values.is_date.Tie as tie
 

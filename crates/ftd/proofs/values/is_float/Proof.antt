@@ -1,6 +1,6 @@
 -- `values::is_float` meets its contract. Assumes nothing.
 use borrow.Author.Needs.{needs}
-use Rattle.ftd.proofs.Checked.{float-short, float-wrong, float-right}
+use Rattle.ftd.proofs.values.Checks.{float-short, float-wrong, float-right}
 use Rattle.ftd.proofs.values.is_float.Statement.{statement}
 use Rattle.ftd.proofs.values.is_float.Tie as tie
 

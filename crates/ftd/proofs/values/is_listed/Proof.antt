@@ -1,6 +1,6 @@
 -- `values::is_listed` meets its contract. Assumes nothing.
 use borrow.Author.Needs.{needs}
-use Rattle.ftd.proofs.Checked.{listed, listed-over, listed-entry}
+use Rattle.ftd.proofs.values.Checks.{listed, listed-over, listed-entry}
 use Rattle.ftd.proofs.values.is_listed.Statement.{statement}
 use Rattle.ftd.proofs.values.is_listed.Tie as tie
 

@@ -1,6 +1,6 @@
 -- `values::is_number` meets its contract. Assumes nothing.
 use borrow.Author.Needs.{needs}
-use Rattle.ftd.proofs.Checked.{empty-number, whole-number}
+use Rattle.ftd.proofs.values.Checks.{empty-number, whole-number}
 use Rattle.ftd.proofs.values.is_number.Statement.{statement}
 use Rattle.ftd.proofs.values.is_number.Tie as tie
 

@@ -1,6 +1,6 @@
 -- `values::is_signed` meets its contract. Assumes nothing.
 use borrow.Author.Needs.{needs}
-use Rattle.ftd.proofs.Checked.{minus-wrong, minus-zero, minus-number, plain-number}
+use Rattle.ftd.proofs.values.Checks.{minus-wrong, minus-zero, minus-number, plain-number}
 use Rattle.ftd.proofs.values.is_signed.Statement.{statement}
 use Rattle.ftd.proofs.values.is_signed.Tie as tie
 

@@ -1,6 +1,6 @@
 -- `whole::char_fits` meets its contract. Assumes nothing.
 use borrow.Author.Needs.{needs}
-use Rattle.ftd.proofs.Wholly.{char-any, char-none, char-listed, char-over}
+use Rattle.ftd.proofs.whole.Laws.{char-any, char-none, char-listed, char-over}
 use Rattle.ftd.proofs.whole.char_fits.Statement.{statement}
 use Rattle.ftd.proofs.whole.char_fits.Tie as tie
 

@@ -1,6 +1,6 @@
 -- `whole::read_char` meets its contract. Assumes nothing.
 use borrow.Author.Needs.{needs}
-use Rattle.ftd.proofs.Wholly.{char-wide, char-wrong, char-read}
+use Rattle.ftd.proofs.whole.Laws.{char-wide, char-wrong, char-read}
 use Rattle.ftd.proofs.whole.read_char.Statement.{statement}
 use Rattle.ftd.proofs.whole.read_char.Tie as tie
 

@@ -1,6 +1,6 @@
 -- `whole::read_int` meets its contract. Assumes nothing.
 use borrow.Author.Needs.{needs}
-use Rattle.ftd.proofs.Wholly.{int-wide, int-read}
+use Rattle.ftd.proofs.whole.Laws.{int-wide, int-read}
 use Rattle.ftd.proofs.whole.read_int.Statement.{statement}
 use Rattle.ftd.proofs.whole.read_int.Tie as tie
 

@@ -1,6 +1,6 @@
 -- `whole::read_word` meets its contract. Assumes nothing.
 use borrow.Author.Needs.{needs}
-use Rattle.ftd.proofs.Wholly.{word-wide, word-read}
+use Rattle.ftd.proofs.whole.Laws.{word-wide, word-read}
 use Rattle.ftd.proofs.whole.read_word.Statement.{statement}
 use Rattle.ftd.proofs.whole.read_word.Tie as tie
 

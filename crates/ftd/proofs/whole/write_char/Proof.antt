@@ -1,7 +1,7 @@
 -- `whole::write_char` meets its contract. Assumes nothing.
 use mathlib.Core.Path.{refl}
 use borrow.Author.Needs.{needs}
-use Rattle.ftd.proofs.Stored.{misfit, no-room, stored}
+use Rattle.ftd.proofs.signed.Stores.{misfit, no-room, stored}
 use Rattle.ftd.proofs.whole.write_char.Statement.{statement}
 use Rattle.ftd.proofs.whole.write_char.Tie as tie
 

@@ -2,7 +2,7 @@
 use mathlib.Core.Bool.{true}
 use mathlib.Core.Path.{refl}
 use borrow.Author.Needs.{needs}
-use Rattle.ftd.proofs.Stored.{no-room, stored}
+use Rattle.ftd.proofs.signed.Stores.{no-room, stored}
 use Rattle.ftd.proofs.whole.write_word.Statement.{statement}
 use Rattle.ftd.proofs.whole.write_word.Tie as tie
 

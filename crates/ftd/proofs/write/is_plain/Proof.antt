@@ -1,4 +1,4 @@
-use Rattle.ftd.specs.Writing.{isPlain}
+use Rattle.ftd.specs.Write.{isPlain}
 use Rattle.ftd.proofs.Tests.{tests}
 use Rattle.ftd.proofs.write.is_plain.Statement.{statement}
 use Rattle.ftd.proofs.write.is_plain.Tie as tie

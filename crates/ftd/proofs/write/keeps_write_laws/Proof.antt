@@ -1,5 +1,5 @@
 -- `write::keeps_write_laws` meets its contract. Assumes nothing.
-use Rattle.ftd.proofs.RoundTrip.{write-laws}
+use Rattle.ftd.proofs.write.Laws.{write-laws}
 use Rattle.ftd.proofs.write.keeps_write_laws.Statement.{statement}
 use Rattle.ftd.proofs.write.keeps_write_laws.Tie as tie
 

@@ -1,5 +1,5 @@
 use native.Mathlib.Omega.{arith}
-use Rattle.ftd.proofs.Written.{frame-put}
+use Rattle.ftd.proofs.write.Puts.{frame-put}
 use borrow.Author.Needs.{needs}
 use Rattle.ftd.proofs.write.put_frame.Statement.{statement}
 use Rattle.ftd.proofs.write.put_frame.Tie as tie

@@ -1,7 +1,7 @@
 use lib.ListN.{length}
 use Prim.Native.Nat.{_≤_}
 use native.Mathlib.Omega.{arith}
-use Rattle.ftd.proofs.Written.{header-put}
+use Rattle.ftd.proofs.write.Puts.{header-put}
 use borrow.Author.Needs.{needs}
 use Rattle.ftd.proofs.write.put_header.Statement.{statement}
 use Rattle.ftd.proofs.write.put_header.Tie as tie

@@ -1,7 +1,7 @@
 use lib.ListN.{length}
 use Prim.Native.Nat.{_≤_}
 use native.Mathlib.Omega.{arith}
-use Rattle.ftd.proofs.Written.{message-put}
+use Rattle.ftd.proofs.write.Puts.{message-put}
 use borrow.Author.Needs.{needs}
 use Rattle.ftd.proofs.write.put_message.Statement.{statement}
 use Rattle.ftd.proofs.write.put_message.Tie as tie

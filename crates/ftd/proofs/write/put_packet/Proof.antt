@@ -1,5 +1,5 @@
 use native.Mathlib.Omega.{arith}
-use Rattle.ftd.proofs.Written.{packet-put}
+use Rattle.ftd.proofs.write.Puts.{packet-put}
 use borrow.Author.Needs.{needs}
 use Rattle.ftd.proofs.write.put_packet.Statement.{statement}
 use Rattle.ftd.proofs.write.put_packet.Tie as tie

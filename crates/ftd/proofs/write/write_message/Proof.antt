@@ -1,6 +1,6 @@
-use Rattle.ftd.proofs.Written.{length-message, by-refusal, by-room, by-writing}
+use Rattle.ftd.proofs.write.Puts.{length-message, by-refusal, by-room, by-writing}
 use borrow.Author.Tests.{lt-ltb, le-ltb}
-use Rattle.ftd.specs.Writing.{messageVerdict}
+use Rattle.ftd.specs.Write.{messageVerdict}
 use borrow.Author.Needs.{needs}
 use Rattle.ftd.proofs.write.write_message.Statement.{statement}
 use Rattle.ftd.proofs.write.write_message.Tie as tie

@@ -1,7 +1,7 @@
 use native.Mathlib.Omega.{arith}
-use Rattle.ftd.proofs.Written.{length-packet, by-refusal, by-other, by-room, by-writing, plain-body}
+use Rattle.ftd.proofs.write.Puts.{length-packet, by-refusal, by-other, by-room, by-writing, plain-body}
 use borrow.Author.Tests.{lt-ltb, le-ltb}
-use Rattle.ftd.specs.Writing.{plainVerdict}
+use Rattle.ftd.specs.Write.{plainVerdict}
 use borrow.Author.Needs.{needs}
 use Rattle.ftd.proofs.write.write_plain.Statement.{statement}
 use Rattle.ftd.proofs.write.write_plain.Tie as tie

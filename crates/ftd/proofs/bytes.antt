@@ -1,0 +1,3 @@
+-- The laws of bytes and numbers in them.
+pub mod Put
+pub mod Numbers

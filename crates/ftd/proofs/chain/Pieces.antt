@@ -1,0 +1,207 @@
+-- The pieces of a content and the packets of a message, one at a time. Assumes nothing.
+use Prim.Native.Nat.{ℕ, zero, suc, _+_, _-_, _<_, _≤_}
+use mathlib.Core.Path.{_≡_, refl, sym, ap, _∙_}
+use mathlib.Core.List.{List, [], _∷_}
+use mathlib.Core.Bool.{Bool, true, false, _&&_}
+use native.Mathlib.Omega.{arith}
+use borrow.Author.Tests.{leb-true, le-leb, lt-leb, eqb-true, eqb-false}
+use lib.ListN.{length, getD, drop, length-drop, length-take, length-append, drop-of-length-le}
+use lib.Seq.{drop-drop}
+use lib.Dec.{leb, eqb, eqb·suc-zero}
+use Rattle.ftd.specs.Bytes.{part, joined}
+use Rattle.ftd.specs.Runs.{runOf}
+use Rattle.ftd.specs.Fields.{field, fieldsOf}
+use Rattle.ftd.specs.Chain.{shapely, Piece, noFields, withField, pack, shaped, piecesOf, othersOf, pieceAt, NextPiece, tagsFor, extensionBytes, chainAt, packetFor, isNil, framed, packetsOf, sizeOf, measureOf, sizeAnswer}
+use Rattle.ftd.specs.declared.refusal.Refusal.the-variants.{FieldRun}
+use Rattle.ftd.specs.declared.packet.Chain.{Chain}
+use Rattle.ftd.specs.declared.chain.ChainSize.the-variants.{Refused}
+use Rattle.ftd.specs.declared.chain.Cut.{Cut}
+use Rattle.ftd.specs.declared.chain.Message.{Message}
+use Rattle.ftd.proofs.runs.Laws.{run-whole}
+use Rattle.ftd.proofs.packet.Laws.{by-test}
+use Rattle.ftd.proofs.write.Puts.{length-message}
+
+-- There is always a piece.
+packs-some : (p : Piece) (fs : List (List ℕ)) → isNil (pack p fs) ≡ false
+packs-some p [] = refl
+packs-some p (f ∷ fs) =
+    by-test (λ (ps : List Piece). isNil ps ≡ false) (leb (length (p .bytes) + length f) 4080) (λ b. packs-some (withField p f) fs) (λ b. refl)
+
+pub pieces-some : (l : List ℕ) → isNil (piecesOf l) ≡ false
+unfolding piecesOf
+pieces-some l = packs-some noFields (fieldsOf l)
+
+and-left : (a b : Bool) → (a && b) ≡ true → a ≡ true
+and-left true b e = refl
+and-left false b e = e
+
+-- A test has one outcome.
+pub both : {A : Type 0} (b : Bool) → b ≡ true → b ≡ false → A
+both b t f = let y : _≡_ {A = ℕ} 0 1 = cc in absurd (omega arith)
+
+pub below : (a b : ℕ) → a ≤ b → (a ≡ b → ⊥) → a < b
+below a b h k = omega arith
+
+-- The pieces behind a piece: those of what is left, or none at the end.
+module _ (l : List ℕ) (end : ℕ) (s : shapely (runOf field (drop end l)) ≡ true) where
+  whole-left : joined (fieldsOf (drop end l)) ≡ drop end l
+  whole-left = run-whole field (drop end l) (and-left _ _ s)
+
+  pub others-more : end < length l → othersOf (fieldsOf (drop end l)) ≡ piecesOf (drop end l)
+  unfolding piecesOf
+  others-more h = go (fieldsOf (drop end l)) (ap length whole-left)
+    where
+      go : (fs : List (List ℕ)) → length (joined fs) ≡ length (drop end l) → othersOf fs ≡ pack noFields fs
+      go [] e = absurd (omega (arith, rw length-drop at e))
+      go (f ∷ fs) e = refl
+
+  pub others-none : length l ≤ end → othersOf (fieldsOf (drop end l)) ≡ []
+  unfolding runOf
+  others-none h = rw (drop-of-length-le l h)
+
+-- Nothing is wrong where nothing is left.
+shapely-end : (l : List ℕ) (at : ℕ) → length l ≤ at → shapely (runOf field (drop at l)) ≡ true
+unfolding runOf
+shapely-end l at h = rw (drop-of-length-le l h)
+
+-- The first piece of what is left, and what follows it.
+module _ (l : List ℕ) (at : ℕ) (c : Cut) (next : NextPiece l at c) where
+  pub piece-length : length (part l at (c .end - at)) ≡ c .end - at
+  piece-length = simp (length-take, length-drop) (omega (arith, next .low, next .high))
+
+  pub piece-packet : (m : Message) (x : Chain) (to : ℕ)
+      → to + length (packetFor m x (pieceAt l at c)) ≡ to + (4 + length (extensionBytes (tagsFor (m .date))) + (16 + (c .end - at)))
+  unfolding packetFor
+  piece-packet m x to = rw (length-message, piece-length)
+
+  -- A piece that goes to the end.
+  pub whole-last : c .end ≡ length l → shapely (runOf field (drop at l)) ≡ true
+  whole-last h = sym (next .left) ∙ shapely-end l (c .end) (omega arith)
+
+  -- No piece before the end: a field is broken or too long.
+  pub broken-here : c .end ≡ at → (c .end ≡ length l → ⊥) → shapely (runOf field (drop at l)) ≡ false
+  broken-here e h = next .stuck e (below (c .end) (length l) (next .high) h)
+
+  module _ (s : shapely (runOf field (drop at l)) ≡ true) where
+    -- Before the end a piece has a field.
+    pub piece-moves : (c .end ≡ length l → ⊥) → at < c .end
+    piece-moves h = below at (c .end) (next .low) (λ e. both _ s (broken-here (sym e) h))
+
+    more : c .end < length l → piecesOf (drop at l) ≡ pieceAt l at c ∷ piecesOf (drop (c .end) l)
+    more h = next .pieces s ∙ ap (λ (ps : List Piece). pieceAt l at c ∷ ps) (others-more l (c .end) (next .left ∙ s) h)
+
+    last : c .end ≡ length l → piecesOf (drop at l) ≡ pieceAt l at c ∷ []
+    last h = next .pieces s ∙ ap (λ (ps : List Piece). pieceAt l at c ∷ ps) (others-none l (c .end) (next .left ∙ s) (omega arith))
+
+    pub count-more : c .end < length l → length (piecesOf (drop at l)) ≡ 1 + length (piecesOf (drop (c .end) l))
+    count-more h = rw (more h) (omega arith)
+
+    pub count-last : c .end ≡ length l → length (piecesOf (drop at l)) ≡ 1
+    count-last h = rw (last h)
+
+    pub size-more : (ext : ℕ) → c .end < length l → sizeOf ext (piecesOf (drop at l)) ≡ 4 + ext + (16 + (c .end - at)) + sizeOf ext (piecesOf (drop (c .end) l))
+    size-more ext h = rw (more h, piece-length)
+
+    pub size-last : (ext : ℕ) → c .end ≡ length l → sizeOf ext (piecesOf (drop at l)) ≡ 4 + ext + (16 + (c .end - at))
+    size-last ext h = rw (last h, piece-length) (omega arith)
+
+    module _ (m : Message) (first : Bool) where
+      pub frame-more : c .end < length l
+          → framed m first (piecesOf (drop at l)) ≡ packetFor m (chainAt first false) (pieceAt l at c) ∷ framed m false (piecesOf (drop (c .end) l))
+      frame-more h = rw (more h, pieces-some (drop (c .end) l))
+
+      pub frame-last : c .end ≡ length l → framed m first (piecesOf (drop at l)) ≡ packetFor m (chainAt first true) (pieceAt l at c) ∷ []
+      frame-last h = rw (last h)
+
+-- The packets of pieces: as many, and of the size counted.
+pub framed-count : (m : Message) (first : Bool) (ps : List Piece) → length (framed m first ps) ≡ length ps
+framed-count m first [] = refl
+framed-count m first (p ∷ ps) = ap suc (framed-count m false ps)
+
+pub framed-size : (m : Message) (first : Bool) (ps : List Piece) → length (joined (framed m first ps)) ≡ sizeOf (length (extensionBytes (tagsFor (m .date)))) ps
+unfolding packetFor
+framed-size m first [] = refl
+framed-size m first (p ∷ ps) = rw (length-append, length-message, framed-size m false ps)
+
+-- ─── What the public functions decide ───
+
+pub shaped-facts : (content : List ℕ) (limit : ℕ) (r : Bool) → r ≡ shaped content limit → r ≡ true → (length content ≤ limit) × (shapely (runOf field content) ≡ true)
+unfolding shaped
+shaped-facts content limit r e t = go (leb (length content) limit) refl (sym e ∙ t)
+  where
+    go : (b : Bool) → leb (length content) limit ≡ b → (b && shapely (runOf field content)) ≡ true → (length content ≤ limit) × (shapely (runOf field content) ≡ true)
+    go true p q = (leb-true (length content) limit p, q)
+    go false p q = let y : _≡_ {A = ℕ} 0 1 = cc in absurd (omega arith)
+
+pub size-over : (m : Message) (content : List ℕ) → 32768 < length content → Refused FieldRun ≡ sizeAnswer m content
+unfolding sizeAnswer shaped
+size-over m content h = rw (lt-leb (length content) 32768 h)
+
+module _ (m : Message) (content : List ℕ) (tags : ℕ) (e : tags ≡ length (extensionBytes (tagsFor (m .date)))) where
+  pub size-is : length content ≤ 32768 → measureOf tags content ≡ sizeAnswer m content
+  unfolding measureOf sizeAnswer shaped packetsOf
+  size-is h = rw (le-leb (length content) 32768 h, framed-count m true (piecesOf content), framed-size m true (piecesOf content), ← e)
+
+-- ─── A piece and a packet by place ───
+
+module _ (content : List ℕ) (i at left : ℕ) (c : Cut) (next : NextPiece content at c) (s : shapely (runOf field (drop at content)) ≡ true) (few : left ≤ i) (inv : drop (i - left) (piecesOf content) ≡ piecesOf (drop at content)) where
+  pub piece-here : left ≡ 0 → drop i (piecesOf content) ≡ piecesOf (drop at content)
+  piece-here z =
+      let e : i - left ≡ i = omega arith in
+      rw e at inv
+
+  pub piece-none : (left ≡ 0 → ⊥) → c .end ≡ length content → length (piecesOf content) ≤ i
+  piece-none z h =
+      let k : length (piecesOf content) - (i - left) ≡ 1 = sym (length-drop (i - left) (piecesOf content)) ∙ ap length inv ∙ count-last content at c next s h in
+      omega (arith, positive left z)
+    where
+      positive : (n : ℕ) → (n ≡ 0 → ⊥) → 0 < n
+      positive n z = omega arith
+
+  pub piece-turn : (left ≡ 0 → ⊥) → (c .end ≡ length content → ⊥) → drop (i - (left - 1)) (piecesOf content) ≡ piecesOf (drop (c .end) content)
+  piece-turn z h =
+      let e : i - (left - 1) ≡ i - left + 1 = omega arith in
+      ap (λ (n : ℕ). drop n (piecesOf content)) e
+      ∙ sym (drop-drop 1 (i - left) (piecesOf content))
+      ∙ ap (drop 1) (inv ∙ more content at c next s (omega (arith, next .high)))
+
+framed-drop : (m : Message) (i : ℕ) (first : Bool) (ps : List Piece) → drop i (framed m first ps) ≡ framed m (first && eqb i 0) (drop i ps)
+framed-drop m zero true ps = refl
+framed-drop m zero false ps = refl
+framed-drop m (suc i) first [] = refl
+framed-drop m (suc i) first (p ∷ ps) = framed-drop m i false ps ∙ ap (λ (b : Bool). framed m b (drop i ps)) (sym (later first))
+  where
+    later : (b : Bool) → (b && eqb (suc i) 0) ≡ false
+    later true = eqb·suc-zero i
+    later false = refl
+
+head-of : (ls : List (List ℕ)) (i : ℕ) (x : List ℕ) (xs : List (List ℕ)) → drop i ls ≡ x ∷ xs → (getD ls i [] ≡ x) × (i < length ls)
+head-of [] zero x xs e = let y = ap length e in absurd (omega arith)
+head-of [] (suc i) x xs e = let y = ap length e in absurd (omega arith)
+head-of (l ∷ ls) zero x xs e = (cc, omega arith)
+head-of (l ∷ ls) (suc i) x xs e = let h = head-of ls i x xs e in (h .0, omega (arith, h .1))
+
+-- Packet i of a message, from piece i of its content.
+pub packet-here : (m : Message) (content : List ℕ) (i at : ℕ) (c : Cut) → NextPiece content at c → shapely (runOf field (drop at content)) ≡ true → drop i (piecesOf content) ≡ piecesOf (drop at content)
+    → (getD (packetsOf m content) i [] ≡ packetFor m (chainAt (eqb i 0) (eqb (c .end) (length content))) (pieceAt content at c)) × (i < length (packetsOf m content))
+unfolding packetsOf
+packet-here m content i at c next s e = go (eqb (c .end) (length content)) refl
+  where
+    go : (b : Bool) → eqb (c .end) (length content) ≡ b
+        → (getD (framed m true (piecesOf content)) i [] ≡ packetFor m (chainAt (eqb i 0) b) (pieceAt content at c)) × (i < length (framed m true (piecesOf content)))
+    go true q =
+        head-of (framed m true (piecesOf content)) i _ _
+        (framed-drop m i true (piecesOf content) ∙ ap (framed m (eqb i 0)) e ∙ frame-last content at c next s m (eqb i 0) (eqb-true (c .end) (length content) q))
+    go false q =
+        head-of (framed m true (piecesOf content)) i _ _
+        (framed-drop m i true (piecesOf content) ∙ ap (framed m (eqb i 0)) e
+        ∙ frame-more content at c next s m (eqb i 0) (below (c .end) (length content) (next .high) (eqb-false (c .end) (length content) q)))
+
+pub packet-none : (m : Message) (content : List ℕ) (i : ℕ) → length (piecesOf content) ≤ i → length (packetsOf m content) ≤ i
+unfolding packetsOf
+packet-none m content i h = rw (framed-count m true (piecesOf content)) h
+
+pub packet-size : (m : Message) (content : List ℕ) (i at : ℕ) (c : Cut) → NextPiece content at c → shapely (runOf field (drop at content)) ≡ true → drop i (piecesOf content) ≡ piecesOf (drop at content)
+    → (tags : ℕ) → tags ≡ length (extensionBytes (tagsFor (m .date))) → length (getD (packetsOf m content) i []) ≡ 4 + tags + (16 + (c .end - at))
+packet-size m content i at c next s e tags t =
+    rw (packet-here m content i at c next s e .0, t) (omega (arith, piece-packet content at c next m (chainAt (eqb i 0) (eqb (c .end) (length content))) 0))

@@ -1,0 +1,75 @@
+-- One turn of counting a field, and of the walk over Appendix E, over plain variables. Assumes nothing.
+use Prim.Native.Nat.{ℕ, _+_, _<_, _≤_}
+use mathlib.Core.Path.{_≡_, refl, _∙_}
+use mathlib.Core.List.{List}
+use mathlib.Core.Bool.{Bool, true, false, _&&_}
+use native.Mathlib.Numerals.{add-one}
+use borrow.Author.Tests.{eq-eqb, ne-eqb}
+use lib.ListN.{length, getD, take, drop, drop-of-length-le, List·getD-map}
+use lib.Seq.{drop-cons}
+use Rattle.ftd.specs.Bytes.{be32Of}
+use Rattle.ftd.specs.Runs.{front, runOf}
+use Rattle.ftd.specs.Fields.{field, fidOf}
+use Rattle.ftd.specs.Composition.{CompositionLine, appendixE, lineTids, directions, fids, leasts, mosts, lineAt, oneIf, counted, countOf, inRange, lineHolds, allHold}
+use Rattle.ftd.proofs.runs.Laws.{run-over, run-next}
+use Rattle.ftd.proofs.runs.Turns.{some-field, be32-entry, field-head}
+
+module _ (l : List ℕ) (at n fid seen t : ℕ) (e : n ≡ front field (drop at l)) (inv : counted fid (runOf field (drop at l) .entries) seen ≡ t) where
+  pub count-over : n ≡ 0 → seen ≡ t
+  count-over z = rw (run-over field some-field l at n e z) at inv
+
+  pub count-turn : (n ≡ 0 → ⊥) → (found one : ℕ) → found ≡ be32Of l at → one ≡ oneIf found fid → counted fid (runOf field (drop (at + n) l) .entries) (seen + one) ≡ t
+  count-turn z found one q o =
+      let h : counted fid (runOf field (drop (at + n) l) .entries) (seen + oneIf (fidOf (take n (drop at l))) fid) ≡ t = rw (run-next field some-field l at n e z) at inv in
+      rw (o, q) (rw (be32-entry l at n (field-head l at n e z)) at h)
+
+-- ─── Appendix E, a line at a time ───
+
+abbrev pub noLine : CompositionLine
+noLine = record { tid = 0; direction = 0; fid = 0; least = 0; most = 0 }
+
+module _ (r : CompositionLine) (tid direction : ℕ) (content : List ℕ) (x : ℕ) (p : x ≡ r .tid) where
+  pub other-tid : (x ≡ tid → ⊥) → true ≡ lineHolds r tid direction content
+  other-tid n = rw (← p, ne-eqb x tid n)
+
+  module _ (same : x ≡ tid) where
+    pub other-direction : (r .direction ≡ direction → ⊥) → true ≡ lineHolds r tid direction content
+    other-direction n = rw (← p, eq-eqb x tid same, ne-eqb (r .direction) direction n)
+
+    pub line-here : r .direction ≡ direction → (least most fid n : ℕ) → least ≡ r .least → most ≡ r .most → fid ≡ r .fid → n ≡ countOf fid content
+        → (b : Bool) → b ≡ inRange least most n → b ≡ lineHolds r tid direction content
+    line-here d least most fid n q s f c b e = e ∙ rw (← p, eq-eqb x tid same, eq-eqb (r .direction) direction d, q, s, c, f)
+
+pub lines : length appendixE ≡ 82
+unfolding appendixE
+lines = refl
+
+pub line-is : (i : ℕ) → getD appendixE i noLine ≡ lineAt i
+unfolding lineAt lineTids directions fids leasts mosts
+line-is i =
+    rw (
+      List·getD-map (λ (r : CompositionLine). r .tid) appendixE i noLine,
+      List·getD-map (λ (r : CompositionLine). r .direction) appendixE i noLine,
+      List·getD-map (λ (r : CompositionLine). r .fid) appendixE i noLine,
+      List·getD-map (λ (r : CompositionLine). r .least) appendixE i noLine,
+      List·getD-map (λ (r : CompositionLine). r .most) appendixE i noLine,
+    )
+
+line-step : (i tid direction : ℕ) (content : List ℕ) → i < 82
+    → allHold (drop i appendixE) tid direction content ≡ (lineHolds (lineAt i) tid direction content && allHold (drop (i + 1) appendixE) tid direction content)
+line-step i tid direction content h =
+    let k : i < length appendixE = rw lines h in
+    rw (← (line-is i), add-one, drop-cons appendixE i noLine)
+
+module _ (i tid direction : ℕ) (content : List ℕ) (t : Bool) (inv : allHold (drop i appendixE) tid direction content ≡ t) where
+  pub lines-end : 82 ≤ i → true ≡ t
+  lines-end h =
+      let k : length appendixE ≤ i = rw lines h in
+      rw (drop-of-length-le appendixE k) at inv
+
+  module _ (h : i < 82) (b : Bool) (e : b ≡ lineHolds (lineAt i) tid direction content) where
+    pub lines-wrong : b ≡ false → false ≡ t
+    lines-wrong w = rw (line-step i tid direction content h, ← e, w) at inv
+
+    pub lines-turn : b ≡ true → allHold (drop (i + 1) appendixE) tid direction content ≡ t
+    lines-turn w = rw (line-step i tid direction content h, ← e, w) at inv

@@ -1,0 +1,2 @@
+-- The laws of the content check.
+pub mod Verdicts

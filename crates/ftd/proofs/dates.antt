@@ -1,0 +1,3 @@
+-- The laws of Dates.
+pub mod Verdicts
+pub mod Laws

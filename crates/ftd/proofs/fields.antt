@@ -1,0 +1,3 @@
+-- The laws of fields.
+pub mod Laws
+pub mod Shape

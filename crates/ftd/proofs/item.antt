@@ -1,0 +1,4 @@
+-- The laws of an item's value.
+pub mod Laws
+pub mod Readings
+pub mod Writings

@@ -1,0 +1,2 @@
+-- The laws of the items of a content's fields.
+pub mod Walk

@@ -1,0 +1,3 @@
+-- The laws of login packets.
+pub mod Laws
+pub mod Writes

@@ -1,0 +1,2 @@
+-- The laws of the mode of a message type.
+pub mod Ranges

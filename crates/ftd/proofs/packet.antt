@@ -1,0 +1,5 @@
+-- The laws of reading packets.
+pub mod Verdicts
+pub mod Dates
+pub mod Laws
+pub mod One

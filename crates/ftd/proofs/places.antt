@@ -1,0 +1,2 @@
+-- The laws of an item by place.
+pub mod Walk

@@ -1,0 +1,3 @@
+-- The laws of the start field.
+pub mod Behind
+pub mod Content

@@ -1,0 +1,5 @@
+-- The laws of Numbers and Floats.
+pub mod Powers
+pub mod Stores
+pub mod Laws
+pub mod Integers

@@ -1,0 +1,3 @@
+-- The laws of tags.
+pub mod KnownTags
+pub mod Walk

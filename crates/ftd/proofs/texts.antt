@@ -1,0 +1,2 @@
+-- The laws of Strings.
+pub mod Laws

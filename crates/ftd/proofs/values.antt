@@ -1,0 +1,3 @@
+-- The laws of values by type.
+pub mod Checks
+pub mod Laws

@@ -1,0 +1,2 @@
+-- The laws of Chars, Words and Ints.
+pub mod Laws

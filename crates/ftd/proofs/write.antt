@@ -1,0 +1,3 @@
+-- The laws of writing packets.
+pub mod Puts
+pub mod Laws

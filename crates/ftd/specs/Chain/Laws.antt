@@ -1,0 +1,74 @@
+-- What holds of the packets of a message (01, "Message packet", demand 2): nothing is lost, no field is split, each packet is read
+-- back as what was meant, and the packets are found again in what was written by their first four bytes.
+use Prim.Native.Nat.{ℕ, _+_, _≤_, _<_}
+use mathlib.Core.Path.{_≡_}
+use mathlib.Core.List.{List, [], _∷_, _++_, map}
+use mathlib.Core.Bool.{true, false}
+use lib.ListN.{length, getD}
+use lib.Dec.{eqb}
+use Rattle.ftd.specs.Bytes.{part, joined}
+use Rattle.ftd.specs.Runs.{Form, runOf}
+use Rattle.ftd.specs.Tags.{tag, goodTags, tradeDateOf}
+use Rattle.ftd.specs.Fields.{fieldsOf, exactRun}
+use Rattle.ftd.specs.Packet.{extensionLength, bodyLength, notOnePacket, noMessagePacket, span, readOf, datedOf}
+use Rattle.ftd.specs.Chain.{shaped, Tag, tagBytes, Piece, noFields, piecesOf, tagsFor, extensionBytes, chainAt, headerFor, packetsOf}
+use Rattle.ftd.specs.declared.tags.TradeDate.{TradeDate}
+use Rattle.ftd.specs.declared.chain.Message.{Message}
+use Rattle.ftd.specs.declared.packet.Chain.{Chain}
+use Rattle.ftd.specs.declared.packet.Packet.the-variants.{Message as Accepted}
+
+-- Bytes cut by the packets' first four bytes.
+unfoldable pub packetForm : Form
+packetForm = record { head = 4; follow = λ l. extensionLength l + bodyLength l }
+
+-- Piece i of a content, and packet i of a message.
+abbrev pub pieceAtPlace : List ℕ → ℕ → Piece
+pieceAtPlace content i = getD (piecesOf content) i noFields
+
+abbrev pub packetAtPlace : Message → List ℕ → ℕ → List ℕ
+packetAtPlace m content i = getD (packetsOf m content) i []
+
+-- The letters by place: S alone, or F, C .., L.
+abbrev pub letterAt : Message → List ℕ → ℕ → Chain
+letterAt m content i = chainAt (eqb i 0) (eqb (i + 1) (length (packetsOf m content)))
+
+pub record ChainLaws : Type 0 where
+  -- An extension made of tags is a run of just these tags.
+  pub tags-back : (ts : List Tag) → runOf tag (extensionBytes ts) ≡ record { entries = map tagBytes ts; rest = [] }
+  -- The tags that an end writes pass the check of tags, and have the mark.
+  pub tags-good : (d : TradeDate) → goodTags (extensionBytes (tagsFor d)) ≡ true
+  pub tags-date : (d : TradeDate) → tradeDateOf (extensionBytes (tagsFor d)) ≡ d
+  -- Content that has shape is as many whole fields as it has fields; what one packet holds is one piece.
+  pub exact : (content : List ℕ) (limit : ℕ) → shaped content limit ≡ true → exactRun content (length (fieldsOf content)) ≡ true
+  pub single : (content : List ℕ) → shaped content 4080 ≡ true → piecesOf content ≡ record { count = length (fieldsOf content); bytes = content } ∷ []
+  -- The pieces' bytes joined are the content.
+  pub pieces-joined : (content : List ℕ) (limit : ℕ) → shaped content limit ≡ true → joined (map (λ (p : Piece). p .bytes) (piecesOf content)) ≡ content
+  -- Each piece is so many whole fields, of at most 4,080 bytes together.
+  pub piece-whole : (content : List ℕ) (limit i : ℕ) → shaped content limit ≡ true → i < length (piecesOf content)
+      → (length (pieceAtPlace content i .bytes) ≤ 4080) × (exactRun (pieceAtPlace content i .bytes) (pieceAtPlace content i .count) ≡ true)
+  -- There are as many packets as pieces, one at least.
+  pub as-many : (m : Message) (content : List ℕ) → (length (packetsOf m content) ≡ length (piecesOf content)) × (0 < length (packetsOf m content))
+  -- Two neighbours have more than 4,080 bytes together, so that a message has at most 17.
+  pub few : (content : List ℕ) → length content ≤ 32768 → length (piecesOf content) ≤ 17
+  -- Each packet, with anything behind it, is read back: TID, series and number of the message, the letter of its place, its piece and the mark.
+  pub read-back : (m : Message) (content : List ℕ) (limit i : ℕ) (q : List ℕ) → shaped content limit ≡ true → i < length (packetsOf m content)
+      → readOf (packetAtPlace m content i ++ q)
+      ≡ Accepted (headerFor m (letterAt m content i) (pieceAtPlace content i .count)) (span 4 (length (extensionBytes (tagsFor (m .date)))))
+      (span (4 + length (extensionBytes (tagsFor (m .date))) + 16) (length (pieceAtPlace content i .bytes)))
+  pub mark-back : (m : Message) (content : List ℕ) (i : ℕ) (q : List ℕ) → i < length (packetsOf m content)
+      → tradeDateOf (part (packetAtPlace m content i ++ q) 4 (length (extensionBytes (tagsFor (m .date))))) ≡ m .date
+  pub piece-back : (m : Message) (content : List ℕ) (i : ℕ) (q : List ℕ) → i < length (packetsOf m content)
+      → part (packetAtPlace m content i ++ q) (4 + length (extensionBytes (tagsFor (m .date))) + 16) (length (pieceAtPlace content i .bytes)) ≡ pieceAtPlace content i .bytes
+  -- The same with the mark, as one answer; and each is one packet, and a message packet.
+  pub dated-back : (m : Message) (content : List ℕ) (limit i : ℕ) (q : List ℕ) → shaped content limit ≡ true → i < length (packetsOf m content)
+      → datedOf (packetAtPlace m content i ++ q)
+      ≡ record {
+        packet =
+            Accepted (headerFor m (letterAt m content i) (pieceAtPlace content i .count)) (span 4 (length (extensionBytes (tagsFor (m .date)))))
+            (span (4 + length (extensionBytes (tagsFor (m .date))) + 16) (length (pieceAtPlace content i .bytes)));
+        date = m .date;
+      }
+  pub one-packet : (m : Message) (content : List ℕ) (limit i : ℕ) → shaped content limit ≡ true → i < length (packetsOf m content)
+      → (notOnePacket (packetAtPlace m content i) ≡ false) × (noMessagePacket (packetAtPlace m content i) ≡ false)
+  -- What a whole message is written as, cut by the packets' first four bytes, is its packets.
+  pub cut-back : (m : Message) (content : List ℕ) → runOf packetForm (joined (packetsOf m content)) ≡ record { entries = packetsOf m content; rest = [] }

@@ -1,0 +1,264 @@
+-- What some bytes are (4.1, 4.2; 01, "Packet" and "Message packet", rows 1 to 7 of the refusal table).
+pub mod Laws
+use Prim.Native.Nat.{ℕ, _+_, _-_, _≤_}
+use mathlib.Core.Path.{_≡_}
+use mathlib.Core.List.{List, []}
+use mathlib.Core.Bool.{Bool, true, false, cond, not, _&&_, _||_}
+use lib.ListN.{length, getD}
+use lib.Dec.{ltb, leb, eqb}
+use Rattle.ftd.specs.Bytes.{be16Of, be32Of, part}
+use Rattle.ftd.specs.Tags.{goodTags, tradeDateOf}
+use Rattle.ftd.specs.Fields.{exactRun, fieldsOf, fieldPlaceOf}
+use Rattle.ftd.specs.declared.fields.FieldPlace.{FieldPlace}
+use Rattle.ftd.specs.declared.fields.FieldPlace.the-variants.{NoField, Field}
+use Rattle.ftd.specs.declared.refusal.Refusal.the-variants.{LongExtension, BrokenTag, BodyLength, Version, ChainLetter, ContentLength, FieldRun}
+use Rattle.ftd.specs.declared.packet.Span.{Span}
+use Rattle.ftd.specs.declared.packet.Chain.{Chain}
+use Rattle.ftd.specs.declared.packet.Chain.the-variants.{Single, First, Middle, Last}
+use Rattle.ftd.specs.declared.packet.Header.{Header}
+use Rattle.ftd.specs.declared.tags.TradeDate.{TradeDate}
+use Rattle.ftd.specs.declared.tags.TradeDate.the-variants.{None}
+use Rattle.ftd.specs.declared.packet.Dated.{Dated}
+use Rattle.ftd.specs.declared.packet.Packet.{Packet}
+use Rattle.ftd.specs.declared.packet.Packet.the-variants.{Short, Link, Skipped, Message, Refused}
+
+-- ─── What the first four bytes say (4.1.1) ───
+
+-- Byte 0: the type.
+abbrev pub kindOf : List ℕ → ℕ
+kindOf p = getD p 0 0
+
+-- Byte 1: the length of the extension.
+abbrev pub extensionLength : List ℕ → ℕ
+extensionLength p = getD p 1 0
+
+-- Bytes 2 and 3: the length of the body, which counts neither header nor extension.
+abbrev pub bodyLength : List ℕ → ℕ
+bodyLength p = be16Of p 2
+
+-- As many bytes as the first four say.
+unfoldable pub saidLength : List ℕ → ℕ
+saidLength p = 4 + extensionLength p + bodyLength p
+
+-- The same for any bytes: 0 where the four are not there.
+unfoldable pub saidIn : List ℕ → ℕ
+saidIn p = cond (leb 4 (length p)) (saidLength p) 0
+
+-- The lengths of extension and body are those that the four say.
+abbrev pub SaysLengths : List ℕ → ℕ → ℕ → Type 0
+SaysLengths p ext body = (ext ≡ extensionLength p) × (body ≡ bodyLength p)
+
+-- Where the body starts.
+abbrev pub bodyStart : List ℕ → ℕ
+bodyStart p = 4 + extensionLength p
+
+unfoldable pub extensionOf : List ℕ → List ℕ
+extensionOf p = part p 4 (extensionLength p)
+
+-- ─── The body of a message packet (4.2.1): version 1, TID 4, chain 1, series 2, number 4, field count 2, content length 2 ───
+
+unfoldable pub versionOf : List ℕ → ℕ
+versionOf p = getD p (bodyStart p) 0
+
+unfoldable pub tidOf : List ℕ → ℕ
+tidOf p = be32Of p (bodyStart p + 1)
+
+unfoldable pub letterOf : List ℕ → ℕ
+letterOf p = getD p (bodyStart p + 5) 0
+
+unfoldable pub seriesOf : List ℕ → ℕ
+seriesOf p = be16Of p (bodyStart p + 6)
+
+unfoldable pub messageNumberOf : List ℕ → ℕ
+messageNumberOf p = be32Of p (bodyStart p + 8)
+
+unfoldable pub fieldCountOf : List ℕ → ℕ
+fieldCountOf p = be16Of p (bodyStart p + 12)
+
+unfoldable pub contentLengthOf : List ℕ → ℕ
+contentLengthOf p = be16Of p (bodyStart p + 14)
+
+unfoldable pub contentOf : List ℕ → List ℕ
+contentOf p = part p (bodyStart p + 16) (bodyLength p - 16)
+
+-- ─── The refusals, one test a row; each says something of any bytes ───
+
+-- Fewer than four bytes, or fewer than the four say.
+abbrev pub headMissing : List ℕ → Bool
+headMissing p = ltb (length p) 4
+
+unfoldable pub restMissing : List ℕ → Bool
+restMissing p = ltb (length p) (saidLength p)
+
+-- 12: fewer than four bytes, or not as many as the first four say. (Said of no bytes are 0, yet no bytes are not one packet.)
+unfoldable pub notOnePacket : List ℕ → Bool
+notOnePacket p = headMissing p || not (eqb (length p) (saidLength p))
+
+-- 12, of Login and Answer also: no message packet, by the first four bytes.
+unfoldable pub noMessagePacket : List ℕ → Bool
+noMessagePacket p = not (eqb (kindOf p) 1 && leb 16 (bodyLength p) && leb (bodyLength p) 4096)
+
+-- 1: the extension is above 127.
+abbrev pub longExtension : List ℕ → Bool
+longExtension p = ltb 127 (extensionLength p)
+
+-- 3: type 0x01 with a body of 1 to 15 or above 4,096.
+unfoldable pub wrongBody : ℕ → ℕ → Bool
+wrongBody kind body = eqb kind 1 && (not (eqb body 0) && (ltb body 16 || ltb 4096 body))
+
+-- Skipped: any type but 0x00 and 0x01, and type 0x00 with a body.
+unfoldable pub isSkipped : ℕ → ℕ → Bool
+isSkipped kind body = ltb 1 kind || (eqb kind 0 && ltb 0 body)
+
+-- 2: the tags don't end with the extension, a known tag has a wrong length, or 0x05 stands twice.
+abbrev pub brokenTag : List ℕ → Bool
+brokenTag p = not (goodTags (extensionOf p))
+
+-- A link packet has no body.
+abbrev pub isLink : List ℕ → Bool
+isLink p = eqb (bodyLength p) 0
+
+-- 4: the version is not 1.
+abbrev pub wrongVersion : List ℕ → Bool
+wrongVersion p = not (eqb (versionOf p) 1)
+
+-- 5: the chain letter is not S, F, C or L.
+unfoldable pub isLetter : ℕ → Bool
+isLetter x = eqb x 83 || (eqb x 70 || (eqb x 67 || eqb x 76))
+
+abbrev pub wrongLetter : List ℕ → Bool
+wrongLetter p = not (isLetter (letterOf p))
+
+-- 6: the content length is not the body less 16.
+abbrev pub wrongContentLength : List ℕ → Bool
+wrongContentLength p = not (eqb (contentLengthOf p + 16) (bodyLength p))
+
+-- 7: the content isn't exactly that many fields.
+abbrev pub wrongFields : List ℕ → Bool
+wrongFields p = not (exactRun (contentOf p) (fieldCountOf p))
+
+-- ─── What was read ───
+
+-- The letters of the chain: S single, F first, C middle, L last.
+unfoldable pub chainOf : ℕ → Chain
+chainOf x = cond (eqb x 83) Single (cond (eqb x 70) First (cond (eqb x 67) Middle Last))
+
+abbrev pub chainLetter : Chain → ℕ
+chainLetter Single = 83
+chainLetter First = 70
+chainLetter Middle = 67
+chainLetter Last = 76
+
+abbrev pub span : ℕ → ℕ → Span
+span start len = record { start = start; len = len }
+
+abbrev pub extensionSpan : List ℕ → Span
+extensionSpan p = span 4 (extensionLength p)
+
+-- Where the content lies.
+abbrev pub contentSpan : List ℕ → Span
+contentSpan p = span (bodyStart p + 16) (bodyLength p - 16)
+
+unfoldable pub headerOf : List ℕ → Header
+headerOf p =
+    record {
+      tid = tidOf p;
+      chain = chainOf (letterOf p);
+      series = seriesOf p;
+      number = messageNumberOf p;
+      fields = fieldCountOf p;
+    }
+
+-- A message packet with nothing wrong: its values and places.
+unfoldable pub acceptedOf : List ℕ → Packet
+acceptedOf p = Message (headerOf p) (extensionSpan p) (contentSpan p)
+
+-- ─── Reading: the first test that holds decides ───
+
+-- The body of a message packet.
+unfoldable pub messageOf : List ℕ → Packet
+messageOf p =
+    cond (wrongVersion p) (Refused Version)
+    (cond (wrongLetter p) (Refused ChainLetter)
+    (cond (wrongContentLength p) (Refused ContentLength)
+    (cond (wrongFields p) (Refused FieldRun)
+    (acceptedOf p))))
+
+-- A packet that is there whole.
+unfoldable pub wholeOf : List ℕ → Packet
+wholeOf p =
+    cond (isSkipped (kindOf p) (bodyLength p)) (Skipped (kindOf p) (extensionSpan p) (span (bodyStart p) (bodyLength p)))
+    (cond (brokenTag p) (Refused BrokenTag)
+    (cond (isLink p) (Link (kindOf p) (extensionSpan p))
+    (messageOf p)))
+
+unfoldable pub readOf : List ℕ → Packet
+readOf p =
+    cond (headMissing p) Short
+    (cond (longExtension p) (Refused LongExtension)
+    (cond (wrongBody (kindOf p) (bodyLength p)) (Refused BodyLength)
+    (cond (restMissing p) Short
+    (wholeOf p))))
+
+-- A link packet and a message packet bear the mark of their extension; nothing else bears one.
+abbrev pub bearsDate : Packet → Bool
+bearsDate Short = false
+bearsDate (Link kind extension) = true
+bearsDate (Skipped kind extension body) = false
+bearsDate (Message h extension content) = true
+bearsDate (Refused r) = false
+
+unfoldable pub withDate : Packet → TradeDate → Dated
+withDate packet d = record { packet = packet; date = cond (bearsDate packet) d None }
+
+unfoldable pub datedOf : List ℕ → Dated
+datedOf p = withDate (readOf p) (tradeDateOf (extensionOf p))
+
+-- Bytes are missing.
+abbrev pub isShort : Packet → Bool
+isShort Short = true
+isShort (Link kind extension) = false
+isShort (Skipped kind extension body) = false
+isShort (Message h extension content) = false
+isShort (Refused r) = false
+
+-- ─── Field i of a packet ───
+
+-- The fields of a message packet, each with FID and length; bytes that are no message packet have none.
+abbrev pub fieldsWithin : List ℕ → Packet → List (List ℕ)
+fieldsWithin p Short = []
+fieldsWithin p (Link kind extension) = []
+fieldsWithin p (Skipped kind extension body) = []
+fieldsWithin p (Message h extension content) = fieldsOf (part p (content .start) (content .len))
+fieldsWithin p (Refused r) = []
+
+unfoldable pub messageFields : List ℕ → List (List ℕ)
+messageFields p = fieldsWithin p (readOf p)
+
+-- A place in a part that starts at `base`, as a place in the whole.
+abbrev pub movedBy : ℕ → FieldPlace → FieldPlace
+movedBy base NoField = NoField
+movedBy base (Field fid start len) = Field fid (base + start) len
+
+abbrev pub FitsIn : ℕ → FieldPlace → Type 0
+FitsIn room NoField = Unit
+FitsIn room (Field fid start len) = start + len ≤ room
+
+-- Field i, counted from 0: FID, place in the packet and length of its bytes without FID and length; else no field.
+abbrev pub fieldWithin : List ℕ → Packet → ℕ → FieldPlace
+fieldWithin p Short i = NoField
+fieldWithin p (Link kind extension) i = NoField
+fieldWithin p (Skipped kind extension body) i = NoField
+fieldWithin p (Message h extension content) i = movedBy (content .start) (fieldPlaceOf (part p (content .start) (content .len)) i)
+fieldWithin p (Refused r) i = NoField
+
+unfoldable pub fieldOf : List ℕ → ℕ → FieldPlace
+fieldOf p i = fieldWithin p (readOf p) i
+
+-- The bytes of field i: that part of the packet.
+abbrev pub partAt : List ℕ → FieldPlace → List ℕ
+partAt p NoField = []
+partAt p (Field fid start len) = part p start len
+
+unfoldable pub fieldBytes : List ℕ → ℕ → List ℕ
+fieldBytes p i = partAt p (fieldOf p i)
