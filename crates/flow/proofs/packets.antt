@@ -9,7 +9,8 @@ use mathlib.Core.Path.{_≡_}
 use mathlib.Core.List.{List}
 use mathlib.Core.Bool.{true}
 use lib.ListN.{length}
-use Rattle.ftd.specs.Chain.{shaped, packetsOf}
+use Rattle.ftd.specs.Chain.{packetsOf}
+use Rattle.ftd.specs.Fields.{shaped}
 use Rattle.ftd.specs.Chain.Laws.{pieceAtPlace, packetAtPlace}
 use Rattle.ftd.specs.Login.{loginBytes}
 use Rattle.ftd.specs.declared.tags.TradeDate.{TradeDate}

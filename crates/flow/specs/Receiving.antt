@@ -9,7 +9,8 @@ use Rattle.ftd.specs.Login.{loginTid, loginBytes}
 use Rattle.ftd.specs.Bytes.{part, put}
 use Rattle.ftd.specs.Packet.{span, datedOf, notOnePacket, noMessagePacket}
 use Rattle.ftd.specs.Items.{wrongWidth, wrongItem}
-use Rattle.ftd.specs.Composition.{composed, countOf}
+use Rattle.ftd.specs.Composition.{composed}
+use Rattle.ftd.specs.Fields.{countOf}
 use Rattle.ftd.specs.Resume.{resumeBytes, resumeFid}
 use Rattle.ftd.specs.declared.refusal.Refusal.{Refusal}
 use Rattle.ftd.specs.declared.refusal.Refusal.the-variants.{FieldRun, FieldLength, Item, Composition, Opening, NotOnePacket, UnknownSeries, NotLoggedIn, OtherDay, OutOfLine, BrokenChain, TooSmall}

@@ -8,9 +8,10 @@ use lib.ListN.{length, replicate}
 use lib.Dec.{ltb, leb, eqb}
 use Rattle.ftd.specs.Bytes.{part, put, joined}
 use Rattle.ftd.specs.Packet.{notOnePacket, noMessagePacket, datedOf}
-use Rattle.ftd.specs.Chain.{shaped, packetsOf}
+use Rattle.ftd.specs.Chain.{packetsOf}
+use Rattle.ftd.specs.Fields.{shaped, countOf}
 use Rattle.ftd.specs.Items.{wrongWidth, wrongItem}
-use Rattle.ftd.specs.Composition.{composed, countOf}
+use Rattle.ftd.specs.Composition.{composed}
 use Rattle.ftd.specs.Resume.{resumeFid, resumeOf}
 use Rattle.ftd.specs.Login.{loginTid, loginBytes}
 use Rattle.ftd.specs.declared.refusal.Refusal.{Refusal}

@@ -2,18 +2,18 @@
 use Rattle.ftd.specs.Bytes.{be16Of, be32Of, put}
 use Rattle.ftd.specs.Runs.{front, runOf}
 use Rattle.ftd.specs.Tags.{tag, lengthRight, knownTags, countDate, goodTags, tagPlace, tradeDateOf}
-use Rattle.ftd.specs.Fields.{field, exactRun}
+use Rattle.ftd.specs.Fields.{field, exactRun, shaped, oneIf, countOf, firstOf}
 use Rattle.ftd.specs.Packet.{saidLength, extensionOf, versionOf, tidOf, letterOf, seriesOf, messageNumberOf, fieldCountOf, contentLengthOf, contentOf, restMissing, wrongBody, isSkipped, isLetter, chainOf, headerOf, acceptedOf, messageOf, wholeOf, readOf, withDate, datedOf, notOnePacket, noMessagePacket}
 use Rattle.ftd.specs.Write.{packetBytes, headerBytes, messageBytes}
-use Rattle.ftd.specs.Chain.{shaped, piecesOf, headerFor, packetFor, packetsOf}
+use Rattle.ftd.specs.Chain.{piecesOf, headerFor, packetFor, packetsOf}
 use Rattle.ftd.specs.Chain.Laws.{packetForm}
 use Rattle.ftd.specs.Table.{enumerations, table, rowsOf}
 use Rattle.ftd.specs.Values.{isListed, isNumber, withoutPoint, isFloat, isDate, isValue}
 use Rattle.ftd.specs.Items.{wrongWidth, walkOf, wrongItem, checkOf}
 use Rattle.ftd.specs.Places.{itemOf, itemBytes}
 use Rattle.ftd.specs.Signed.{signedOf, floatValue}
-use Rattle.ftd.specs.Composition.{appendixE, oneIf, countOf, inRange, composed}
-use Rattle.ftd.specs.Resume.{firstOf, resumeOf}
+use Rattle.ftd.specs.Composition.{appendixE, inRange, composed}
+use Rattle.ftd.specs.Resume.{resumeOf}
 use Rattle.ftd.specs.Login.{loginHeader, loginBytes}
 use Rattle.ftd.specs.Bench.{upToNine, twelfth, bench}
 

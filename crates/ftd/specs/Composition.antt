@@ -1,11 +1,12 @@
 -- Make-up (01, "Typed items", row 10): how often each field occurs in a message, by Appendix E.
+pub mod Helpers
 pub mod Rule
-use Prim.Native.Nat.{ℕ, _+_}
+use Prim.Native.Nat.{ℕ}
 use mathlib.Core.List.{List, [], _∷_, map}
 use mathlib.Core.Bool.{Bool, true, cond, _&&_, _||_}
 use lib.ListN.{getD}
 use lib.Dec.{leb, eqb}
-use Rattle.ftd.specs.Fields.{fieldsOf, fidOf}
+use Rattle.ftd.specs.Fields.{countOf}
 use Rattle.ftd.specs.declared.composition.Direction.{Direction}
 use Rattle.ftd.specs.declared.composition.Direction.the-variants.{Up, Down}
 
@@ -186,17 +187,6 @@ unfoldable pub lineAt : ℕ → CompositionLine
 lineAt i = record { tid = getD lineTids i 0; direction = getD directions i 0; fid = getD fids i 0; least = getD leasts i 0; most = getD mosts i 0 }
 
 -- ─── Counts ───
-
--- How often a field occurs, counted on from n.
-unfoldable pub oneIf : ℕ → ℕ → ℕ
-oneIf found fid = cond (eqb found fid) 1 0
-
-abbrev pub counted : ℕ → List (List ℕ) → ℕ → ℕ
-counted fid [] n = n
-counted fid (f ∷ fs) n = counted fid fs (n + oneIf (fidOf f) fid)
-
-unfoldable pub countOf : ℕ → List ℕ → ℕ
-countOf fid content = counted fid (fieldsOf content) 0
 
 -- A count is at least the least and at most the most.
 unfoldable pub inRange : ℕ → ℕ → ℕ → Bool

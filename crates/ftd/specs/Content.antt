@@ -2,7 +2,7 @@
 use Prim.Native.Nat.{ℕ}
 use mathlib.Core.List.{List}
 use mathlib.Core.Bool.{cond}
-use Rattle.ftd.specs.Chain.{shaped}
+use Rattle.ftd.specs.Fields.{shaped}
 use Rattle.ftd.specs.Items.{checkOf}
 use Rattle.ftd.specs.Composition.{composed}
 use Rattle.ftd.specs.declared.refusal.Refusal.the-variants.{FieldRun, Composition}

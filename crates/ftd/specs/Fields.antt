@@ -2,9 +2,9 @@
 pub mod Laws
 use Prim.Native.Nat.{ℕ, zero, suc, _+_, _-_, _≤_}
 use mathlib.Core.List.{List, [], _∷_, _++_, map}
-use mathlib.Core.Bool.{Bool, _&&_}
+use mathlib.Core.Bool.{Bool, _&&_, true, cond}
 use lib.ListN.{length, drop}
-use lib.Dec.{eqb}
+use lib.Dec.{eqb, leb}
 use Rattle.ftd.specs.Bytes.{be16Of, be32Of, joined, bytes16, bytes32}
 use Rattle.ftd.specs.Runs.{Form, Run, runOf, ended}
 use Rattle.ftd.specs.declared.fields.FieldPlace.{FieldPlace}
@@ -70,3 +70,37 @@ fieldsWith gs = map (λ (g : Given). fieldWith (g .fid) (g .bytes)) gs
 
 abbrev pub contentWith : List Given → List ℕ
 contentWith gs = joined (fieldsWith gs)
+
+-- ─── Refusal 7 for content that is given: whole fields of at most 4,074 bytes, at most a limit in all ───
+
+-- No field is too long for a packet: with FID and length it has at most 4,080 bytes.
+abbrev pub allSmall : List (List ℕ) → Bool
+allSmall [] = true
+allSmall (f ∷ fs) = leb (length f) 4080 && allSmall fs
+
+abbrev pub shapely : Run → Bool
+shapely r = ended r && allSmall (r .entries)
+
+unfoldable pub shaped : List ℕ → ℕ → Bool
+shaped content limit = leb (length content) limit && shapely (runOf field content)
+
+-- ─── Counted and found by FID ───
+
+-- How often a field occurs, counted on from n.
+unfoldable pub oneIf : ℕ → ℕ → ℕ
+oneIf found fid = cond (eqb found fid) 1 0
+
+abbrev pub counted : ℕ → List (List ℕ) → ℕ → ℕ
+counted fid [] n = n
+counted fid (f ∷ fs) n = counted fid fs (n + oneIf (fidOf f) fid)
+
+unfoldable pub countOf : ℕ → List ℕ → ℕ
+countOf fid content = counted fid (fieldsOf content) 0
+
+-- The first field with a FID, in a list of fields that starts at `at`.
+abbrev pub firstIn : ℕ → List (List ℕ) → ℕ → FieldPlace
+firstIn at [] fid = NoField
+firstIn at (f ∷ fs) fid = cond (eqb (fidOf f) fid) (Field (fidOf f) (at + 6) (length f - 6)) (firstIn (at + length f) fs fid)
+
+unfoldable pub firstOf : List ℕ → ℕ → FieldPlace
+firstOf content fid = firstIn 0 (fieldsOf content) fid

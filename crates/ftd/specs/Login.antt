@@ -6,10 +6,10 @@ use mathlib.Core.List.{List, [], _++_}
 use mathlib.Core.Bool.{true, false, cond}
 use lib.ListN.{length}
 use Rattle.ftd.specs.Bytes.{part}
-use Rattle.ftd.specs.Fields.{fieldsOf}
+use Rattle.ftd.specs.Fields.{fieldsOf, shaped}
 use Rattle.ftd.specs.Packet.{notOnePacket, noMessagePacket, span, datedOf}
 use Rattle.ftd.specs.Write.{messageBytes, Verdict, fine, refuse}
-use Rattle.ftd.specs.Chain.{shaped, tagsFor, extensionBytes}
+use Rattle.ftd.specs.Tags.{tagsFor, extensionBytes}
 use Rattle.ftd.specs.Resume.{resumeBytes}
 use Rattle.ftd.specs.declared.refusal.Refusal.the-variants.{FieldRun}
 use Rattle.ftd.specs.declared.tags.TradeDate.{TradeDate}

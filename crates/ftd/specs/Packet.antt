@@ -1,7 +1,7 @@
 -- What some bytes are (4.1, 4.2; 01, "Packet" and "Message packet", rows 1 to 7 of the refusal table).
+pub mod Helpers
 pub mod Laws
-use Prim.Native.Nat.{ℕ, _+_, _-_, _≤_}
-use mathlib.Core.Path.{_≡_}
+use Prim.Native.Nat.{ℕ, _+_, _-_}
 use mathlib.Core.List.{List, []}
 use mathlib.Core.Bool.{Bool, true, false, cond, not, _&&_, _||_}
 use lib.ListN.{length, getD}
@@ -43,10 +43,6 @@ saidLength p = 4 + extensionLength p + bodyLength p
 -- The same for any bytes: 0 where the four are not there.
 unfoldable pub saidIn : List ℕ → ℕ
 saidIn p = cond (leb 4 (length p)) (saidLength p) 0
-
--- The lengths of extension and body are those that the four say.
-abbrev pub SaysLengths : List ℕ → ℕ → ℕ → Type 0
-SaysLengths p ext body = (ext ≡ extensionLength p) × (body ≡ bodyLength p)
 
 -- Where the body starts.
 abbrev pub bodyStart : List ℕ → ℕ
@@ -239,10 +235,6 @@ messageFields p = fieldsWithin p (readOf p)
 abbrev pub movedBy : ℕ → FieldPlace → FieldPlace
 movedBy base NoField = NoField
 movedBy base (Field fid start len) = Field fid (base + start) len
-
-abbrev pub FitsIn : ℕ → FieldPlace → Type 0
-FitsIn room NoField = Unit
-FitsIn room (Field fid start len) = start + len ≤ room
 
 -- Field i, counted from 0: FID, place in the packet and length of its bytes without FID and length; else no field.
 abbrev pub fieldWithin : List ℕ → Packet → ℕ → FieldPlace

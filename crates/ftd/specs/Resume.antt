@@ -4,13 +4,11 @@ use mathlib.Core.Path.{_≡_}
 use mathlib.Core.List.{List, [], _∷_, _++_}
 use mathlib.Core.Bool.{true, false, cond}
 use mathlib.Core.Logic.{_⊎_}
-use lib.ListN.{length}
 use lib.Dec.{ltb, eqb}
 use Rattle.ftd.specs.Bytes.{be16Of, be32Of, bytes16, bytes32}
 use Rattle.ftd.specs.Runs.{runOf, ended}
-use Rattle.ftd.specs.Fields.{field, fieldsOf, fidOf}
-use Rattle.ftd.specs.Composition.{oneIf, countOf, composed}
-use Rattle.ftd.specs.Chain.{shaped}
+use Rattle.ftd.specs.Fields.{field, fieldsOf, shaped, oneIf, countOf, firstOf}
+use Rattle.ftd.specs.Composition.{composed}
 use Rattle.ftd.specs.Items.{wrongWidth, wrongItem}
 use Rattle.ftd.specs.declared.composition.Direction.{Direction}
 use Rattle.ftd.specs.declared.fields.FieldPlace.{FieldPlace}
@@ -22,14 +20,6 @@ abbrev pub resumeFid : ℕ
 resumeFid = 4
 
 -- ─── Found ───
-
--- The first field with a FID, in a list of fields that starts at `at`.
-abbrev pub firstIn : ℕ → List (List ℕ) → ℕ → FieldPlace
-firstIn at [] fid = NoField
-firstIn at (f ∷ fs) fid = cond (eqb (fidOf f) fid) (Field (fidOf f) (at + 6) (length f - 6)) (firstIn (at + length f) fs fid)
-
-unfoldable pub firstOf : List ℕ → ℕ → FieldPlace
-firstOf content fid = firstIn 0 (fieldsOf content) fid
 
 -- Series 2 bytes, number 4.
 abbrev pub resumeAt : List ℕ → FieldPlace → Resume

@@ -1,4 +1,5 @@
 -- The table of all rows of Appendix D (01, "Typed items"), and what is taken from it. Types are those of Appendix B and Table 6.
+pub mod Helpers
 pub mod Rule
 use Prim.Native.Nat.{ℕ, _+_}
 use mathlib.Core.List.{List, [], _∷_}

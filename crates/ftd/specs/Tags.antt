@@ -1,11 +1,11 @@
 -- The extension of a packet (4.1; 01, "Packet"): a run of tags, each a kind byte, a length byte and that many bytes of data.
-use Prim.Native.Nat.{ℕ, _+_, _-_, _<_, _≤_}
+pub mod Helpers
+use Prim.Native.Nat.{ℕ, _+_, _-_, _≤_}
 use mathlib.Core.List.{List, [], _∷_, map}
-use mathlib.Core.Path.{_≡_}
 use mathlib.Core.Bool.{Bool, true, false, cond, _&&_}
-use lib.ListN.{length, getD, drop}
+use lib.ListN.{length, getD}
 use lib.Dec.{leb, eqb}
-use Rattle.ftd.specs.Bytes.{be32Of}
+use Rattle.ftd.specs.Bytes.{be32Of, bytes32, joined}
 use Rattle.ftd.specs.Runs.{Form, Run, runOf, ended}
 use Rattle.ftd.specs.declared.tags.TagPlace.{TagPlace}
 use Rattle.ftd.specs.declared.tags.TagPlace.the-variants.{NoTag, Data}
@@ -49,12 +49,6 @@ rightIn (k ∷ ks) kind len = cond (eqb (k .kind) kind) (eqb (k .length) len) (r
 
 unfoldable pub lengthRight : ℕ → ℕ → Bool
 lengthRight kind len = rightIn knownTags kind len
-
--- The first row of a kind: its place in the list, or 7 where the list does not have it. From there on the list says the same.
-pub record KnownRow (kind row : ℕ) : Type 0 where
-  pub low : row ≤ 7
-  pub here : row < 7 → getD (map (λ (k : KnownTag). k .kind) knownTags) row 0 ≡ kind
-  pub same : (len : ℕ) → rightIn (drop row knownTags) kind len ≡ lengthRight kind len
 
 -- ─── Refusal 2: the extension check ───
 
@@ -105,10 +99,6 @@ tradeDateOf extension = dateAt extension (tagPlace extension 5)
 unfoldable pub tagRunOf : List ℕ → TagRun
 tagRunOf extension = cond (goodTags extension) (Good (tradeDateOf extension)) Broken
 
--- Where the data of the trade date lies that is seen last.
-unfoldable pub datePlace : ℕ → ℕ → ℕ → ℕ
-datePlace kind place at = cond (eqb kind 5) (at + 2) place
-
 -- The keep-alive tag 0x04 is there.
 abbrev pub isThere : TagPlace → Bool
 isThere NoTag = false
@@ -116,3 +106,20 @@ isThere (Data start len) = true
 
 unfoldable pub keepAliveOf : List ℕ → Bool
 keepAliveOf extension = isThere (tagPlace extension 4)
+
+-- ─── The tags that an end writes ───
+
+pub record Tag : Type 0 where
+  pub kind : ℕ
+  pub value : List ℕ
+
+abbrev pub tagBytes : Tag → List ℕ
+tagBytes t = t .kind ∷ length (t .value) ∷ t .value
+
+abbrev pub extensionBytes : List Tag → List ℕ
+extensionBytes ts = joined (map tagBytes ts)
+
+-- The trade date as the only tag, or none.
+abbrev pub tagsFor : TradeDate → List Tag
+tagsFor None = []
+tagsFor (At d) = record { kind = 5; value = bytes32 d } ∷ []

@@ -1,6 +1,6 @@
 -- Packets as they are written (4.1, 4.2; 01, "Packet", "Message packet" and demand 2), and what a writer answers.
 pub mod Laws
-use Prim.Native.Nat.{ℕ, _+_}
+use Prim.Native.Nat.{ℕ, _+_, _-_}
 use mathlib.Core.List.{List, _∷_, _++_}
 use mathlib.Core.Bool.{Bool, cond, not, _&&_, _||_}
 use lib.ListN.{length, drop}
@@ -10,7 +10,7 @@ use Rattle.ftd.specs.Tags.{goodTags}
 use Rattle.ftd.specs.Fields.{exactRun}
 use Rattle.ftd.specs.Packet.{wrongBody, isSkipped, chainLetter}
 use Rattle.ftd.specs.declared.refusal.Refusal.{Refusal}
-use Rattle.ftd.specs.declared.refusal.Refusal.the-variants.{LongExtension, BrokenTag, BodyLength, FieldRun, TooSmall}
+use Rattle.ftd.specs.declared.refusal.Refusal.the-variants.{LongExtension, BrokenTag, BodyLength, FieldRun, TooSmall, Item}
 use Rattle.ftd.specs.declared.packet.Header.{Header}
 use Rattle.ftd.specs.declared.write.Written.{Written}
 use Rattle.ftd.specs.declared.write.Written.the-variants.{Bytes, Refused, NotPlain}
@@ -79,3 +79,9 @@ unfoldable pub writtenOutput : Verdict → List ℕ → List ℕ → List ℕ
 writtenOutput fine bytes out = cond (ltb (length out) (length bytes)) out (bytes ++ drop (length bytes) out)
 writtenOutput (refuse r) bytes out = out
 writtenOutput (other w) bytes out = out
+
+-- ─── A value written ───
+
+-- A value that does not fit is refused as the item would be, with 9.
+abbrev pub fitVerdict : Bool → Verdict
+fitVerdict fits = cond fits fine (refuse Item)

@@ -6,7 +6,7 @@ ghost use lib.ListN.{length};
 ghost use Rattle.ftd.specs.Bytes.{put};
 ghost use Rattle.ftd.specs.Fields.{fieldsOf};
 ghost use Rattle.ftd.specs.Write.{writtenAnswer, writtenOutput};
-ghost use Rattle.ftd.specs.Chain.{tagsFor, extensionBytes};
+ghost use Rattle.ftd.specs.Tags.{tagsFor, extensionBytes};
 ghost use Rattle.ftd.specs.Login.{loginBytes, endingBytes, loginVerdict, LoginLaws};
 use crate::bytes::copy_at;
 use crate::chain::next_piece;

@@ -2,7 +2,8 @@
 // A look-up takes no search: FIDs are 1 to 46, and START, COUNT and WIDE have an entry for each.
 ghost use mathlib.Core.Path.{_≡_};
 ghost use Prim.Native.Nat.{_+_, _<_, _≤_};
-ghost use Rattle.ftd.specs.Table.Rule.{rowsPlace, TableRule, rowAt, kindColumn, widthColumn, scaleColumn};
+ghost use Rattle.ftd.specs.Table.Rule.{rowsPlace, TableRule, rowAt};
+ghost use Rattle.ftd.specs.Table.Helpers.{kindColumn, widthColumn, scaleColumn};
 use crate::bytes::size8;
 use crate::bytes::size16;
 

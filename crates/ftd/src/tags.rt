@@ -3,7 +3,8 @@ ghost use mathlib.Core.Path.{_≡_};
 ghost use Prim.Native.Nat.{_+_, _-_, _≤_};
 ghost use lib.ListN.{length, drop};
 ghost use Rattle.ftd.specs.Runs.{front};
-ghost use Rattle.ftd.specs.Tags.{tag, KnownRow, lengthRight, countDate, datePlace, goodTags, tagRunOf, tagPlace, TagInside, tradeDateOf, keepAliveOf};
+ghost use Rattle.ftd.specs.Tags.{tag, lengthRight, countDate, goodTags, tagRunOf, tagPlace, TagInside, tradeDateOf, keepAliveOf};
+ghost use Rattle.ftd.specs.Tags.Helpers.{KnownRow, datePlace};
 use crate::bytes::be32;
 use crate::bytes::size8;
 

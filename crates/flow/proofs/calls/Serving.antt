@@ -12,9 +12,9 @@ use lib.Dec.{ltb, leb, eqb}
 use Rattle.ftd.specs.Login.{loginTid, loginBytes}
 use Rattle.ftd.specs.Bytes.{part, put}
 use Rattle.ftd.specs.Packet.{datedOf, notOnePacket, noMessagePacket}
-use Rattle.ftd.specs.Chain.{shaped}
+use Rattle.ftd.specs.Fields.{shaped, countOf}
 use Rattle.ftd.specs.Items.{wrongWidth, wrongItem}
-use Rattle.ftd.specs.Composition.{composed, countOf}
+use Rattle.ftd.specs.Composition.{composed}
 use Rattle.ftd.specs.Resume.{resumeOf, resumeFid}
 use Rattle.ftd.specs.declared.refusal.Refusal.{Refusal}
 use Rattle.ftd.specs.declared.refusal.Refusal.the-variants.{FieldRun, FieldLength, Item, Composition, Opening, NotOnePacket, UnknownSeries, NotLoggedIn, OtherDay, OutOfLine, TooSmall, WrongStart, DamagedLog, DayFull}

@@ -9,7 +9,8 @@ use borrow.Author.Tests.{eqb-true, eqb-false}
 use lib.ListN.{length, getElem?}
 use lib.Dec.{eqb}
 use Rattle.ftd.specs.Packet.{datedOf}
-use Rattle.ftd.specs.Chain.{shaped, packetsOf, piecesOf}
+use Rattle.ftd.specs.Chain.{packetsOf, piecesOf}
+use Rattle.ftd.specs.Fields.{shaped}
 use Rattle.ftd.specs.declared.tags.TradeDate.{TradeDate}
 use Rattle.ftd.specs.declared.tags.TradeDate.the-variants.{None, At}
 use Rattle.flow.specs.declared.receiver.Receiver.{Receiver}

@@ -8,7 +8,8 @@ use borrow.Author.Tests.{eqb-true, not-false}
 use lib.ListN.{length}
 use Rattle.ftd.specs.Bytes.{part}
 use Rattle.ftd.specs.Packet.{datedOf}
-use Rattle.ftd.specs.Chain.{shaped, tagsFor, extensionBytes}
+use Rattle.ftd.specs.Tags.{tagsFor, extensionBytes}
+use Rattle.ftd.specs.Fields.{shaped}
 use Rattle.ftd.specs.Resume.{resumeOf}
 use Rattle.ftd.specs.Login.{loginBytes}
 use Rattle.ftd.specs.declared.resume.Resume.the-variants.{Next}

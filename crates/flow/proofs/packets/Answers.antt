@@ -9,9 +9,9 @@ use lib.Seq.{take-append-seam}
 use lib.Dec.{T, ltb}
 use Rattle.ftd.specs.Resume.{resumeFid}
 use Rattle.ftd.specs.Login.{loginTid, loginHeader, loginBytes}
-use Rattle.ftd.specs.Chain.{shaped}
+use Rattle.ftd.specs.Fields.{shaped, countOf}
 use Rattle.ftd.specs.Items.{wrongWidth, wrongItem}
-use Rattle.ftd.specs.Composition.{composed, countOf}
+use Rattle.ftd.specs.Composition.{composed}
 use Rattle.ftd.specs.declared.refusal.Refusal.the-variants.{UnknownSeries, OtherDay}
 use Rattle.ftd.specs.declared.composition.Direction.the-variants.{Up, Down}
 use Rattle.ftd.specs.declared.tags.TradeDate.{TradeDate}

@@ -5,7 +5,8 @@ use mathlib.Core.List.{List}
 use mathlib.Core.Bool.{true}
 use mathlib.Core.Option.{some}
 use lib.ListN.{getElem?}
-use Rattle.ftd.specs.Chain.{shaped, packetsOf}
+use Rattle.ftd.specs.Chain.{packetsOf}
+use Rattle.ftd.specs.Fields.{shaped}
 use Rattle.ftd.specs.declared.tags.TradeDate.the-variants.{At}
 use Rattle.ftd.specs.declared.chain.Message.{Message as Headed}
 use Rattle.flow.specs.Answers.{Message}

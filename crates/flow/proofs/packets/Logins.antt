@@ -3,7 +3,7 @@ use Prim.Native.Nat.{ℕ}
 use mathlib.Core.Path.{_≡_}
 use mathlib.Core.List.{List}
 use mathlib.Core.Bool.{true}
-use Rattle.ftd.specs.Chain.{shaped}
+use Rattle.ftd.specs.Fields.{shaped}
 use Rattle.ftd.specs.Login.{loginHeader, loginBytes}
 use Rattle.ftd.proofs.login.Laws.{login-back, login-one, login-message, login-content}
 use Rattle.ftd.specs.declared.tags.TradeDate.{TradeDate}

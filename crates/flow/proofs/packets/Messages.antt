@@ -6,7 +6,9 @@ use mathlib.Core.Bool.{true}
 use lib.ListN.{length}
 use Rattle.ftd.specs.Bytes.{part}
 use Rattle.ftd.specs.Packet.{span, datedOf}
-use Rattle.ftd.specs.Chain.{shaped, tagsFor, extensionBytes, headerFor, packetsOf}
+use Rattle.ftd.specs.Chain.{headerFor, packetsOf}
+use Rattle.ftd.specs.Tags.{tagsFor, extensionBytes}
+use Rattle.ftd.specs.Fields.{shaped}
 use Rattle.ftd.specs.Chain.Laws.{pieceAtPlace, packetAtPlace, letterAt}
 use Rattle.ftd.proofs.chain.Laws.{chain-laws}
 use Rattle.ftd.specs.declared.chain.Message.{Message}

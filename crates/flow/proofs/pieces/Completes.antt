@@ -9,7 +9,8 @@ use borrow.Author.Tests.{le-ltb, eq-eqb, ne-eqb}
 use lib.ListN.{length, length-append}
 use lib.Dec.{eqb}
 use Rattle.ftd.specs.Bytes.{part}
-use Rattle.ftd.specs.Chain.{shaped, piecesOf, chainAt}
+use Rattle.ftd.specs.Chain.{piecesOf, chainAt}
+use Rattle.ftd.specs.Fields.{shaped}
 use Rattle.ftd.specs.Chain.Laws.{pieceAtPlace}
 use Rattle.ftd.proofs.chain.Pieces.{shaped-facts}
 use Rattle.ftd.specs.declared.refusal.Refusal.{Refusal}

@@ -7,7 +7,8 @@ use mathlib.Core.Bool.{true}
 use lib.ListN.{length}
 use lib.Dec.{eqb}
 use Rattle.ftd.specs.Bytes.{part, put}
-use Rattle.ftd.specs.Chain.{shaped, piecesOf, chainAt}
+use Rattle.ftd.specs.Chain.{piecesOf, chainAt}
+use Rattle.ftd.specs.Fields.{shaped}
 use Rattle.ftd.specs.Chain.Laws.{pieceAtPlace}
 use Rattle.ftd.specs.declared.tags.TradeDate.the-variants.{At}
 use Rattle.ftd.specs.declared.packet.Span.{Span}

@@ -9,7 +9,8 @@ use lib.ListN.{length, getD, take, drop, take-append-drop, length-append, length
 use lib.Seq.{take-suc, take-all, take-append-seam}
 use lib.Dec.{eqb}
 use Rattle.ftd.specs.Bytes.{joined}
-use Rattle.ftd.specs.Chain.{shaped, Piece, noFields, piecesOf, chainAt}
+use Rattle.ftd.specs.Chain.{Piece, noFields, piecesOf, chainAt}
+use Rattle.ftd.specs.Fields.{shaped}
 use Rattle.ftd.specs.Chain.Laws.{pieceAtPlace}
 use Rattle.ftd.proofs.chain.Laws.{chain-laws, joined-append}
 use Rattle.ftd.specs.declared.packet.Chain.the-variants.{Single, First, Middle, Last}

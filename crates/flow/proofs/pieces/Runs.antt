@@ -5,7 +5,8 @@ use mathlib.Core.List.{List, _++_}
 use mathlib.Core.Bool.{true}
 use mathlib.Core.Option.{some}
 use lib.ListN.{length, getElem?}
-use Rattle.ftd.specs.Chain.{shaped, piecesOf, packetsOf}
+use Rattle.ftd.specs.Chain.{piecesOf, packetsOf}
+use Rattle.ftd.specs.Fields.{shaped}
 use Rattle.flow.specs.declared.receiver.Receiver.{Receiver}
 use Rattle.flow.specs.Ends.{mostContent}
 use Rattle.flow.specs.World.{InSeries, Previous, came, other}

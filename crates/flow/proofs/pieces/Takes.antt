@@ -9,7 +9,8 @@ use lib.ListN.{length, getElem?}
 use lib.Dec.{eqb}
 use Rattle.ftd.specs.Bytes.{part}
 use Rattle.ftd.specs.Packet.{datedOf}
-use Rattle.ftd.specs.Chain.{shaped, piecesOf, chainAt, headerFor, packetsOf}
+use Rattle.ftd.specs.Chain.{piecesOf, chainAt, headerFor, packetsOf}
+use Rattle.ftd.specs.Fields.{shaped}
 use Rattle.ftd.specs.Chain.Laws.{pieceAtPlace}
 use Rattle.ftd.specs.Chain.Laws.{packetAtPlace as packetAt}
 use Rattle.ftd.proofs.chain.Laws.{chain-laws}

@@ -8,7 +8,7 @@ use mathlib.Core.Bool.{true, false}
 use mathlib.Core.Option.{some}
 use lib.ListN.{length, getElem?}
 use Rattle.ftd.specs.Bytes.{part}
-use Rattle.ftd.specs.Chain.{shaped}
+use Rattle.ftd.specs.Fields.{shaped}
 use Rattle.ftd.proofs.chain.Pieces.{shaped-facts}
 use Rattle.ftd.specs.declared.tags.TradeDate.{TradeDate}
 use Rattle.ftd.specs.declared.tags.TradeDate.the-variants.{At}

@@ -6,7 +6,8 @@ use mathlib.Core.List.{List, [], _∷_}
 use mathlib.Core.Bool.{true}
 use mathlib.Core.Option.{some}
 use lib.ListN.{getElem?}
-use Rattle.ftd.specs.Chain.{shaped, packetsOf}
+use Rattle.ftd.specs.Chain.{packetsOf}
+use Rattle.ftd.specs.Fields.{shaped}
 use Rattle.ftd.specs.declared.tags.TradeDate.the-variants.{At}
 use Rattle.flow.specs.World.{SenderSide}
 use Rattle.flow.proofs.second.SentFrom.{SentAs}

@@ -11,7 +11,8 @@ use lib.ListN.{length, getElem?}
 use lib.Dec.{eqb}
 use Rattle.ftd.specs.Login.{loginBytes}
 use Rattle.ftd.specs.Packet.{datedOf}
-use Rattle.ftd.specs.Chain.{shaped, headerFor, packetsOf}
+use Rattle.ftd.specs.Chain.{headerFor, packetsOf}
+use Rattle.ftd.specs.Fields.{shaped}
 use Rattle.ftd.specs.Chain.Laws.{pieceAtPlace}
 use Rattle.ftd.specs.Chain.Laws.{packetAtPlace as packetAt}
 use Rattle.ftd.specs.declared.chain.Message.{Message as Headed}

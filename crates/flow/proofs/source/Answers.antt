@@ -11,9 +11,9 @@ use Rattle.ftd.specs.Resume.{resumeFid}
 use Rattle.ftd.specs.Login.{loginTid, loginBytes}
 use Rattle.ftd.specs.Bytes.{part}
 use Rattle.ftd.specs.Packet.{datedOf}
-use Rattle.ftd.specs.Chain.{shaped}
+use Rattle.ftd.specs.Fields.{shaped, countOf}
 use Rattle.ftd.specs.Items.{wrongWidth, wrongItem}
-use Rattle.ftd.specs.Composition.{composed, countOf}
+use Rattle.ftd.specs.Composition.{composed}
 use Rattle.ftd.specs.declared.composition.Direction.the-variants.{Up, Down}
 use Rattle.ftd.specs.declared.packet.Header.{Header}
 use Rattle.ftd.specs.declared.tags.TradeDate.{TradeDate}

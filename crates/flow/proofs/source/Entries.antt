@@ -7,7 +7,8 @@ use mathlib.Core.Bool.{true}
 use mathlib.Core.Option.{some}
 use lib.ListN.{length, getElem?}
 use Rattle.ftd.specs.Runs.{Run}
-use Rattle.ftd.specs.Chain.{shaped, packetsOf}
+use Rattle.ftd.specs.Chain.{packetsOf}
+use Rattle.ftd.specs.Fields.{shaped}
 use Rattle.ftd.proofs.chain.Laws.{chain-laws}
 use Rattle.ftd.specs.declared.tags.TradeDate.{TradeDate}
 use Rattle.ftd.specs.declared.tags.TradeDate.the-variants.{None, At}

@@ -10,8 +10,9 @@ use lib.Seq.{take-add, drop-drop}
 use lib.Dec.{leb}
 use Rattle.ftd.specs.Bytes.{part}
 use Rattle.ftd.specs.Runs.{Run, front, runOf, ended}
-use Rattle.ftd.specs.Fields.{field, fieldsOf}
-use Rattle.ftd.specs.Chain.{allSmall, shapely, Piece, pack, piecesOf, NextPiece}
+use Rattle.ftd.specs.Fields.{field, fieldsOf, allSmall, shapely}
+use Rattle.ftd.specs.Chain.{Piece, pack, piecesOf}
+use Rattle.ftd.specs.Chain.Helpers.{NextPiece}
 use Rattle.ftd.proofs.runs.Laws.{run-over, run-next, entry-inside, entry-length}
 use Rattle.ftd.proofs.runs.Turns.{some-field}
 use Rattle.ftd.proofs.fields.Shape.{shape-over, shape-long, shape-turn, shapely-next}

@@ -10,11 +10,11 @@ use lib.Seq.{getD-take}
 use lib.Dec.{leb, eqb, eqb·suc-suc, eqb·suc-zero, eqb·zero-suc}
 use Rattle.ftd.specs.Bytes.{be16Of, be32Of, part, joined}
 use Rattle.ftd.specs.Runs.{front, runOf, ended}
-use Rattle.ftd.specs.Tags.{tag, lengthRight, knownTags, countDate, goodTags, tagPlace, tradeDateOf}
-use Rattle.ftd.specs.Fields.{field, fieldsOf, exactRun}
+use Rattle.ftd.specs.Tags.{tag, lengthRight, knownTags, countDate, goodTags, tagPlace, tradeDateOf, Tag, tagBytes, tagsFor, extensionBytes}
+use Rattle.ftd.specs.Fields.{field, fieldsOf, exactRun, allSmall, shaped}
 use Rattle.ftd.specs.Packet.{notOnePacket, noMessagePacket, span, readOf, datedOf}
 use Rattle.ftd.specs.Write.{packetBytes, messageBytes, fine, messageVerdict}
-use Rattle.ftd.specs.Chain.{Tag, tagBytes, allSmall, shaped, Piece, noFields, withField, pack, piecesOf, tagsFor, extensionBytes, chainAt, headerFor, packetFor, isNil, framed, packetsOf}
+use Rattle.ftd.specs.Chain.{Piece, noFields, withField, pack, piecesOf, chainAt, headerFor, packetFor, isNil, framed, packetsOf}
 use Rattle.ftd.specs.Chain.Laws.{packetForm, pieceAtPlace, packetAtPlace, letterAt, ChainLaws}
 use Rattle.ftd.specs.declared.tags.TradeDate.{TradeDate}
 use Rattle.ftd.specs.declared.tags.TradeDate.the-variants.{None, At}

@@ -10,8 +10,10 @@ use lib.Seq.{drop-drop}
 use lib.Dec.{leb, eqb, eqb·suc-zero}
 use Rattle.ftd.specs.Bytes.{part, joined}
 use Rattle.ftd.specs.Runs.{runOf}
-use Rattle.ftd.specs.Fields.{field, fieldsOf}
-use Rattle.ftd.specs.Chain.{shapely, Piece, noFields, withField, pack, shaped, piecesOf, othersOf, pieceAt, NextPiece, tagsFor, extensionBytes, chainAt, packetFor, isNil, framed, packetsOf, sizeOf, measureOf, sizeAnswer}
+use Rattle.ftd.specs.Fields.{field, fieldsOf, shapely, shaped}
+use Rattle.ftd.specs.Chain.{Piece, noFields, withField, pack, piecesOf, chainAt, packetFor, isNil, framed, packetsOf, sizeAnswer}
+use Rattle.ftd.specs.Chain.Helpers.{othersOf, pieceAt, NextPiece, sizeOf, measureOf}
+use Rattle.ftd.specs.Tags.{tagsFor, extensionBytes}
 use Rattle.ftd.specs.declared.refusal.Refusal.the-variants.{FieldRun}
 use Rattle.ftd.specs.declared.packet.Chain.{Chain}
 use Rattle.ftd.specs.declared.chain.ChainSize.the-variants.{Refused}

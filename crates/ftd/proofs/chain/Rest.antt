@@ -8,8 +8,10 @@ use borrow.Author.Tests.{le-leb}
 use lib.ListN.{length, drop, length-append}
 use Rattle.ftd.specs.Bytes.{put, joined}
 use Rattle.ftd.specs.Runs.{runOf}
-use Rattle.ftd.specs.Fields.{field}
-use Rattle.ftd.specs.Chain.{shapely, shaped, Piece, piecesOf, pieceAt, NextPiece, tagsFor, extensionBytes, chainAt, packetFor, isNil, packetsOf, restOf, PutRest, chainVerdict, sizeOf}
+use Rattle.ftd.specs.Fields.{field, shapely, shaped}
+use Rattle.ftd.specs.Chain.{Piece, piecesOf, chainAt, packetFor, isNil, packetsOf, chainVerdict}
+use Rattle.ftd.specs.Chain.Helpers.{pieceAt, NextPiece, restOf, PutRest, sizeOf}
+use Rattle.ftd.specs.Tags.{tagsFor, extensionBytes}
 use Rattle.ftd.specs.Write.{fine, refuse, writtenAnswer, writtenOutput}
 use Rattle.ftd.specs.declared.refusal.Refusal.the-variants.{FieldRun, TooSmall}
 use Rattle.ftd.specs.declared.write.Written.the-variants.{Bytes, Refused}

@@ -8,8 +8,8 @@ use borrow.Author.Tests.{le-leb, eq-eqb}
 use lib.ListN.{length, length-append}
 use Rattle.ftd.specs.Bytes.{joined}
 use Rattle.ftd.specs.Runs.{runOf, ended}
-use Rattle.ftd.specs.Fields.{field, fieldsOf, exactRun}
-use Rattle.ftd.specs.Chain.{allSmall, shaped, Piece, noFields, withField, pack, piecesOf}
+use Rattle.ftd.specs.Fields.{field, fieldsOf, exactRun, allSmall, shaped}
+use Rattle.ftd.specs.Chain.{Piece, noFields, withField, pack, piecesOf}
 use Rattle.ftd.proofs.runs.Laws.{run-whole}
 use Rattle.ftd.proofs.chain.Pieces.{shaped-facts}
 

@@ -6,8 +6,9 @@ use mathlib.Core.Bool.{true}
 use native.Mathlib.Omega.{arith}
 use lib.ListN.{length, drop}
 use Rattle.ftd.specs.Runs.{runOf}
-use Rattle.ftd.specs.Fields.{field}
-use Rattle.ftd.specs.Chain.{shapely, piecesOf, NextPiece, sizeOf, measureOf}
+use Rattle.ftd.specs.Fields.{field, shapely}
+use Rattle.ftd.specs.Chain.{piecesOf}
+use Rattle.ftd.specs.Chain.Helpers.{NextPiece, sizeOf, measureOf}
 use Rattle.ftd.specs.declared.refusal.Refusal.the-variants.{FieldRun}
 use Rattle.ftd.specs.declared.chain.ChainSize.the-variants.{Takes, Refused}
 use Rattle.ftd.specs.declared.chain.Cut.{Cut}

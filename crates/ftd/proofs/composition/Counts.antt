@@ -9,8 +9,8 @@ use lib.ListN.{length, getD, take, drop, drop-of-length-le, List·getD-map}
 use lib.Seq.{drop-cons}
 use Rattle.ftd.specs.Bytes.{be32Of}
 use Rattle.ftd.specs.Runs.{front, runOf}
-use Rattle.ftd.specs.Fields.{field, fidOf}
-use Rattle.ftd.specs.Composition.{CompositionLine, appendixE, lineTids, directions, fids, leasts, mosts, lineAt, oneIf, counted, countOf, inRange, lineHolds, allHold}
+use Rattle.ftd.specs.Fields.{field, fidOf, oneIf, counted, countOf}
+use Rattle.ftd.specs.Composition.{CompositionLine, appendixE, lineTids, directions, fids, leasts, mosts, lineAt, inRange, lineHolds, allHold}
 use Rattle.ftd.proofs.runs.Laws.{run-over, run-next}
 use Rattle.ftd.proofs.runs.Turns.{some-field, be32-entry, field-head}
 

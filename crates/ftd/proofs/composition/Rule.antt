@@ -9,7 +9,8 @@ use lib.ListN.{length, getD}
 use Rattle.ftd.specs.Table.{table, rowsOf}
 use Rattle.ftd.specs.Mode.{listedTids}
 use Rattle.ftd.specs.Composition.{CompositionLine, appendixE}
-use Rattle.ftd.specs.Composition.Rule.{again, noneAgain, lineRight, tableRight, CompositionRule}
+use Rattle.ftd.specs.Composition.Rule.{again, lineRight, CompositionRule}
+use Rattle.ftd.specs.Composition.Helpers.{noneAgain, tableRight}
 use Rattle.ftd.proofs.composition.Counts.{noLine, lines, line-is}
 
 right : tableRight appendixE ≡ true

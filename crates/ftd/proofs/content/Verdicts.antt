@@ -3,7 +3,7 @@ use Prim.Native.Nat.{ℕ}
 use mathlib.Core.Path.{_≡_}
 use mathlib.Core.List.{List}
 use mathlib.Core.Bool.{Bool, true, false}
-use Rattle.ftd.specs.Chain.{shaped}
+use Rattle.ftd.specs.Fields.{shaped}
 use Rattle.ftd.specs.Items.{checkOf}
 use Rattle.ftd.specs.Composition.{composed}
 use Rattle.ftd.specs.Content.{contentCheck}

@@ -11,9 +11,8 @@ use lib.Seq.{drop-drop}
 use lib.Dec.{ltb, leb}
 use Rattle.ftd.specs.Bytes.{be16Of, be32Of, Bytes, joined, bytes16, bytes32}
 use Rattle.ftd.specs.Runs.{Form, front, Run, runOf, ended}
-use Rattle.ftd.specs.Fields.{field, fieldsOf, fidOf, bytesOf, fieldWith, Given, givenOf, fieldsWith, contentWith}
+use Rattle.ftd.specs.Fields.{field, fieldsOf, fidOf, bytesOf, fieldWith, Given, givenOf, fieldsWith, contentWith, shaped}
 use Rattle.ftd.specs.Write.{fine, refuse, fieldVerdict}
-use Rattle.ftd.specs.Chain.{shaped}
 use Rattle.ftd.specs.Fields.Laws.{FieldLaws}
 use Rattle.ftd.specs.declared.refusal.Refusal.the-variants.{FieldRun}
 use Rattle.ftd.proofs.runs.Laws.{run-joined, run-whole}

@@ -7,8 +7,7 @@ use borrow.Author.Tests.{le-leb, lt-leb, leb-true, leb-false}
 use lib.ListN.{length, drop}
 use lib.Dec.{leb, eqb}
 use Rattle.ftd.specs.Runs.{front, runOf, ended}
-use Rattle.ftd.specs.Fields.{field}
-use Rattle.ftd.specs.Chain.{allSmall, shapely}
+use Rattle.ftd.specs.Fields.{field, allSmall, shapely}
 use Rattle.ftd.proofs.runs.Laws.{run-over, run-next, entry-length}
 use Rattle.ftd.proofs.runs.Turns.{and-false, not-ended, is-ended, some-field}
 

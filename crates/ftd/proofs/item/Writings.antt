@@ -7,8 +7,8 @@ use mathlib.Core.Bool.{Bool, true, _&&_}
 use borrow.Author.Tests.{lt-ltb, eq-eqb, ne-eqb}
 use lib.Dec.{ltb, eqb}
 use Rattle.ftd.specs.Bytes.{bytes16, bytes32}
-use Rattle.ftd.specs.Write.{writtenAnswer, writtenOutput}
-use Rattle.ftd.specs.Signed.Write.{fitVerdict, numberBytes, numberFits, floatBytes, floatFits}
+use Rattle.ftd.specs.Write.{writtenAnswer, writtenOutput, fitVerdict}
+use Rattle.ftd.specs.Signed.Write.{numberBytes, numberFits, floatBytes, floatFits}
 use Rattle.ftd.specs.Table.{row}
 use Rattle.ftd.specs.Whole.{charFits}
 use Rattle.ftd.specs.Texts.{textBytes, textFits}

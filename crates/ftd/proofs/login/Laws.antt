@@ -10,7 +10,8 @@ use lib.ListN.{length}
 use Rattle.ftd.specs.Bytes.{part}
 use Rattle.ftd.specs.Packet.{span, datedOf, notOnePacket, noMessagePacket}
 use Rattle.ftd.specs.Write.{fine, refuse, messageVerdict}
-use Rattle.ftd.specs.Chain.{shaped, tagsFor, extensionBytes}
+use Rattle.ftd.specs.Tags.{tagsFor, extensionBytes}
+use Rattle.ftd.specs.Fields.{shaped}
 use Rattle.ftd.specs.Login.{loginHeader, loginBytes, endingBytes, loginVerdict, LoginLaws}
 use Rattle.ftd.specs.declared.refusal.Refusal.the-variants.{FieldRun}
 use Rattle.ftd.specs.declared.tags.TradeDate.{TradeDate}

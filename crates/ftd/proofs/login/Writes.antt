@@ -8,9 +8,11 @@ use borrow.Author.Tests.{le-leb, lt-leb}
 use lib.ListN.{length, drop, length-append}
 use Rattle.ftd.specs.Bytes.{put}
 use Rattle.ftd.specs.Runs.{Run, runOf, ended}
-use Rattle.ftd.specs.Fields.{field, fieldsOf}
+use Rattle.ftd.specs.Fields.{field, fieldsOf, shaped}
 use Rattle.ftd.specs.Write.{frameHead, packetBytes, headerBytes, messageBytes, fine, refuse}
-use Rattle.ftd.specs.Chain.{shaped, Piece, othersOf, pieceAt, NextPiece, tagsFor, extensionBytes}
+use Rattle.ftd.specs.Chain.{Piece}
+use Rattle.ftd.specs.Chain.Helpers.{othersOf, pieceAt, NextPiece}
+use Rattle.ftd.specs.Tags.{tagsFor, extensionBytes}
 use Rattle.ftd.specs.Resume.{resumeBytes}
 use Rattle.ftd.specs.Login.{loginTid, loginHeader, loginBytes, endingBytes, loginVerdict}
 use Rattle.ftd.specs.declared.refusal.Refusal.the-variants.{FieldRun}

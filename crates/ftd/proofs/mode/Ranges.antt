@@ -7,7 +7,7 @@ use mathlib.Core.Bool.{Bool, true, false, cond, _||_}
 use native.Mathlib.Omega.{arith}
 use borrow.Author.Tests.{le-leb, lt-leb, le-ltb, eq-eqb, ne-eqb, eqb-true, eqb-false, ltb-true}
 use lib.Dec.{leb, ltb, eqb, T, leb→le}
-use Rattle.ftd.specs.Table.Rule.{allBelow}
+use Rattle.ftd.specs.Table.Helpers.{allBelow}
 use Rattle.ftd.specs.Values.{every, among}
 use Rattle.ftd.specs.Mode.{listedTids, modeOf}
 use Rattle.ftd.specs.declared.mode.Mode.the-variants.{Private, Broadcast, Management, Dialog, Unknown}

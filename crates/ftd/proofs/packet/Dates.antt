@@ -6,7 +6,8 @@ use mathlib.Core.Bool.{Bool, true, false}
 use native.Mathlib.Omega.{arith}
 use lib.ListN.{length, take, drop}
 use Rattle.ftd.specs.Tags.{tradeDateOf, tagRunOf}
-use Rattle.ftd.specs.Packet.{SaysLengths, kindOf, bodyLength, extensionLength, extensionOf, wrongBody, isSkipped, span, messageOf, wholeOf, readOf, bearsDate, withDate, datedOf}
+use Rattle.ftd.specs.Packet.{kindOf, bodyLength, extensionLength, extensionOf, wrongBody, isSkipped, span, messageOf, wholeOf, readOf, bearsDate, withDate, datedOf}
+use Rattle.ftd.specs.Packet.Helpers.{SaysLengths}
 use Rattle.ftd.specs.declared.refusal.Refusal.the-variants.{LongExtension, BrokenTag, BodyLength}
 use Rattle.ftd.specs.declared.tags.TagRun.{TagRun}
 use Rattle.ftd.specs.declared.tags.TagRun.the-variants.{Broken, Good}

@@ -15,7 +15,8 @@ use Rattle.ftd.specs.Tags.{goodTags}
 use Rattle.ftd.specs.Fields.{field, fieldsOf, fidOf, bytesOf, exactRun, fieldIn, fieldPlaceOf, FieldInside}
 use Rattle.ftd.specs.declared.fields.FieldPlace.{FieldPlace}
 use Rattle.ftd.specs.declared.fields.FieldPlace.the-variants.{NoField, Field}
-use Rattle.ftd.specs.Packet.{SaysLengths, kindOf, extensionLength, bodyLength, saidLength, extensionOf, versionOf, tidOf, letterOf, seriesOf, messageNumberOf, fieldCountOf, contentLengthOf, contentOf, headMissing, restMissing, longExtension, wrongBody, isSkipped, brokenTag, isLink, wrongVersion, isLetter, wrongLetter, wrongContentLength, wrongFields, chainOf, span, bodyStart, extensionSpan, contentSpan, headerOf, acceptedOf, messageOf, wholeOf, readOf, isShort, fieldsWithin, messageFields, movedBy, FitsIn, fieldWithin, fieldOf, partAt, fieldBytes}
+use Rattle.ftd.specs.Packet.{kindOf, extensionLength, bodyLength, saidLength, extensionOf, versionOf, tidOf, letterOf, seriesOf, messageNumberOf, fieldCountOf, contentLengthOf, contentOf, headMissing, restMissing, longExtension, wrongBody, isSkipped, brokenTag, isLink, wrongVersion, isLetter, wrongLetter, wrongContentLength, wrongFields, chainOf, span, bodyStart, extensionSpan, contentSpan, headerOf, acceptedOf, messageOf, wholeOf, readOf, isShort, fieldsWithin, messageFields, movedBy, fieldWithin, fieldOf, partAt, fieldBytes}
+use Rattle.ftd.specs.Packet.Helpers.{SaysLengths, FitsIn}
 use Rattle.ftd.specs.Packet.Laws.{IsMessage, IsLink, IsSkipped, Inside, InWidth, ReadLaws}
 use Rattle.ftd.specs.declared.refusal.Refusal.{Refusal}
 use Rattle.ftd.specs.declared.refusal.Refusal.the-variants.{LongExtension, BrokenTag, BodyLength, Version, ChainLetter, ContentLength, FieldRun}

@@ -10,7 +10,8 @@ use lib.Dec.{ltb, eqb}
 use Rattle.ftd.specs.Bytes.{be16Of, be32Of}
 use Rattle.ftd.specs.Tags.{goodTags}
 use Rattle.ftd.specs.Fields.{exactRun}
-use Rattle.ftd.specs.Packet.{SaysLengths, kindOf, bodyLength, extensionLength, extensionOf, versionOf, tidOf, letterOf, seriesOf, messageNumberOf, fieldCountOf, contentLengthOf, contentOf, wrongBody, isSkipped, restMissing, saidLength, isLetter, span, chainOf, headerOf, acceptedOf, messageOf, wholeOf, readOf}
+use Rattle.ftd.specs.Packet.{kindOf, bodyLength, extensionLength, extensionOf, versionOf, tidOf, letterOf, seriesOf, messageNumberOf, fieldCountOf, contentLengthOf, contentOf, wrongBody, isSkipped, restMissing, saidLength, isLetter, span, chainOf, headerOf, acceptedOf, messageOf, wholeOf, readOf}
+use Rattle.ftd.specs.Packet.Helpers.{SaysLengths}
 use Rattle.ftd.specs.declared.refusal.Refusal.the-variants.{LongExtension, BrokenTag, BodyLength, Version, ChainLetter, ContentLength, FieldRun}
 use Rattle.ftd.specs.declared.packet.Chain.{Chain}
 use Rattle.ftd.specs.declared.packet.Header.{Header}

@@ -8,9 +8,8 @@ use lib.ListN.{length, length-append}
 use lib.Dec.{eqb}
 use Rattle.ftd.specs.Bytes.{be16Of, be32Of, joined, bytes16, bytes32}
 use Rattle.ftd.specs.Runs.{Run, runOf, ended}
-use Rattle.ftd.specs.Fields.{field, fieldsOf, fidOf, fieldWith}
-use Rattle.ftd.specs.Composition.{oneIf, counted, countOf}
-use Rattle.ftd.specs.Resume.{resumeFid, firstIn, firstOf, resumeOf, resumeBytes}
+use Rattle.ftd.specs.Fields.{field, fieldsOf, fidOf, fieldWith, oneIf, counted, countOf, firstIn, firstOf}
+use Rattle.ftd.specs.Resume.{resumeFid, resumeOf, resumeBytes}
 use Rattle.ftd.specs.declared.fields.FieldPlace.the-variants.{Field}
 use Rattle.ftd.specs.declared.resume.Resume.the-variants.{Next}
 use Rattle.ftd.proofs.runs.Laws.{run-whole}

@@ -11,13 +11,12 @@ use lib.ListN.{length, length-append, length-drop}
 use lib.Dec.{T, leb, eqb}
 use Rattle.ftd.specs.Bytes.{be16Of, be32Of}
 use Rattle.ftd.specs.Runs.{Run, runOf, ended}
-use Rattle.ftd.specs.Fields.{field, fieldsOf, fidOf, bytesOf}
-use Rattle.ftd.specs.Chain.{allSmall, shaped}
+use Rattle.ftd.specs.Fields.{field, fieldsOf, fidOf, bytesOf, allSmall, shaped, oneIf, counted, countOf, firstIn, firstOf}
 use Rattle.ftd.specs.Table.{table, rowsOf, widthOf, known}
 use Rattle.ftd.specs.Values.{isValue}
 use Rattle.ftd.specs.Items.{otherWidth, anyOther, wrongWidth, itemsGood, walkFields, walkOf, isRefused, wrongItem}
-use Rattle.ftd.specs.Composition.{CompositionLine, directionOf, appendixE, oneIf, counted, countOf, inRange, allHold, composed}
-use Rattle.ftd.specs.Resume.{resumeFid, firstIn, firstOf, resumeAt, resumeOf, resumeBytes, ResumeLaws}
+use Rattle.ftd.specs.Composition.{CompositionLine, directionOf, appendixE, inRange, allHold, composed}
+use Rattle.ftd.specs.Resume.{resumeFid, resumeAt, resumeOf, resumeBytes, ResumeLaws}
 use Rattle.ftd.specs.declared.composition.Direction.{Direction}
 use Rattle.ftd.specs.declared.composition.Direction.the-variants.{Up}
 use Rattle.ftd.specs.declared.fields.FieldPlace.{FieldPlace}

@@ -12,9 +12,8 @@ use lib.Dec.{leb, eqb}
 use Rattle.ftd.specs.Bytes.{be32Of}
 use Rattle.ftd.specs.Runs.{front, Run, inFront, runOf, ended}
 use Rattle.ftd.specs.Tags.{tag, lengthRight, allRight, countDate, dates, goodRun, tagIn}
-use Rattle.ftd.specs.Fields.{field}
+use Rattle.ftd.specs.Fields.{field, firstIn}
 use Rattle.ftd.specs.Fields.{fieldIn}
-use Rattle.ftd.specs.Resume.{firstIn}
 use Rattle.ftd.specs.declared.tags.TagPlace.{TagPlace}
 use Rattle.ftd.specs.declared.tags.TagPlace.the-variants.{NoTag, Data}
 use Rattle.ftd.specs.declared.fields.FieldPlace.{FieldPlace}

@@ -10,10 +10,10 @@ use lib.ListN.{length, getD, take, drop, length-append, take-append-drop}
 use lib.Seq.{take-append-le, take-take, drop-at, length-take-le}
 use lib.Dec.{leb, ltb, eqb, T, eqb→eq}
 use Rattle.ftd.specs.Bytes.{put}
-use Rattle.ftd.specs.Table.Rule.{allBelow}
+use Rattle.ftd.specs.Table.Helpers.{allBelow}
 use Rattle.ftd.specs.Signed.{pow10}
-use Rattle.ftd.specs.Write.{writtenAnswer, writtenOutput}
-use Rattle.ftd.specs.Signed.Write.{fitVerdict, digitsIn, numberBytes, numberFits, floatBytes, floatFits}
+use Rattle.ftd.specs.Write.{writtenAnswer, writtenOutput, fitVerdict}
+use Rattle.ftd.specs.Signed.Write.{digitsIn, numberBytes, numberFits, floatBytes, floatFits}
 use Rattle.ftd.specs.declared.refusal.Refusal.the-variants.{Item, TooSmall}
 use Rattle.ftd.specs.declared.write.Written.the-variants.{Bytes, Refused}
 use Rattle.ftd.proofs.bytes.Put.{put-put, put-zero}

@@ -11,7 +11,8 @@ use lib.ListN.{length, getD, take, drop, List·getD-eq-default, List·getD-map, 
 use lib.Seq.{getD-take, getD-drop, drop-cons}
 use lib.Dec.{leb, ltb, eqb, T, eqb→eq, leb→le, ltb→lt}
 use Rattle.ftd.specs.Table.{Row, row, table, keep, total, rowsOf}
-use Rattle.ftd.specs.Table.Rule.{kindColumn, widthColumn, scaleColumn, Place, place, places, rowsPlace, rowAt, rightForm, rowHolds, rowsHold, sameRow, sameRows, fieldHolds, allBelow, ruled, RowRule, FieldRule, TableRule}
+use Rattle.ftd.specs.Table.Rule.{Place, place, places, rowsPlace, rowAt, rightForm, RowRule, FieldRule, TableRule}
+use Rattle.ftd.specs.Table.Helpers.{kindColumn, widthColumn, scaleColumn, rowHolds, rowsHold, sameRow, sameRows, fieldHolds, allBelow, ruled}
 
 test : T ruled
 unfolding table rowsOf places

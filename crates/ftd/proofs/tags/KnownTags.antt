@@ -9,7 +9,8 @@ use borrow.Author.Tests.{eq-eqb, ne-eqb}
 use lib.ListN.{length, getD, drop, drop-of-length-le, List·getD-map}
 use lib.Seq.{drop-cons}
 use lib.Dec.{eqb}
-use Rattle.ftd.specs.Tags.{KnownTag, knownTag, knownTags, rightIn, lengthRight, KnownRow}
+use Rattle.ftd.specs.Tags.{KnownTag, knownTag, knownTags, rightIn, lengthRight}
+use Rattle.ftd.specs.Tags.Helpers.{KnownRow}
 
 -- The table in columns, as the code has it.
 unfoldable pub kinds : List ℕ

@@ -9,7 +9,8 @@ use lib.ListN.{length, getD, drop}
 use lib.Dec.{leb, eqb}
 use Rattle.ftd.specs.Bytes.{be32Of}
 use Rattle.ftd.specs.Runs.{front, runOf}
-use Rattle.ftd.specs.Tags.{tag, knownTags, lengthRight, countDate, datePlace, goodRun, goodTags, tagIn, tagPlace, tradeDateOf, tagRunOf}
+use Rattle.ftd.specs.Tags.{tag, knownTags, lengthRight, countDate, goodRun, goodTags, tagIn, tagPlace, tradeDateOf, tagRunOf}
+use Rattle.ftd.specs.Tags.Helpers.{datePlace}
 use Rattle.ftd.specs.declared.tags.TagPlace.the-variants.{Data}
 use Rattle.ftd.specs.declared.tags.TradeDate.{TradeDate}
 use Rattle.ftd.specs.declared.tags.TradeDate.the-variants.{None, At}

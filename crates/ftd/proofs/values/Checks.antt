@@ -11,7 +11,7 @@ use lib.ListN.{length, getD, take, drop, length-append, length-take, drop-of-len
 use lib.Seq.{drop-cons, getD-take, take-length, drop-append-le}
 use lib.Dec.{leb, ltb, eqb, T, ltb→lt}
 use Rattle.ftd.specs.Table.{enumerations}
-use Rattle.ftd.specs.Table.Rule.{allBelow}
+use Rattle.ftd.specs.Table.Helpers.{allBelow}
 use Rattle.ftd.specs.Values.{every, among, isListed, isNumber, withoutPoint, isFloat, monthOf, dayDigits, rightDay, isDate, isValue}
 use Rattle.ftd.specs.Values.Helpers.{inClass}
 use Rattle.ftd.specs.declared.values.Class.{Class}

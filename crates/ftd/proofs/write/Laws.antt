@@ -12,7 +12,8 @@ use lib.Dec.{ltb, eqb}
 use Rattle.ftd.specs.Bytes.{be16Of, be32Of, part, Bytes, bytes16, bytes32}
 use Rattle.ftd.specs.Tags.{goodTags, tradeDateOf}
 use Rattle.ftd.specs.Fields.{exactRun}
-use Rattle.ftd.specs.Packet.{SaysLengths, kindOf, extensionLength, bodyLength, saidLength, extensionOf, versionOf, tidOf, letterOf, seriesOf, messageNumberOf, fieldCountOf, contentLengthOf, contentOf, wrongBody, isSkipped, isLetter, chainOf, chainLetter, span, headerOf, acceptedOf, messageOf, wholeOf, readOf, withDate, datedOf, isShort, notOnePacket, noMessagePacket}
+use Rattle.ftd.specs.Packet.{kindOf, extensionLength, bodyLength, saidLength, extensionOf, versionOf, tidOf, letterOf, seriesOf, messageNumberOf, fieldCountOf, contentLengthOf, contentOf, wrongBody, isSkipped, isLetter, chainOf, chainLetter, span, headerOf, acceptedOf, messageOf, wholeOf, readOf, withDate, datedOf, isShort, notOnePacket, noMessagePacket}
+use Rattle.ftd.specs.Packet.Helpers.{SaysLengths}
 use Rattle.ftd.specs.Write.{frameHead, packetBytes, headerBytes, messageBytes, Verdict, fine, refuse, other, isPlain, plainVerdict, messageVerdict}
 use Rattle.ftd.specs.declared.refusal.Refusal.{Refusal}
 use Rattle.ftd.specs.declared.refusal.Refusal.the-variants.{LongExtension, BrokenTag, BodyLength, FieldRun}

@@ -13,7 +13,7 @@ use Rattle.ftd.specs.Packet.{chainLetter}
 use Rattle.ftd.specs.Write.{frameHead, packetBytes, headerBytes, messageBytes, isPlain, Verdict, fine, refuse, other, writtenAnswer, writtenOutput}
 use Rattle.ftd.specs.declared.refusal.Refusal.{Refusal}
 use Rattle.ftd.specs.declared.refusal.Refusal.the-variants.{TooSmall}
-use Rattle.ftd.specs.Chain.{extensionBytes, tagsFor}
+use Rattle.ftd.specs.Tags.{extensionBytes, tagsFor}
 use Rattle.ftd.specs.Resume.{resumeBytes}
 use Rattle.ftd.specs.declared.tags.TradeDate.the-variants.{At}
 use Rattle.ftd.specs.declared.write.Written.{Written}

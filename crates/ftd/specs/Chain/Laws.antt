@@ -8,10 +8,10 @@ use lib.ListN.{length, getD}
 use lib.Dec.{eqb}
 use Rattle.ftd.specs.Bytes.{part, joined}
 use Rattle.ftd.specs.Runs.{Form, runOf}
-use Rattle.ftd.specs.Tags.{tag, goodTags, tradeDateOf}
-use Rattle.ftd.specs.Fields.{fieldsOf, exactRun}
+use Rattle.ftd.specs.Tags.{tag, goodTags, tradeDateOf, Tag, tagBytes, tagsFor, extensionBytes}
+use Rattle.ftd.specs.Fields.{fieldsOf, exactRun, shaped}
 use Rattle.ftd.specs.Packet.{extensionLength, bodyLength, notOnePacket, noMessagePacket, span, readOf, datedOf}
-use Rattle.ftd.specs.Chain.{shaped, Tag, tagBytes, Piece, noFields, piecesOf, tagsFor, extensionBytes, chainAt, headerFor, packetsOf}
+use Rattle.ftd.specs.Chain.{Piece, noFields, piecesOf, chainAt, headerFor, packetsOf}
 use Rattle.ftd.specs.declared.tags.TradeDate.{TradeDate}
 use Rattle.ftd.specs.declared.chain.Message.{Message}
 use Rattle.ftd.specs.declared.packet.Chain.{Chain}

@@ -1,8 +1,7 @@
 -- The rule of Appendix E's table: one test over the whole table, and what it says of each line.
 use Prim.Native.Nat.{ℕ, _<_}
 use mathlib.Core.Path.{_≡_}
-use mathlib.Core.List.{List, [], _∷_}
-use mathlib.Core.Bool.{Bool, true, false, not, _&&_}
+use mathlib.Core.Bool.{Bool, true, false, _&&_}
 use lib.Dec.{eqb}
 use Rattle.ftd.specs.Table.{known}
 use Rattle.ftd.specs.Values.{among}
@@ -13,18 +12,9 @@ use Rattle.ftd.specs.Composition.{CompositionLine, lineAt}
 abbrev pub again : CompositionLine → CompositionLine → Bool
 again r s = eqb (r .tid) (s .tid) && (eqb (r .direction) (s .direction) && eqb (r .fid) (s .fid))
 
-abbrev pub noneAgain : CompositionLine → List CompositionLine → Bool
-noneAgain r [] = true
-noneAgain r (s ∷ ss) = not (again r s) && noneAgain r ss
-
 -- A line's field is in Appendix D and its TID in Appendix A.
 abbrev pub lineRight : CompositionLine → Bool
 lineRight r = known (r .fid) && among (r .tid) listedTids
-
--- The test: each line is right, and no field is listed twice for a message.
-abbrev pub tableRight : List CompositionLine → Bool
-tableRight [] = true
-tableRight (r ∷ rs) = lineRight r && (noneAgain r rs && tableRight rs)
 
 -- The rule at each line.
 pub record CompositionRule : Type 0 where

@@ -7,9 +7,8 @@ use mathlib.Core.Logic.{_↔_}
 use lib.ListN.{length, getD}
 use Rattle.ftd.specs.Bytes.{Bytes}
 use Rattle.ftd.specs.Runs.{runOf, ended}
-use Rattle.ftd.specs.Fields.{field, fieldsOf, fidOf, bytesOf, fieldWith, Given, givenOf, fieldsWith, contentWith}
+use Rattle.ftd.specs.Fields.{field, fieldsOf, fidOf, bytesOf, fieldWith, Given, givenOf, fieldsWith, contentWith, shaped}
 use Rattle.ftd.specs.Write.{fine, refuse, fieldVerdict}
-use Rattle.ftd.specs.Chain.{shaped}
 use Rattle.ftd.specs.declared.refusal.Refusal.the-variants.{FieldRun}
 
 pub record FieldLaws : Type 0 where

@@ -4,12 +4,6 @@ use mathlib.Core.List.{List, [], _∷_, _++_}
 use mathlib.Core.Bool.{Bool, cond, _&&_}
 use lib.Dec.{leb, ltb}
 use Rattle.ftd.specs.Signed.{pow10}
-use Rattle.ftd.specs.Write.{Verdict, fine, refuse}
-use Rattle.ftd.specs.declared.refusal.Refusal.the-variants.{Item}
-
--- A value that does not fit is refused as the item would be, with 9.
-abbrev pub fitVerdict : Bool → Verdict
-fitVerdict fits = cond fits fine (refuse Item)
 
 -- ─── Number and Float ───
 

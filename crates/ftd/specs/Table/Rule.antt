@@ -1,11 +1,11 @@
 -- The rule of the table of Appendix D (01, "Typed items"): each row has a type of Appendix B or Table 6, rows of a field adjoin,
 -- widths add up to the field's width, fields don't overlap. One test computes it over the whole table.
-use Prim.Native.Nat.{ℕ, zero, suc, _+_, _<_, _≤_}
+use Prim.Native.Nat.{ℕ, _+_, _<_, _≤_}
 use mathlib.Core.Path.{_≡_}
-use mathlib.Core.List.{List, [], _∷_, map}
-use mathlib.Core.Bool.{Bool, true, false, cond, _&&_}
+use mathlib.Core.List.{List, [], _∷_}
+use mathlib.Core.Bool.{Bool, true, cond, _&&_}
 use lib.ListN.{getD, take, drop}
-use lib.Dec.{leb, ltb, eqb}
+use lib.Dec.{leb, eqb}
 use Rattle.ftd.specs.Table.{Row, row, table, total, rowsOf}
 
 -- ─── Where the rows of each field stand ───
@@ -78,16 +78,6 @@ rowsPlace fid = getD places fid (place 0 0 0)
 abbrev pub rowAt : ℕ → Row
 rowAt i = getD table i (row 0 0 0 0)
 
--- The columns of the table.
-unfoldable pub kindColumn : List ℕ
-kindColumn = map (λ (r : Row). r .kind) table
-
-unfoldable pub widthColumn : List ℕ
-widthColumn = map (λ (r : Row). r .width) table
-
-unfoldable pub scaleColumn : List ℕ
-scaleColumn = map (λ (r : Row). r .scale) table
-
 -- ─── The test ───
 
 -- A row has a kind, and the width and decimals that are right for it. A number has at most 18 bytes.
@@ -100,36 +90,6 @@ rightForm r =
     (cond (eqb (r .kind) 5) (leb 1 (r .scale) && (leb (r .scale + 2) (r .width) && leb (r .width) 18))
     (cond (eqb (r .kind) 6) (eqb (r .width) 8 && eqb (r .scale) 0)
     (leb (r .kind) 16 && (eqb (r .width) 1 && eqb (r .scale) 0)))))))
-
--- Row i stands among those of its field.
-abbrev pub rowHolds : ℕ → Row → Bool
-rowHolds i r = rightForm r && (leb (rowsPlace (r .fid) .start) i && ltb i (rowsPlace (r .fid) .start + rowsPlace (r .fid) .count))
-
-abbrev pub rowsHold : ℕ → List Row → Bool
-rowsHold i [] = true
-rowsHold i (r ∷ rs) = rowHolds i r && rowsHold (suc i) rs
-
-abbrev pub sameRow : Row → Row → Bool
-sameRow r s = eqb (r .fid) (s .fid) && (eqb (r .kind) (s .kind) && (eqb (r .width) (s .width) && eqb (r .scale) (s .scale)))
-
-abbrev pub sameRows : List Row → List Row → Bool
-sameRows [] [] = true
-sameRows [] (s ∷ ss) = false
-sameRows (r ∷ rs) [] = false
-sameRows (r ∷ rs) (s ∷ ss) = sameRow r s && sameRows rs ss
-
--- The rows of a field are those that stand in its place, and their widths add up to its width.
-abbrev pub fieldHolds : ℕ → Bool
-fieldHolds fid =
-    leb (rowsPlace fid .start + rowsPlace fid .count) 379
-    && (sameRows (rowsOf fid) (take (rowsPlace fid .count) (drop (rowsPlace fid .start) table)) && eqb (total (rowsOf fid)) (rowsPlace fid .wide))
-
-abbrev pub allBelow : (ℕ → Bool) → ℕ → Bool
-allBelow p zero = true
-allBelow p (suc n) = p n && allBelow p n
-
-abbrev pub ruled : Bool
-ruled = rowsHold 0 table && allBelow fieldHolds 47
 
 -- ─── The rule ───
 

@@ -5,9 +5,9 @@ use mathlib.Core.Bool.{true}
 use native.Mathlib.Nat.{sub-self}
 use native.Mathlib.Omega.{arith}
 use lib.ListN.{length, drop}
-use Rattle.ftd.specs.Chain.{shapely, piecesOf}
+use Rattle.ftd.specs.Chain.{piecesOf}
 use Rattle.ftd.specs.Runs.{runOf}
-use Rattle.ftd.specs.Fields.{field}
+use Rattle.ftd.specs.Fields.{field, shapely}
 use Rattle.ftd.proofs.chain.Pieces.{piece-moves, piece-here, piece-none, piece-turn}
 use Rattle.ftd.proofs.chain.find_piece.Statement.{statement}
 use Rattle.ftd.proofs.chain.find_piece.Tie as tie

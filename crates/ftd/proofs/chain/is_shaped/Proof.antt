@@ -3,9 +3,8 @@ use Prim.Native.Nat.{_-_, _≤_}
 use mathlib.Core.Path.{_≡_}
 use borrow.Author.Tests.{le-leb, lt-leb}
 use lib.ListN.{length, drop}
-use Rattle.ftd.specs.Chain.{shapely, shaped}
 use Rattle.ftd.specs.Runs.{runOf}
-use Rattle.ftd.specs.Fields.{field}
+use Rattle.ftd.specs.Fields.{field, shapely, shaped}
 use Rattle.ftd.proofs.fields.Shape.{shape-over, shape-long, shape-turn}
 use Rattle.ftd.proofs.chain.is_shaped.Statement.{statement}
 use Rattle.ftd.proofs.chain.is_shaped.Tie as tie

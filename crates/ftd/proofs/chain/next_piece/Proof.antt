@@ -2,9 +2,9 @@ use borrow.Author.Needs.{needs}
 use Prim.Native.Nat.{_+_, _-_, _≤_}
 use mathlib.Core.Path.{_≡_, refl}
 use lib.ListN.{length, drop}
-use Rattle.ftd.specs.Chain.{shapely, pack, piecesOf}
+use Rattle.ftd.specs.Chain.{pack, piecesOf}
 use Rattle.ftd.specs.Runs.{runOf}
-use Rattle.ftd.specs.Fields.{field, fieldsOf}
+use Rattle.ftd.specs.Fields.{field, fieldsOf, shapely}
 use Rattle.ftd.proofs.chain.Cuts.{begun, begun-none, cut-over, cut-full, cut-turn, cut-left}
 use Rattle.ftd.proofs.chain.next_piece.Statement.{statement}
 use Rattle.ftd.proofs.chain.next_piece.Tie as tie

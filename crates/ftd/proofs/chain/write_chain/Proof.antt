@@ -1,7 +1,8 @@
 -- `chain::write_chain` meets its contract. Assumes nothing.
 use borrow.Author.Needs.{needs}
 use borrow.Author.Tests.{lt-leb}
-use Rattle.ftd.specs.Chain.{shaped, chainVerdict}
+use Rattle.ftd.specs.Chain.{chainVerdict}
+use Rattle.ftd.specs.Fields.{shaped}
 use Rattle.ftd.proofs.write.Puts.{by-refusal}
 use Rattle.ftd.proofs.chain.Rest.{all-broken, all-small, all-put}
 use Rattle.ftd.proofs.chain.write_chain.Statement.{statement}

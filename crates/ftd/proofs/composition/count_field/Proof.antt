@@ -3,9 +3,8 @@ use Prim.Native.Nat.{_-_, _≤_}
 use mathlib.Core.Path.{_≡_, refl}
 use native.Mathlib.Omega.{arith}
 use lib.ListN.{length, drop}
-use Rattle.ftd.specs.Composition.{counted, countOf}
 use Rattle.ftd.specs.Runs.{runOf}
-use Rattle.ftd.specs.Fields.{field}
+use Rattle.ftd.specs.Fields.{field, counted, countOf}
 use Rattle.ftd.proofs.runs.Turns.{field-head}
 use Rattle.ftd.proofs.composition.Counts.{count-over, count-turn}
 use Rattle.ftd.proofs.composition.count_field.Statement.{statement}

@@ -1,4 +1,4 @@
-use Rattle.ftd.specs.Composition.{oneIf}
+use Rattle.ftd.specs.Fields.{oneIf}
 use Rattle.ftd.proofs.Tests.{tests}
 use Rattle.ftd.proofs.composition.one_if.Statement.{statement}
 use Rattle.ftd.proofs.composition.one_if.Tie as tie

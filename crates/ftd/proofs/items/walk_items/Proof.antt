@@ -9,7 +9,7 @@ use Rattle.ftd.specs.declared.items.Checked.the-variants.{Refused}
 use Rattle.ftd.specs.declared.refusal.Refusal.the-variants.{Item}
 use Rattle.ftd.specs.Items.{itemsGood, walkFields, walkOf}
 use Rattle.ftd.specs.Table.{table}
-use Rattle.ftd.specs.Table.Rule.{kindColumn, widthColumn, scaleColumn}
+use Rattle.ftd.specs.Table.Helpers.{kindColumn, widthColumn, scaleColumn}
 use Rattle.ftd.specs.Fields.{field}
 use Rattle.ftd.specs.Runs.{runOf}
 use Rattle.ftd.proofs.items.Walk.{items-end, items-wrong, items-turn, walk-over, walk-unknown, walk-items}

@@ -5,7 +5,7 @@ use borrow.Author.Needs.{needs}
 use lib.ListN.{take, drop}
 use Rattle.ftd.specs.Places.{itemIn, itemOf}
 use Rattle.ftd.specs.Table.{table}
-use Rattle.ftd.specs.Table.Rule.{kindColumn, widthColumn, scaleColumn}
+use Rattle.ftd.specs.Table.Helpers.{kindColumn, widthColumn, scaleColumn}
 use Rattle.ftd.proofs.places.Walk.{place-unknown, place-start, place-end, place-here, place-turn}
 use Rattle.ftd.proofs.places.item_place.Statement.{statement}
 use Rattle.ftd.proofs.places.item_place.Tie as tie

@@ -3,9 +3,8 @@ use Prim.Native.Nat.{_-_, _≤_}
 use mathlib.Core.Path.{_≡_, refl}
 use native.Mathlib.Omega.{arith}
 use lib.ListN.{length, drop}
-use Rattle.ftd.specs.Resume.{firstIn, firstOf}
 use Rattle.ftd.specs.Runs.{runOf}
-use Rattle.ftd.specs.Fields.{field}
+use Rattle.ftd.specs.Fields.{field, firstIn, firstOf}
 use Rattle.ftd.proofs.runs.Turns.{field-head, first-over, first-here, first-turn}
 use Rattle.ftd.proofs.resume.first_field.Statement.{statement}
 use Rattle.ftd.proofs.resume.first_field.Tie as tie

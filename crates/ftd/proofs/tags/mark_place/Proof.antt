@@ -1,6 +1,6 @@
 -- `tags::mark_place` meets its contract. Assumes nothing.
 use borrow.Author.Needs.{needs}
-use Rattle.ftd.specs.Tags.{datePlace}
+use Rattle.ftd.specs.Tags.Helpers.{datePlace}
 use Rattle.ftd.proofs.Tests.{tests}
 use Rattle.ftd.proofs.tags.mark_place.Statement.{statement}
 use Rattle.ftd.proofs.tags.mark_place.Tie as tie
