@@ -6,20 +6,21 @@ ghost use Prim.Native.Nat.{_+_, _-_, _*_, _≤_};
 ghost use lib.ListN.{length, getD};
 ghost use Rattle.ftd.specs.Bytes.{put, joined};
 ghost use Rattle.ftd.specs.Runs.{runOf};
-ghost use Rattle.ftd.specs.Fields.{field, shapely, shaped};
+ghost use Rattle.ftd.specs.Fields.{field, shapely};
 ghost use Rattle.ftd.specs.Write.{messageBytes, writtenAnswer, writtenOutput};
 ghost use Rattle.ftd.specs.Chain.Laws.{ChainLaws};
 ghost use Rattle.ftd.specs.Chain.{chainAt, packetFor, packetsOf, sizeAnswer, chainVerdict, placeVerdict};
 ghost use Rattle.ftd.specs.Chain.Helpers.{NextPiece, FoundPiece, pieceAt, PutRest, measureOf};
 ghost use Rattle.ftd.specs.Tags.{tagsFor, extensionBytes};
 use crate::bytes::copy_at;
-use crate::bytes::put8;
-use crate::bytes::put32;
 use crate::fields::field_size;
+use crate::fields::is_shaped;
 use crate::packet::Chain;
 use crate::packet::Header;
 use crate::refusal::Refusal;
 use crate::tags::TradeDate;
+use crate::tags::put_tags;
+use crate::tags::tags_len;
 use crate::write::Written;
 use crate::write::put_frame;
 use crate::write::put_header;
@@ -53,51 +54,6 @@ pub enum PiecePlace {
 pub struct Cut {
     pub end: usize,
     pub count: usize,
-}
-
-// Whole fields of at most 4,074 bytes each, at most `limit` in all (refusal 7 for content that is given).
-pub fn is_shaped(content: &[u8], limit: usize) -> bool
-    ensures { λ r. ⌜ r ≡ shaped (now (content .entry)) limit ⌝ }
-{
-    if limit < content.len() {
-        return false;
-    }
-    let mut at: usize = 0;
-    loop {
-        let n = field_size(content, at);
-        if n == 0 {
-            return content.len() <= at;
-        }
-        if 4080 < n {
-            return false;
-        }
-        at += n;
-    }
-}
-
-// The bytes that the tags of an end take.
-pub(crate) fn tags_len(date: TradeDate) -> usize
-    ensures { λ r. ⌜ (r ≡ length (extensionBytes (tagsFor date))) × (r ≤ 6) ⌝ }
-{
-    match date {
-        TradeDate::None => 0,
-        TradeDate::At(_) => 6,
-    }
-}
-
-// The tags that an end writes.
-pub(crate) fn put_tags(out: &mut [u8], to: usize, date: TradeDate)
-    requires { ⌜ to + length (extensionBytes (tagsFor date)) ≤ length (now out) ⌝ }
-    ensures { λ _. ⌜ now (out .exit) ≡ put (now (out .entry)) to (extensionBytes (tagsFor date)) ⌝ }
-{
-    match date {
-        TradeDate::None => {}
-        TradeDate::At(d) => {
-            put8(out, to, 0x05);
-            put8(out, to + 1, 4);
-            put32(out, to + 2, d);
-        }
-    }
 }
 
 // A message packet with the tags of an end, at a place of the output.

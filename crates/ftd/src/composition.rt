@@ -1,14 +1,11 @@
 // Make-up: how often each field occurs in a message, by Appendix E of the standard.
 ghost use mathlib.Core.Path.{_≡_};
-ghost use Prim.Native.Nat.{_+_, _<_, _≤_};
-ghost use lib.ListN.{length, getD};
+ghost use Prim.Native.Nat.{_+_, _<_};
 ghost use Rattle.ftd.specs.Composition.Rule.{CompositionRule};
 ghost use Rattle.ftd.specs.Composition.{directionOf, inRange, appendixE, lineAt, lineHolds, allHold, composed};
-ghost use Rattle.ftd.specs.Fields.{oneIf, countOf};
-use crate::bytes::be32;
 use crate::bytes::number16;
 use crate::bytes::size8;
-use crate::fields::field_size;
+use crate::fields::count_field;
 
 // The lines of Appendix E in columns, in the paper's order: TID, direction (0 up, 1 down), FID, least and most count (0: unlimited).
 const TID: [u16; 82] = [
@@ -449,32 +446,6 @@ fn direction_number(d: Direction) -> u8
     match d {
         Direction::Up => 0,
         Direction::Down => 1,
-    }
-}
-
-// 1 where the field is the one counted.
-fn one_if(found: u32, fid: u32) -> usize
-    ensures { λ r. ⌜ (r ≡ oneIf found fid) × (r ≤ 1) ⌝ }
-{
-    if found == fid {
-        return 1;
-    }
-    0
-}
-
-// How often a field occurs in a content.
-pub fn count_field(content: &[u8], fid: u32) -> usize
-    ensures { λ r. ⌜ r ≡ countOf fid (now (content .entry)) ⌝ }
-{
-    let mut at: usize = 0;
-    let mut seen: usize = 0;
-    loop {
-        let n = field_size(content, at);
-        if n == 0 {
-            return seen;
-        }
-        seen += one_if(be32(content, at), fid);
-        at += n;
     }
 }
 

@@ -1,10 +1,10 @@
-// The content check: refusals 7, 8, 9 and 10, in that order. Its parts are `chain::is_shaped`, `items::wrong_width`,
+// The content check: refusals 7, 8, 9 and 10, in that order. Its parts are `fields::is_shaped`, `items::wrong_width`,
 // `items::walk_items` and `composition::is_composed`.
 ghost use mathlib.Core.Path.{_≡_};
 ghost use Rattle.ftd.specs.Content.{contentCheck};
-use crate::chain::is_shaped;
 use crate::composition::Direction;
 use crate::composition::is_composed;
+use crate::fields::is_shaped;
 use crate::items::Checked;
 use crate::items::check_items;
 use crate::refusal::Refusal;

@@ -4,7 +4,7 @@ ghost use Prim.Native.Nat.{_+_, _-_, _<_, _≤_};
 ghost use lib.ListN.{length, drop};
 ghost use Rattle.ftd.specs.Bytes.{put};
 ghost use Rattle.ftd.specs.Runs.{front};
-ghost use Rattle.ftd.specs.Fields.{field, exactRun, fieldPlaceOf, FieldInside, fieldWith};
+ghost use Rattle.ftd.specs.Fields.{field, exactRun, fieldPlaceOf, FieldInside, fieldWith, shaped, countOf, oneIf, firstOf};
 ghost use Rattle.ftd.specs.Fields.Laws.{FieldLaws};
 ghost use Rattle.ftd.specs.Write.{fieldVerdict, writtenAnswer, writtenOutput};
 use crate::bytes::be16;
@@ -60,6 +60,26 @@ pub fn exact_run(content: &[u8], count: u16) -> bool
     }
 }
 
+// Whole fields of at most 4,074 bytes each, at most `limit` in all (refusal 7 for content that is given).
+pub fn is_shaped(content: &[u8], limit: usize) -> bool
+    ensures { λ r. ⌜ r ≡ shaped (now (content .entry)) limit ⌝ }
+{
+    if limit < content.len() {
+        return false;
+    }
+    let mut at: usize = 0;
+    loop {
+        let n = field_size(content, at);
+        if n == 0 {
+            return content.len() <= at;
+        }
+        if 4080 < n {
+            return false;
+        }
+        at += n;
+    }
+}
+
 // Field i of a content, counted from 0.
 pub fn field_place(content: &[u8], i: usize) -> FieldPlace
     ensures { λ r. ⌜ (r ≡ fieldPlaceOf (now (content .entry)) i) × FieldInside (now (content .entry)) r ⌝ }
@@ -80,6 +100,54 @@ pub fn field_place(content: &[u8], i: usize) -> FieldPlace
         }
         at += n;
         left -= 1;
+    }
+}
+
+// 1 where the field is the one counted.
+fn one_if(found: u32, fid: u32) -> usize
+    ensures { λ r. ⌜ (r ≡ oneIf found fid) × (r ≤ 1) ⌝ }
+{
+    if found == fid {
+        return 1;
+    }
+    0
+}
+
+// How often a field occurs in a content.
+pub fn count_field(content: &[u8], fid: u32) -> usize
+    ensures { λ r. ⌜ r ≡ countOf fid (now (content .entry)) ⌝ }
+{
+    let mut at: usize = 0;
+    let mut seen: usize = 0;
+    loop {
+        let n = field_size(content, at);
+        if n == 0 {
+            return seen;
+        }
+        seen += one_if(be32(content, at), fid);
+        at += n;
+    }
+}
+
+// The first field of a content with a FID.
+pub fn first_field(content: &[u8], fid: u32) -> FieldPlace
+    ensures { λ r. ⌜ (r ≡ firstOf (now (content .entry)) fid) × FieldInside (now (content .entry)) r ⌝ }
+{
+    let mut at: usize = 0;
+    loop {
+        let n = field_size(content, at);
+        if n == 0 {
+            return FieldPlace::NoField;
+        }
+        let found = be32(content, at);
+        if found == fid {
+            return FieldPlace::Field {
+                fid: found,
+                start: at + 6,
+                len: n - 6,
+            };
+        }
+        at += n;
     }
 }
 

@@ -1,18 +1,17 @@
 // The start field (DisseminationstartField, FID 0x0004): a series, and the next number wanted.
 ghost use mathlib.Core.Path.{_≡_};
 ghost use Prim.Native.Nat.{_+_, _<_, _≤_};
-ghost use lib.ListN.{length, drop};
+ghost use lib.ListN.{length};
 ghost use Rattle.ftd.specs.Bytes.{put};
-ghost use Rattle.ftd.specs.Fields.{FieldInside, firstOf};
 ghost use Rattle.ftd.specs.Write.{writtenAnswer, writtenOutput, fine};
 ghost use Rattle.ftd.specs.Resume.{resumeOf, resumeBytes, ResumeLaws};
 use crate::bytes::be16;
 use crate::bytes::be32;
 use crate::bytes::put16;
 use crate::bytes::put32;
-use crate::composition::count_field;
 use crate::fields::FieldPlace;
-use crate::fields::field_size;
+use crate::fields::count_field;
+use crate::fields::first_field;
 use crate::refusal::Refusal;
 use crate::write::Written;
 
@@ -26,28 +25,6 @@ pub enum Resume {
     Misshapen,
     // It has more than one.
     Several,
-}
-
-// The first field of a content with a FID.
-pub fn first_field(content: &[u8], fid: u32) -> FieldPlace
-    ensures { λ r. ⌜ (r ≡ firstOf (now (content .entry)) fid) × FieldInside (now (content .entry)) r ⌝ }
-{
-    let mut at: usize = 0;
-    loop {
-        let n = field_size(content, at);
-        if n == 0 {
-            return FieldPlace::NoField;
-        }
-        let found = be32(content, at);
-        if found == fid {
-            return FieldPlace::Field {
-                fid: found,
-                start: at + 6,
-                len: n - 6,
-            };
-        }
-        at += n;
-    }
 }
 
 // The start field of a content: none, one with its values, or more.

@@ -3,9 +3,12 @@ ghost use mathlib.Core.Path.{_≡_};
 ghost use Prim.Native.Nat.{_+_, _-_, _≤_};
 ghost use lib.ListN.{length, drop};
 ghost use Rattle.ftd.specs.Runs.{front};
-ghost use Rattle.ftd.specs.Tags.{tag, lengthRight, countDate, goodTags, tagRunOf, tagPlace, TagInside, tradeDateOf, keepAliveOf};
+ghost use Rattle.ftd.specs.Tags.{tag, lengthRight, countDate, goodTags, tagRunOf, tagPlace, TagInside, tradeDateOf, keepAliveOf, tagsFor, extensionBytes};
 ghost use Rattle.ftd.specs.Tags.Helpers.{KnownRow, datePlace};
+ghost use Rattle.ftd.specs.Bytes.{put};
 use crate::bytes::be32;
+use crate::bytes::put8;
+use crate::bytes::put32;
 use crate::bytes::size8;
 
 // The known tags: kinds, and the length of each one's data.
@@ -179,5 +182,30 @@ pub fn keep_alive(extension: &[u8]) -> bool
     match find_tag(extension, 0x04) {
         TagPlace::NoTag => false,
         TagPlace::Data { start: _, len: _ } => true,
+    }
+}
+
+// The tags that an end writes.
+pub(crate) fn put_tags(out: &mut [u8], to: usize, date: TradeDate)
+    requires { ⌜ to + length (extensionBytes (tagsFor date)) ≤ length (now out) ⌝ }
+    ensures { λ _. ⌜ now (out .exit) ≡ put (now (out .entry)) to (extensionBytes (tagsFor date)) ⌝ }
+{
+    match date {
+        TradeDate::None => {}
+        TradeDate::At(d) => {
+            put8(out, to, 0x05);
+            put8(out, to + 1, 4);
+            put32(out, to + 2, d);
+        }
+    }
+}
+
+// The bytes that the tags of an end take.
+pub(crate) fn tags_len(date: TradeDate) -> usize
+    ensures { λ r. ⌜ (r ≡ length (extensionBytes (tagsFor date))) × (r ≤ 6) ⌝ }
+{
+    match date {
+        TradeDate::None => 0,
+        TradeDate::At(_) => 6,
     }
 }

@@ -5,8 +5,8 @@ use Rattle.ftd.proofs.bytes.Put.{put-nil}
 use mathlib.Core.Path.{sym}
 use native.Mathlib.Omega.{arith}
 use borrow.Author.Needs.{needs}
-use Rattle.ftd.proofs.chain.put_tags.Statement.{statement}
-use Rattle.ftd.proofs.chain.put_tags.Tie as tie
+use Rattle.ftd.proofs.tags.put_tags.Statement.{statement}
+use Rattle.ftd.proofs.tags.put_tags.Tie as tie
 
 enum-told : tie.Need-enum-told
 enum-told c = search needs

@@ -7,8 +7,8 @@ use Rattle.ftd.specs.Runs.{runOf}
 use Rattle.ftd.specs.Fields.{field, counted, countOf}
 use Rattle.ftd.proofs.runs.Turns.{field-head}
 use Rattle.ftd.proofs.composition.Counts.{count-over, count-turn}
-use Rattle.ftd.proofs.composition.count_field.Statement.{statement}
-use Rattle.ftd.proofs.composition.count_field.Tie as tie
+use Rattle.ftd.proofs.fields.count_field.Statement.{statement}
+use Rattle.ftd.proofs.fields.count_field.Tie as tie
 
 abbrev Inv-loop : tie.InvT-loop
 Inv-loop content fid at₀ seen₀ at seen = (at ≤ length content) × (seen ≤ at) × (counted fid (runOf field (drop at content) .entries) seen ≡ countOf fid content)

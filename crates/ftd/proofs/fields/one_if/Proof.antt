@@ -1,7 +1,7 @@
 use Rattle.ftd.specs.Fields.{oneIf}
 use Rattle.ftd.proofs.Tests.{tests}
-use Rattle.ftd.proofs.composition.one_if.Statement.{statement}
-use Rattle.ftd.proofs.composition.one_if.Tie as tie
+use Rattle.ftd.proofs.fields.one_if.Statement.{statement}
+use Rattle.ftd.proofs.fields.one_if.Tie as tie
 
 returns : tie.Need-returns
 unfolding oneIf

@@ -6,8 +6,8 @@ use lib.ListN.{length, drop}
 use Rattle.ftd.specs.Runs.{runOf}
 use Rattle.ftd.specs.Fields.{field, firstIn, firstOf}
 use Rattle.ftd.proofs.runs.Turns.{field-head, first-over, first-here, first-turn}
-use Rattle.ftd.proofs.resume.first_field.Statement.{statement}
-use Rattle.ftd.proofs.resume.first_field.Tie as tie
+use Rattle.ftd.proofs.fields.first_field.Statement.{statement}
+use Rattle.ftd.proofs.fields.first_field.Tie as tie
 
 abbrev Inv-loop : tie.InvT-loop
 Inv-loop content fid at₀ at = (at ≤ length content) × (firstIn at (runOf field (drop at content) .entries) fid ≡ firstOf content fid)

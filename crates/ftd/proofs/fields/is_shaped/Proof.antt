@@ -6,8 +6,8 @@ use lib.ListN.{length, drop}
 use Rattle.ftd.specs.Runs.{runOf}
 use Rattle.ftd.specs.Fields.{field, shapely, shaped}
 use Rattle.ftd.proofs.fields.Shape.{shape-over, shape-long, shape-turn}
-use Rattle.ftd.proofs.chain.is_shaped.Statement.{statement}
-use Rattle.ftd.proofs.chain.is_shaped.Tie as tie
+use Rattle.ftd.proofs.fields.is_shaped.Statement.{statement}
+use Rattle.ftd.proofs.fields.is_shaped.Tie as tie
 
 abbrev Inv-loop : tie.InvT-loop
 Inv-loop content limit at₀ at = (at ≤ length content) × (shapely (runOf field (drop at content)) ≡ shaped content limit)
