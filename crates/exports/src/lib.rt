@@ -335,7 +335,8 @@ pub extern "C" fn ftd_size(m: FtdMessage, content: &[u8]) -> FtdSize
 // All packets of a message, one behind the other; refused, the output is as it was.
 #[no_mangle]
 pub extern "C" fn ftd_write(m: FtdMessage, content: &[u8], out: &mut [u8]) -> FtdWritten
-    ensures { λ r. ⌜ (r ≡ writtenNumbers (writtenAnswer (chainVerdict (now (content .entry))) (joined (packetsOf (messageFor m) (now (content .entry)))) (now (out .entry)))) × (now (out .exit) ≡ writtenOutput (chainVerdict (now (content .entry))) (joined (packetsOf (messageFor m) (now (content .entry)))) (now (out .entry))) ⌝ }
+    ensures answer { λ r. ⌜ r ≡ writtenNumbers (writtenAnswer (chainVerdict (now (content .entry))) (joined (packetsOf (messageFor m) (now (content .entry)))) (now (out .entry))) ⌝ }
+    ensures output { λ _. ⌜ now (out .exit) ≡ writtenOutput (chainVerdict (now (content .entry))) (joined (packetsOf (messageFor m) (now (content .entry)))) (now (out .entry)) ⌝ }
 {
     match write_chain(message_for(m), content, out) {
         Written::Bytes(n) => FtdWritten {

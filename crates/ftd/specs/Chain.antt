@@ -7,7 +7,7 @@ use mathlib.Core.Bool.{Bool, true, false, cond}
 use lib.ListN.{length}
 use lib.Dec.{ltb, leb}
 use Rattle.ftd.specs.Bytes.{joined}
-use Rattle.ftd.specs.Fields.{fieldsOf, shaped}
+use Rattle.ftd.specs.Fields.{fieldsOf, shaped, mostContent, packetContent}
 use Rattle.ftd.specs.Write.{messageBytes, Verdict, fine, refuse, other}
 use Rattle.ftd.specs.Tags.{extensionBytes, tagsFor}
 use Rattle.ftd.specs.declared.refusal.Refusal.the-variants.{FieldRun}
@@ -38,7 +38,7 @@ pack p [] = p ∷ []
 pack p (f ∷ fs) =
     let more = pack (withField p f) fs in
     let next = p ∷ pack (withField noFields f) fs in
-    cond (leb (length (p .bytes) + length f) 4080) more next
+    cond (leb (length (p .bytes) + length f) packetContent) more next
 
 -- The pieces of a content; of one with no field, one with none.
 unfoldable pub piecesOf : List ℕ → List Piece
@@ -76,17 +76,17 @@ packetsOf m content = framed m true (piecesOf content)
 
 -- A message has at most 32,768 content bytes.
 unfoldable pub chainVerdict : List ℕ → Verdict
-chainVerdict content = cond (shaped content 32768) fine (refuse FieldRun)
+chainVerdict content = cond (shaped content mostContent) fine (refuse FieldRun)
 
 -- Of one packet of a message: it has one at that place.
 unfoldable pub placeVerdict : Message → List ℕ → ℕ → Verdict
-placeVerdict m content i = cond (shaped content 32768) (cond (ltb i (length (packetsOf m content))) fine (other NoPacket)) (refuse FieldRun)
+placeVerdict m content i = cond (shaped content mostContent) (cond (ltb i (length (packetsOf m content))) fine (other NoPacket)) (refuse FieldRun)
 
 -- ─── What a message takes ───
 
 -- How many packets, and how many bytes in all.
 unfoldable pub sizeAnswer : Message → List ℕ → ChainSize
 sizeAnswer m content =
-    cond (shaped content 32768)
+    cond (shaped content mostContent)
     (Takes (record { packets = length (packetsOf m content); bytes = length (joined (packetsOf m content)) }))
     (Refused FieldRun)

@@ -32,139 +32,139 @@ listed tid d fid least most = record { tid = tid; direction = directionOf d; fid
 unfoldable pub appendixE : List CompositionLine
 appendixE =
     -- Error, TID 0x0001, down
-    listed 1 Down 5 1 1  -- ErrorField
-    ∷ listed 1 Down 46 0 1  -- ErrorTargetSequenceField
-    ∷ listed 1 Down 45 0 1  -- ErrorTargetOrderField
+    listed 0x0001 Down 0x0005 1 1  -- ErrorField
+    ∷ listed 0x0001 Down 0x002E 0 1  -- ErrorTargetSequenceField
+    ∷ listed 0x0001 Down 0x002D 0 1  -- ErrorTargetOrderField
     -- ForceExit, TID 0x1005, down
-    ∷ listed 4101 Down 6 1 1  -- ForceExitField
+    ∷ listed 0x1005 Down 0x0006 1 1  -- ForceExitField
     -- InstrumentChangeNotify, TID 0x2007, down
-    ∷ listed 8199 Down 7 1 1  -- InstrumentField
-    ∷ listed 8199 Down 5 0 1  -- ErrorField
+    ∷ listed 0x2007 Down 0x0007 1 1  -- InstrumentField
+    ∷ listed 0x2007 Down 0x0005 0 1  -- ErrorField
     -- InstrumentStatusChangeNotify, TID 0x2006, down
-    ∷ listed 8198 Down 8 1 1  -- InstrumentStatusField
-    ∷ listed 8198 Down 5 0 1  -- ErrorField
+    ∷ listed 0x2006 Down 0x0008 1 1  -- InstrumentStatusField
+    ∷ listed 0x2006 Down 0x0005 0 1  -- ErrorField
     -- MarketBulletin, TID 0x2003, down
-    ∷ listed 8195 Down 1 1 1  -- BulletinField
+    ∷ listed 0x2003 Down 0x0001 1 1  -- BulletinField
     -- MarketMatchData, TID 0x2004, down
-    ∷ listed 8196 Down 19 0 0  -- MarketMatchDataField
-    ∷ listed 8196 Down 18 0 0  -- MarketMatchDataChgField
+    ∷ listed 0x2004 Down 0x0013 0 0  -- MarketMatchDataField
+    ∷ listed 0x2004 Down 0x0012 0 0  -- MarketMatchDataChgField
     -- MarketMatchIncData, TID 0x2002, down
-    ∷ listed 8194 Down 10 1 0  -- MarketMatchIncDataField
-    ∷ listed 8194 Down 5 0 1  -- ErrorField
+    ∷ listed 0x2002 Down 0x000A 1 0  -- MarketMatchIncDataField
+    ∷ listed 0x2002 Down 0x0005 0 1  -- ErrorField
     -- MarketOrderIncData, TID 0x2001, down
-    ∷ listed 8193 Down 13 1 0  -- MarketOrderDataField
-    ∷ listed 8193 Down 5 0 1  -- ErrorField
+    ∷ listed 0x2001 Down 0x000D 1 0  -- MarketOrderDataField
+    ∷ listed 0x2001 Down 0x0005 0 1  -- ErrorField
     -- MarketStatusChangeNotify, TID 0x2005, down
-    ∷ listed 8197 Down 9 1 1  -- MarketStatusField
-    ∷ listed 8197 Down 5 0 1  -- ErrorField
+    ∷ listed 0x2005 Down 0x0009 1 1  -- MarketStatusField
+    ∷ listed 0x2005 Down 0x0005 0 1  -- ErrorField
     -- OrderConfirmation, TID 0x1003, down
-    ∷ listed 4099 Down 14 1 1  -- OrderStatusField
-    ∷ listed 4099 Down 5 0 1  -- ErrorField
+    ∷ listed 0x1003 Down 0x000E 1 1  -- OrderStatusField
+    ∷ listed 0x1003 Down 0x0005 0 1  -- ErrorField
     -- ParticipantBulletin, TID 0x1002, down
-    ∷ listed 4098 Down 1 1 1  -- BulletinField
+    ∷ listed 0x1002 Down 0x0001 1 1  -- BulletinField
     -- ReqOrderAction, TID 0x0004, up
-    ∷ listed 4 Up 11 1 1  -- OrderActionField
+    ∷ listed 0x0004 Up 0x000B 1 1  -- OrderActionField
     -- ReqOrderInsert, TID 0x0003, up
-    ∷ listed 3 Up 12 1 1  -- OrderInsertField
+    ∷ listed 0x0003 Up 0x000C 1 1  -- OrderInsertField
     -- ReqQryClient, TID 0x000C, up
-    ∷ listed 12 Up 20 1 1  -- ReqQryClientField
+    ∷ listed 0x000C Up 0x0014 1 1  -- ReqQryClientField
     -- ReqQryDeposit, TID 0x0008, up
-    ∷ listed 8 Up 21 1 1  -- ReqQryDepositField
+    ∷ listed 0x0008 Up 0x0015 1 1  -- ReqQryDepositField
     -- ReqQryInstrument, TID 0x0005, up
-    ∷ listed 5 Up 22 1 1  -- ReqQryInstrumentField
+    ∷ listed 0x0005 Up 0x0016 1 1  -- ReqQryInstrumentField
     -- ReqQryInstrumentStatus, TID 0x000E, up
-    ∷ listed 14 Up 23 1 1  -- ReqQryInstrumentStatusField
+    ∷ listed 0x000E Up 0x0017 1 1  -- ReqQryInstrumentStatusField
     -- ReqQryMarket, TID 0x000B, up
-    ∷ listed 11 Up 24 1 1  -- ReqQryMarketField
+    ∷ listed 0x000B Up 0x0018 1 1  -- ReqQryMarketField
     -- ReqQryMarketMatchData, TID 0x0002, up
-    ∷ listed 2 Up 31 1 1  -- ReqQryMarketMatchDataField
+    ∷ listed 0x0002 Up 0x001F 1 1  -- ReqQryMarketMatchDataField
     -- ReqQryMarketOrderData, TID 0x0012, up
-    ∷ listed 18 Up 27 1 1  -- ReqQryMarketOrderDataField
+    ∷ listed 0x0012 Up 0x001B 1 1  -- ReqQryMarketOrderDataField
     -- ReqQryMarketStatus, TID 0x000D, up
-    ∷ listed 13 Up 25 1 1  -- ReqQryMarketStatusField
+    ∷ listed 0x000D Up 0x0019 1 1  -- ReqQryMarketStatusField
     -- ReqQryOrder, TID 0x0006, up
-    ∷ listed 6 Up 26 1 1  -- ReqQryOrderField
+    ∷ listed 0x0006 Up 0x001A 1 1  -- ReqQryOrderField
     -- ReqQryParticipant, TID 0x0013, up
-    ∷ listed 19 Up 28 1 1  -- ReqQryParticipantField
+    ∷ listed 0x0013 Up 0x001C 1 1  -- ReqQryParticipantField
     -- ReqQryPosition, TID 0x000A, up
-    ∷ listed 10 Up 29 1 1  -- ReqQryPositionField
+    ∷ listed 0x000A Up 0x001D 1 1  -- ReqQryPositionField
     -- ReqQryPPosition, TID 0x0009, up
-    ∷ listed 9 Up 30 1 1  -- ReqQryPPositionField
+    ∷ listed 0x0009 Up 0x001E 1 1  -- ReqQryPPositionField
     -- ReqQryTrade, TID 0x0007, up
-    ∷ listed 7 Up 32 1 1  -- ReqQryTradeField
+    ∷ listed 0x0007 Up 0x0020 1 1  -- ReqQryTradeField
     -- ReqQryUser, TID 0x0014, up
-    ∷ listed 20 Up 33 1 1  -- ReqQryUserField
+    ∷ listed 0x0014 Up 0x0021 1 1  -- ReqQryUserField
     -- ReqQryUserLogin, TID 0x0015, up
-    ∷ listed 21 Up 34 1 1  -- ReqQryUserLoginField
+    ∷ listed 0x0015 Up 0x0022 1 1  -- ReqQryUserLoginField
     -- ReqUserLogin, TID 0x0016, up
-    ∷ listed 22 Up 35 1 1  -- ReqUserLoginField
-    ∷ listed 22 Up 4 0 1  -- DisseminationstartField
+    ∷ listed 0x0016 Up 0x0023 1 1  -- ReqUserLoginField
+    ∷ listed 0x0016 Up 0x0004 0 1  -- DisseminationstartField
     -- ReqUserLogout, TID 0x0017, up
-    ∷ listed 23 Up 36 1 1  -- ReqUserLogoutField
+    ∷ listed 0x0017 Up 0x0024 1 1  -- ReqUserLogoutField
     -- ReqUserPasswordUpdate, TID 0x0018, up
-    ∷ listed 24 Up 37 1 1  -- ReqUserPasswordUpdateField
+    ∷ listed 0x0018 Up 0x0025 1 1  -- ReqUserPasswordUpdateField
     -- RspOrderAction, TID 0x0004, down
-    ∷ listed 4 Down 11 1 1  -- OrderActionField
-    ∷ listed 4 Down 5 0 1  -- ErrorField
+    ∷ listed 0x0004 Down 0x000B 1 1  -- OrderActionField
+    ∷ listed 0x0004 Down 0x0005 0 1  -- ErrorField
     -- RspOrderInsert, TID 0x0003, down
-    ∷ listed 3 Down 12 1 1  -- OrderInsertField
-    ∷ listed 3 Down 5 0 1  -- ErrorField
+    ∷ listed 0x0003 Down 0x000C 1 1  -- OrderInsertField
+    ∷ listed 0x0003 Down 0x0005 0 1  -- ErrorField
     -- RspQryClient, TID 0x000C, down
-    ∷ listed 12 Down 2 1 0  -- ClientField
-    ∷ listed 12 Down 5 0 1  -- ErrorField
+    ∷ listed 0x000C Down 0x0002 1 0  -- ClientField
+    ∷ listed 0x000C Down 0x0005 0 1  -- ErrorField
     -- RspQryDeposit, TID 0x0008, down
-    ∷ listed 8 Down 3 1 0  -- DepositField
-    ∷ listed 8 Down 5 0 1  -- ErrorField
+    ∷ listed 0x0008 Down 0x0003 1 0  -- DepositField
+    ∷ listed 0x0008 Down 0x0005 0 1  -- ErrorField
     -- RspQryInstrument, TID 0x0005, down
-    ∷ listed 5 Down 7 1 0  -- InstrumentField
-    ∷ listed 5 Down 5 0 1  -- ErrorField
+    ∷ listed 0x0005 Down 0x0007 1 0  -- InstrumentField
+    ∷ listed 0x0005 Down 0x0005 0 1  -- ErrorField
     -- RspQryInstrumentStatus, TID 0x000E, down
-    ∷ listed 14 Down 8 1 0  -- InstrumentStatusField
-    ∷ listed 14 Down 5 0 1  -- ErrorField
+    ∷ listed 0x000E Down 0x0008 1 0  -- InstrumentStatusField
+    ∷ listed 0x000E Down 0x0005 0 1  -- ErrorField
     -- RspQryMarket, TID 0x000B, down
-    ∷ listed 11 Down 38 1 0  -- MarketField
-    ∷ listed 11 Down 5 0 1  -- ErrorField
+    ∷ listed 0x000B Down 0x0026 1 0  -- MarketField
+    ∷ listed 0x000B Down 0x0005 0 1  -- ErrorField
     -- RspQryMarketMatchData, TID 0x0002, down
-    ∷ listed 2 Down 19 1 0  -- MarketMatchDataField
-    ∷ listed 2 Down 5 0 1  -- ErrorField
+    ∷ listed 0x0002 Down 0x0013 1 0  -- MarketMatchDataField
+    ∷ listed 0x0002 Down 0x0005 0 1  -- ErrorField
     -- RspQryMarketOrderData, TID 0x0012, down
-    ∷ listed 18 Down 13 1 0  -- MarketOrderDataField
-    ∷ listed 18 Down 5 0 1  -- ErrorField
+    ∷ listed 0x0012 Down 0x000D 1 0  -- MarketOrderDataField
+    ∷ listed 0x0012 Down 0x0005 0 1  -- ErrorField
     -- RspQryMarketStatus, TID 0x000D, down
-    ∷ listed 13 Down 9 1 0  -- MarketStatusField
-    ∷ listed 13 Down 5 0 1  -- ErrorField
+    ∷ listed 0x000D Down 0x0009 1 0  -- MarketStatusField
+    ∷ listed 0x000D Down 0x0005 0 1  -- ErrorField
     -- RspQryOrder, TID 0x0006, down
-    ∷ listed 6 Down 14 1 0  -- OrderStatusField
-    ∷ listed 6 Down 5 0 1  -- ErrorField
+    ∷ listed 0x0006 Down 0x000E 1 0  -- OrderStatusField
+    ∷ listed 0x0006 Down 0x0005 0 1  -- ErrorField
     -- RspQryParticipant, TID 0x0013, down
-    ∷ listed 19 Down 15 1 0  -- ParticipantField
-    ∷ listed 19 Down 5 0 1  -- ErrorField
+    ∷ listed 0x0013 Down 0x000F 1 0  -- ParticipantField
+    ∷ listed 0x0013 Down 0x0005 0 1  -- ErrorField
     -- RspQryPosition, TID 0x000A, down
-    ∷ listed 10 Down 16 1 0  -- PositionField
-    ∷ listed 10 Down 5 0 1  -- ErrorField
+    ∷ listed 0x000A Down 0x0010 1 0  -- PositionField
+    ∷ listed 0x000A Down 0x0005 0 1  -- ErrorField
     -- RspQryPPosition, TID 0x0009, down
-    ∷ listed 9 Down 17 1 0  -- PPositionField
-    ∷ listed 9 Down 5 0 1  -- ErrorField
+    ∷ listed 0x0009 Down 0x0011 1 0  -- PPositionField
+    ∷ listed 0x0009 Down 0x0005 0 1  -- ErrorField
     -- RspQryTrade, TID 0x0007, down
-    ∷ listed 7 Down 42 1 0  -- TradeInsertSingleField
-    ∷ listed 7 Down 5 0 1  -- ErrorField
+    ∷ listed 0x0007 Down 0x002A 1 0  -- TradeInsertSingleField
+    ∷ listed 0x0007 Down 0x0005 0 1  -- ErrorField
     -- RspQryUser, TID 0x0014, down
-    ∷ listed 20 Down 43 1 0  -- UserField
-    ∷ listed 20 Down 5 0 1  -- ErrorField
+    ∷ listed 0x0014 Down 0x002B 1 0  -- UserField
+    ∷ listed 0x0014 Down 0x0005 0 1  -- ErrorField
     -- RspQryUserLogin, TID 0x0015, down
-    ∷ listed 21 Down 44 1 0  -- UserLoginField
-    ∷ listed 21 Down 5 0 1  -- ErrorField
+    ∷ listed 0x0015 Down 0x002C 1 0  -- UserLoginField
+    ∷ listed 0x0015 Down 0x0005 0 1  -- ErrorField
     -- RspUserLogin, TID 0x0016, down
-    ∷ listed 22 Down 39 1 1  -- RspUserLoginField
-    ∷ listed 22 Down 5 0 1  -- ErrorField
+    ∷ listed 0x0016 Down 0x0027 1 1  -- RspUserLoginField
+    ∷ listed 0x0016 Down 0x0005 0 1  -- ErrorField
     -- RspUserLogout, TID 0x0017, down
-    ∷ listed 23 Down 40 1 1  -- RspUserLogoutField
-    ∷ listed 23 Down 5 0 1  -- ErrorField
+    ∷ listed 0x0017 Down 0x0028 1 1  -- RspUserLogoutField
+    ∷ listed 0x0017 Down 0x0005 0 1  -- ErrorField
     -- RspUserPasswordUpdate, TID 0x0018, down
-    ∷ listed 24 Down 41 1 1  -- RspUserPasswordUpdateField
-    ∷ listed 24 Down 5 0 1  -- ErrorField
+    ∷ listed 0x0018 Down 0x0029 1 1  -- RspUserPasswordUpdateField
+    ∷ listed 0x0018 Down 0x0005 0 1  -- ErrorField
     -- TradeInsertSingle, TID 0x1001, down
-    ∷ listed 4097 Down 42 1 1  -- TradeInsertSingleField
+    ∷ listed 0x1001 Down 0x002A 1 1  -- TradeInsertSingleField
     ∷ []
 
 -- The table in columns, as the code has it, and its line i.

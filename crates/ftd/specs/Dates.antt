@@ -18,7 +18,7 @@ dateValue l = cond (isDate l) (cond (every isSpace l) Unused (Day (yearOf l) (mo
 -- The bytes of a value: all spaces, or YYYYMMDD.
 unfoldable pub dateBytes : Date → List ℕ
 dateBytes NoDate = []
-dateBytes Unused = replicate 8 32
+dateBytes Unused = replicate 8 0x20
 dateBytes (Day year month day) = digitsIn 4 year ++ (digitsIn 2 month ++ digitsIn 2 day)
 
 unfoldable pub dateFits : Date → Bool

@@ -10,6 +10,20 @@ use Rattle.ftd.specs.Runs.{Form, Run, runOf, ended}
 use Rattle.ftd.specs.declared.fields.FieldPlace.{FieldPlace}
 use Rattle.ftd.specs.declared.fields.FieldPlace.the-variants.{NoField, Field}
 
+-- ─── Limits (01, "Message packet") ───
+
+-- The content of a packet: a body of at most 4,096 bytes less its header's 16.
+abbrev pub packetContent : ℕ
+packetContent = 4080
+
+-- The bytes of a field that a packet holds, without FID and length.
+abbrev pub fieldContent : ℕ
+fieldContent = 4074
+
+-- The content of a message.
+abbrev pub mostContent : ℕ
+mostContent = 32768
+
 -- ─── The form of a field ───
 
 unfoldable pub field : Form
@@ -76,7 +90,7 @@ contentWith gs = joined (fieldsWith gs)
 -- No field is too long for a packet: with FID and length it has at most 4,080 bytes.
 abbrev pub allSmall : List (List ℕ) → Bool
 allSmall [] = true
-allSmall (f ∷ fs) = leb (length f) 4080 && allSmall fs
+allSmall (f ∷ fs) = leb (length f) packetContent && allSmall fs
 
 abbrev pub shapely : Run → Bool
 shapely r = ended r && allSmall (r .entries)

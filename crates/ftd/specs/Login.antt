@@ -6,7 +6,7 @@ use mathlib.Core.List.{List, [], _++_}
 use mathlib.Core.Bool.{true, false, cond}
 use lib.ListN.{length}
 use Rattle.ftd.specs.Bytes.{part}
-use Rattle.ftd.specs.Fields.{fieldsOf, shaped}
+use Rattle.ftd.specs.Fields.{fieldsOf, shaped, packetContent}
 use Rattle.ftd.specs.Packet.{notOnePacket, noMessagePacket, span, datedOf}
 use Rattle.ftd.specs.Write.{messageBytes, Verdict, fine, refuse}
 use Rattle.ftd.specs.Tags.{tagsFor, extensionBytes}
@@ -21,7 +21,7 @@ use Rattle.ftd.specs.declared.login.Ending.the-variants.{Nothing, Resume
 
 -- TID 0x0016.
 abbrev pub loginTid : ℕ
-loginTid = 22
+loginTid = 0x0016
 
 unfoldable pub loginHeader : List ℕ → Header
 loginHeader content = record { tid = loginTid; chain = Single; series = 0; number = 0; fields = length (fieldsOf content) }
@@ -38,18 +38,18 @@ endingBytes (Resume series number) = resumeBytes series number
 
 -- 7: the content that is given is not whole fields of at most 4,074, or more than one packet holds with what stands behind it.
 unfoldable pub loginVerdict : List ℕ → Ending → Verdict
-loginVerdict content ending = cond (shaped content (4080 - length (endingBytes ending))) fine (refuse FieldRun)
+loginVerdict content ending = cond (shaped content (packetContent - length (endingBytes ending))) fine (refuse FieldRun)
 
 -- ─── What holds of it ───
 
 pub record LoginLaws : Type 0 where
   -- Read back: header, trade date, and content where its place says.
-  pub back : (d : TradeDate) (c : List ℕ) → shaped c 4080 ≡ true → datedOf (loginBytes d c) ≡ record {
+  pub back : (d : TradeDate) (c : List ℕ) → shaped c packetContent ≡ true → datedOf (loginBytes d c) ≡ record {
     packet = Message (loginHeader c) (span 4 (length (extensionBytes (tagsFor d)))) (span (4 + length (extensionBytes (tagsFor d)) + 16) (length c));
     date = d;
   }
   pub content-back : (d : TradeDate) (c : List ℕ) → part (loginBytes d c) (4 + length (extensionBytes (tagsFor d)) + 16) (length c) ≡ c
   -- It is one packet, and a message packet.
-  pub one-packet : (d : TradeDate) (c : List ℕ) → shaped c 4080 ≡ true → (notOnePacket (loginBytes d c) ≡ false) × (noMessagePacket (loginBytes d c) ≡ false)
+  pub one-packet : (d : TradeDate) (c : List ℕ) → shaped c packetContent ≡ true → (notOnePacket (loginBytes d c) ≡ false) × (noMessagePacket (loginBytes d c) ≡ false)
   -- What is written without refusal has shape.
-  pub fine-shaped : (c : List ℕ) (ending : Ending) → loginVerdict c ending ≡ fine → shaped (c ++ endingBytes ending) 4080 ≡ true
+  pub fine-shaped : (c : List ℕ) (ending : Ending) → loginVerdict c ending ≡ fine → shaped (c ++ endingBytes ending) packetContent ≡ true

@@ -22,6 +22,18 @@ use Rattle.ftd.specs.declared.packet.Dated.{Dated}
 use Rattle.ftd.specs.declared.packet.Packet.{Packet}
 use Rattle.ftd.specs.declared.packet.Packet.the-variants.{Short, Link, Skipped, Message, Refused}
 
+-- ─── Limits (4.1; 01, "Packet") ───
+
+abbrev pub mostExtension : ℕ
+mostExtension = 127
+
+-- The body of a message packet: its header, and at most a packet's content.
+abbrev pub leastBody : ℕ
+leastBody = 16
+
+abbrev pub mostBody : ℕ
+mostBody = 4096
+
 -- ─── What the first four bytes say (4.1.1) ───
 
 -- Byte 0: the type.
@@ -92,19 +104,19 @@ notOnePacket p = headMissing p || not (eqb (length p) (saidLength p))
 
 -- 12, of Login and Answer also: no message packet, by the first four bytes.
 unfoldable pub noMessagePacket : List ℕ → Bool
-noMessagePacket p = not (eqb (kindOf p) 1 && leb 16 (bodyLength p) && leb (bodyLength p) 4096)
+noMessagePacket p = not (eqb (kindOf p) 0x01 && leb leastBody (bodyLength p) && leb (bodyLength p) mostBody)
 
 -- 1: the extension is above 127.
 abbrev pub longExtension : List ℕ → Bool
-longExtension p = ltb 127 (extensionLength p)
+longExtension p = ltb mostExtension (extensionLength p)
 
 -- 3: type 0x01 with a body of 1 to 15 or above 4,096.
 unfoldable pub wrongBody : ℕ → ℕ → Bool
-wrongBody kind body = eqb kind 1 && (not (eqb body 0) && (ltb body 16 || ltb 4096 body))
+wrongBody kind body = eqb kind 0x01 && (not (eqb body 0) && (ltb body leastBody || ltb mostBody body))
 
 -- Skipped: any type but 0x00 and 0x01, and type 0x00 with a body.
 unfoldable pub isSkipped : ℕ → ℕ → Bool
-isSkipped kind body = ltb 1 kind || (eqb kind 0 && ltb 0 body)
+isSkipped kind body = ltb 0x01 kind || (eqb kind 0x00 && ltb 0 body)
 
 -- 2: the tags don't end with the extension, a known tag has a wrong length, or 0x05 stands twice.
 abbrev pub brokenTag : List ℕ → Bool
@@ -118,9 +130,9 @@ isLink p = eqb (bodyLength p) 0
 abbrev pub wrongVersion : List ℕ → Bool
 wrongVersion p = not (eqb (versionOf p) 1)
 
--- 5: the chain letter is not S, F, C or L.
+-- 5: the chain letter is not S (0x53), F (0x46), C (0x43) or L (0x4C).
 unfoldable pub isLetter : ℕ → Bool
-isLetter x = eqb x 83 || (eqb x 70 || (eqb x 67 || eqb x 76))
+isLetter x = eqb x 0x53 || (eqb x 0x46 || (eqb x 0x43 || eqb x 0x4C))
 
 abbrev pub wrongLetter : List ℕ → Bool
 wrongLetter p = not (isLetter (letterOf p))
@@ -137,13 +149,13 @@ wrongFields p = not (exactRun (contentOf p) (fieldCountOf p))
 
 -- The letters of the chain: S single, F first, C middle, L last.
 unfoldable pub chainOf : ℕ → Chain
-chainOf x = cond (eqb x 83) Single (cond (eqb x 70) First (cond (eqb x 67) Middle Last))
+chainOf x = cond (eqb x 0x53) Single (cond (eqb x 0x46) First (cond (eqb x 0x43) Middle Last))
 
 abbrev pub chainLetter : Chain → ℕ
-chainLetter Single = 83
-chainLetter First = 70
-chainLetter Middle = 67
-chainLetter Last = 76
+chainLetter Single = 0x53
+chainLetter First = 0x46
+chainLetter Middle = 0x43
+chainLetter Last = 0x4C
 
 abbrev pub span : ℕ → ℕ → Span
 span start len = record { start = start; len = len }

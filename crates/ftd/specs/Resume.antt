@@ -17,7 +17,7 @@ use Rattle.ftd.specs.declared.resume.Resume.{Resume}
 use Rattle.ftd.specs.declared.resume.Resume.the-variants.{Absent, Next, Misshapen, Several}
 
 abbrev pub resumeFid : ℕ
-resumeFid = 4
+resumeFid = 0x0004
 
 -- ─── Found ───
 
@@ -27,13 +27,13 @@ resumeAt content NoField = Absent
 resumeAt content (Field fid start len) = cond (eqb len 6) (Next (be16Of content start) (be32Of content (start + 2))) Misshapen
 
 unfoldable pub resumeOf : List ℕ → Resume
-resumeOf content = cond (ltb 1 (countOf 4 content)) Several (resumeAt content (firstOf content 4))
+resumeOf content = cond (ltb 1 (countOf resumeFid content)) Several (resumeAt content (firstOf content resumeFid))
 
 -- ─── Written ───
 
 -- FID 4 bytes, length 2, series 2, number 4.
 abbrev pub resumeBytes : ℕ → ℕ → List ℕ
-resumeBytes series number = bytes32 4 ++ (bytes16 6 ++ (bytes16 series ++ bytes32 number))
+resumeBytes series number = bytes32 resumeFid ++ (bytes16 6 ++ (bytes16 series ++ bytes32 number))
 
 -- ─── What holds of it ───
 
@@ -43,7 +43,7 @@ pub record ResumeLaws : Type 0 where
       → runOf field (content ++ resumeBytes series number) ≡ record { entries = fieldsOf content ++ (resumeBytes series number ∷ []); rest = [] }
   -- It is counted.
   pub counts : (content : List ℕ) (series number : ℕ) → ended (runOf field content) ≡ true
-      → countOf 4 (content ++ resumeBytes series number) ≡ countOf 4 content + 1
+      → countOf resumeFid (content ++ resumeBytes series number) ≡ countOf resumeFid content + 1
   pub counts-each : (content : List ℕ) (series number fid : ℕ) → ended (runOf field content) ≡ true
       → countOf fid (content ++ resumeBytes series number) ≡ countOf fid content + oneIf resumeFid fid
   -- 7, 8 and 9 say the same of the content with it as of the content, but for its twelve bytes.
@@ -56,7 +56,7 @@ pub record ResumeLaws : Type 0 where
   pub composes : (content : List ℕ) (series number tid : ℕ) (d : Direction) → ended (runOf field content) ≡ true
       → composed tid d (content ++ resumeBytes series number) ≡ composed tid d (content ++ resumeBytes 0 0)
   -- Behind whole fields without one it is read back.
-  pub back : (content : List ℕ) (series number : ℕ) → ended (runOf field content) ≡ true → countOf 4 content ≡ 0
+  pub back : (content : List ℕ) (series number : ℕ) → ended (runOf field content) ≡ true → countOf resumeFid content ≡ 0
       → resumeOf (content ++ resumeBytes series number) ≡ Next series number
   -- Where 8 passes and there is at most one, there is none or it has its values.
   pub right : (content : List ℕ) → wrongWidth content ≡ false → countOf resumeFid content ≤ 1

@@ -22,7 +22,7 @@ digitsOf n (d ∷ ds) = digitsOf (n * 10 + digitOf d) ds
 
 -- The value of a Number's bytes.
 unfoldable pub signedOf : List ℕ → Signed
-signedOf l = cond (eqb (getD l 0 0) 45) (Value true (digitsOf 0 (drop 1 l))) (Value false (digitsOf 0 l))
+signedOf l = cond (eqb (getD l 0 0) 0x2D) (Value true (digitsOf 0 (drop 1 l))) (Value false (digitsOf 0 l))
 
 -- What bytes say as a Number, and as a Float with that many decimals. A value has at most 18 bytes, so that its units fit 64 bits;
 -- no row of the table is wider.

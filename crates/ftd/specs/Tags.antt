@@ -33,19 +33,19 @@ tagLength t = getD t 1 0
 
 pub record KnownTag : Type 0 where
   pub kind : ℕ
-  pub length : ℕ
+  pub size : ℕ
 
 abbrev pub knownTag : ℕ → ℕ → KnownTag
-knownTag k n = record { kind = k; length = n }
+knownTag k n = record { kind = k; size = n }
 
 -- Kinds and lengths of their data, as the paper lists them.
 unfoldable pub knownTags : List KnownTag
-knownTags = knownTag 0 0 ∷ knownTag 1 4 ∷ knownTag 2 1 ∷ knownTag 3 1 ∷ knownTag 4 0 ∷ knownTag 5 4 ∷ knownTag 6 2 ∷ []
+knownTags = knownTag 0x00 0 ∷ knownTag 0x01 4 ∷ knownTag 0x02 1 ∷ knownTag 0x03 1 ∷ knownTag 0x04 0 ∷ knownTag 0x05 4 ∷ knownTag 0x06 2 ∷ []
 
 -- The length is the one that the list has for the kind; of a kind that it does not have each length is right.
 abbrev pub rightIn : List KnownTag → ℕ → ℕ → Bool
 rightIn [] kind len = true
-rightIn (k ∷ ks) kind len = cond (eqb (k .kind) kind) (eqb (k .length) len) (rightIn ks kind len)
+rightIn (k ∷ ks) kind len = cond (eqb (k .kind) kind) (eqb (k .size) len) (rightIn ks kind len)
 
 unfoldable pub lengthRight : ℕ → ℕ → Bool
 lengthRight kind len = rightIn knownTags kind len
@@ -58,7 +58,7 @@ allRight (t ∷ ts) = lengthRight (tagKind t) (tagLength t) && allRight ts
 
 -- One more where the kind is 0x05, the trade date.
 unfoldable pub countDate : ℕ → ℕ → ℕ
-countDate kind n = cond (eqb kind 5) (n + 1) n
+countDate kind n = cond (eqb kind 0x05) (n + 1) n
 
 -- How often 0x05 stands among the tags, counted on from n.
 abbrev pub dates : List (List ℕ) → ℕ → ℕ
@@ -93,7 +93,7 @@ dateAt extension NoTag = None
 dateAt extension (Data start len) = cond (eqb len 4) (At (be32Of extension start)) None
 
 unfoldable pub tradeDateOf : List ℕ → TradeDate
-tradeDateOf extension = dateAt extension (tagPlace extension 5)
+tradeDateOf extension = dateAt extension (tagPlace extension 0x05)
 
 -- The extension check and the mark as one answer.
 unfoldable pub tagRunOf : List ℕ → TagRun
@@ -105,7 +105,7 @@ isThere NoTag = false
 isThere (Data start len) = true
 
 unfoldable pub keepAliveOf : List ℕ → Bool
-keepAliveOf extension = isThere (tagPlace extension 4)
+keepAliveOf extension = isThere (tagPlace extension 0x04)
 
 -- ─── The tags that an end writes ───
 
@@ -122,4 +122,4 @@ extensionBytes ts = joined (map tagBytes ts)
 -- The trade date as the only tag, or none.
 abbrev pub tagsFor : TradeDate → List Tag
 tagsFor None = []
-tagsFor (At d) = record { kind = 5; value = bytes32 d } ∷ []
+tagsFor (At d) = record { kind = 0x05; value = bytes32 d } ∷ []

@@ -14,7 +14,7 @@ unfoldable pub textValue : List ℕ → List ℕ
 textValue l = trimmed l
 
 unfoldable pub textBytes : ℕ → List ℕ → List ℕ
-textBytes width value = value ++ replicate (width - length value) 32
+textBytes width value = value ++ replicate (width - length value) 0x20
 
 -- A value is bytes of a String, does not end with a space, and is no longer than the item.
 unfoldable pub textFits : ℕ → List ℕ → Bool

@@ -17,17 +17,17 @@ every p (x ∷ xs) = p x && every p xs
 
 -- A byte of a String: 0x20 to 0xFF but 0x7F.
 abbrev pub isText : ℕ → Bool
-isText b = leb 32 b && not (eqb b 127)
+isText b = leb 0x20 b && not (eqb b 0x7F)
 
 -- A digit, the digit 0, a space.
 abbrev pub isDigit : ℕ → Bool
-isDigit b = leb 48 b && leb b 57
+isDigit b = leb 0x30 b && leb b 0x39
 
 abbrev pub isZero : ℕ → Bool
-isZero b = eqb b 48
+isZero b = eqb b 0x30
 
 abbrev pub isSpace : ℕ → Bool
-isSpace b = eqb b 32
+isSpace b = eqb b 0x20
 
 -- ─── Char with an enumeration, kinds 7 to 16 ───
 
@@ -44,7 +44,7 @@ isListed kind b = eqb b 0 || among b (getD enumerations (kind - 7) [])
 -- Digits; or '-' and digits that are not all 0, since minus zero is wrong. '-' alone is wrong.
 unfoldable pub isNumber : List ℕ → Bool
 isNumber l =
-    cond (eqb (getD l 0 0) 45) (every isDigit (drop 1 l) && not (every isZero (drop 1 l))) (ltb 0 (length l) && every isDigit l)
+    cond (eqb (getD l 0 0) 0x2D) (every isDigit (drop 1 l) && not (every isZero (drop 1 l))) (ltb 0 (length l) && every isDigit l)
 
 -- Float a,b: a bytes with '.' before the last b, and a Number without it. Before the point stands a byte at least, which may be '-'.
 abbrev pub pointAt : ℕ → List ℕ → ℕ
@@ -54,13 +54,13 @@ unfoldable pub withoutPoint : ℕ → List ℕ → List ℕ
 withoutPoint scale l = take (pointAt scale l) l ++ drop (pointAt scale l + 1) l
 
 unfoldable pub isFloat : ℕ → List ℕ → Bool
-isFloat scale l = leb (scale + 2) (length l) && (eqb (getD l (pointAt scale l) 0) 46 && isNumber (withoutPoint scale l))
+isFloat scale l = leb (scale + 2) (length l) && (eqb (getD l (pointAt scale l) 0) 0x2E && isNumber (withoutPoint scale l))
 
 -- ─── Date ───
 
 -- What a digit stands for, and the number that two make.
 abbrev pub digitOf : ℕ → ℕ
-digitOf b = cond (isDigit b) (b - 48) 0
+digitOf b = cond (isDigit b) (b - 0x30) 0
 
 abbrev pub twoDigits : ℕ → ℕ → ℕ
 twoDigits a b = digitOf a * 10 + digitOf b

@@ -7,8 +7,8 @@ use lib.ListN.{length, drop}
 use lib.Dec.{ltb, eqb}
 use Rattle.ftd.specs.Bytes.{bytes16, bytes32}
 use Rattle.ftd.specs.Tags.{goodTags}
-use Rattle.ftd.specs.Fields.{exactRun}
-use Rattle.ftd.specs.Packet.{wrongBody, isSkipped, chainLetter}
+use Rattle.ftd.specs.Fields.{exactRun, fieldContent, packetContent}
+use Rattle.ftd.specs.Packet.{wrongBody, isSkipped, chainLetter, mostExtension}
 use Rattle.ftd.specs.declared.refusal.Refusal.{Refusal}
 use Rattle.ftd.specs.declared.refusal.Refusal.the-variants.{LongExtension, BrokenTag, BodyLength, FieldRun, TooSmall, Item}
 use Rattle.ftd.specs.declared.packet.Header.{Header}
@@ -30,7 +30,7 @@ headerBytes h size =
     1 ∷ (bytes32 (h .tid) ++ (chainLetter (h .chain) ∷ (bytes16 (h .series) ++ (bytes32 (h .number) ++ (bytes16 (h .fields) ++ bytes16 size)))))
 
 unfoldable pub messageBytes : Header → List ℕ → List ℕ → List ℕ
-messageBytes h extension content = packetBytes 1 extension (headerBytes h (length content) ++ content)
+messageBytes h extension content = packetBytes 0x01 extension (headerBytes h (length content) ++ content)
 
 -- ─── What is refused: what the reader would refuse of the result ───
 
@@ -44,11 +44,11 @@ pub data Verdict : Type 0 where
 -- Link and skipped packets. A body of type 0x01 makes none of both: it is 3, or with 16 to 4,096 bytes a message packet, which is written
 -- otherwise; and a body above 65,535 has no length of two bytes.
 unfoldable pub isPlain : ℕ → ℕ → Bool
-isPlain kind body = not (ltb 65535 body) && (not (eqb kind 1) || eqb body 0)
+isPlain kind body = not (ltb 65535 body) && (not (eqb kind 0x01) || eqb body 0)
 
 unfoldable pub plainVerdict : ℕ → List ℕ → List ℕ → Verdict
 plainVerdict kind extension body =
-    cond (ltb 127 (length extension)) (refuse LongExtension)
+    cond (ltb mostExtension (length extension)) (refuse LongExtension)
     (cond (isPlain kind (length body))
     (cond (isSkipped kind (length body) || goodTags extension) fine (refuse BrokenTag))
     (cond (wrongBody kind (length body)) (refuse BodyLength)
@@ -56,15 +56,15 @@ plainVerdict kind extension body =
 
 unfoldable pub messageVerdict : Header → List ℕ → List ℕ → Verdict
 messageVerdict h extension content =
-    cond (ltb 127 (length extension)) (refuse LongExtension)
-    (cond (ltb 4080 (length content)) (refuse BodyLength)
+    cond (ltb mostExtension (length extension)) (refuse LongExtension)
+    (cond (ltb packetContent (length content)) (refuse BodyLength)
     (cond (goodTags extension)
     (cond (exactRun content (h .fields)) fine (refuse FieldRun))
     (refuse BrokenTag)))
 
 -- A field: no packet holds one of more than 4,074 bytes.
 unfoldable pub fieldVerdict : List ℕ → Verdict
-fieldVerdict bytes = cond (ltb 4074 (length bytes)) (refuse FieldRun) fine
+fieldVerdict bytes = cond (ltb fieldContent (length bytes)) (refuse FieldRun) fine
 
 -- ─── What a writer answers, and what it leaves in the output ───
 

@@ -6,13 +6,15 @@ ghost use Prim.Native.Nat.{_+_, _-_, _*_, _≤_};
 ghost use lib.ListN.{length, getD};
 ghost use Rattle.ftd.specs.Bytes.{put, joined};
 ghost use Rattle.ftd.specs.Runs.{runOf};
-ghost use Rattle.ftd.specs.Fields.{field, shapely};
+ghost use Rattle.ftd.specs.Fields.{field, shapely, mostContent, packetContent};
 ghost use Rattle.ftd.specs.Write.{messageBytes, writtenAnswer, writtenOutput};
 ghost use Rattle.ftd.specs.Chain.Laws.{ChainLaws};
 ghost use Rattle.ftd.specs.Chain.{chainAt, packetFor, packetsOf, sizeAnswer, chainVerdict, placeVerdict};
 ghost use Rattle.ftd.specs.Chain.Helpers.{NextPiece, FoundPiece, pieceAt, PutRest, measureOf};
 ghost use Rattle.ftd.specs.Tags.{tagsFor, extensionBytes};
 use crate::bytes::copy_at;
+use crate::fields::MOST_CONTENT;
+use crate::fields::PACKET_CONTENT;
 use crate::fields::field_size;
 use crate::fields::is_shaped;
 use crate::packet::Chain;
@@ -58,11 +60,11 @@ pub struct Cut {
 
 // A message packet with the tags of an end, at a place of the output.
 fn put_tagged(out: &mut [u8], to: usize, h: Header, date: TradeDate, content: &[u8])
-    requires { ⌜ (to + (4 + length (extensionBytes (tagsFor date)) + (16 + length (now content))) ≤ length (now out)) × (length (now content) ≤ 4080) ⌝ }
+    requires { ⌜ (to + (4 + length (extensionBytes (tagsFor date)) + (16 + length (now content))) ≤ length (now out)) × (length (now content) ≤ packetContent) ⌝ }
     ensures { λ _. ⌜ now (out .exit) ≡ put (now (out .entry)) to (messageBytes h (extensionBytes (tagsFor date)) (now (content .entry))) ⌝ }
 {
     let n = tags_len(date);
-    put_frame(out, to, 1, n, 16 + content.len());
+    put_frame(out, to, 0x01, n, 16 + content.len());
     put_tags(out, to + 4, date);
     put_header(out, to + 4 + n, h, content.len());
     copy_at(out, to + 4 + n + 16, content);
@@ -99,7 +101,7 @@ pub(crate) fn next_piece(content: &[u8], at: usize) -> Cut
                 count: count,
             };
         }
-        if 4080 < end + n - at {
+        if PACKET_CONTENT < end + n - at {
             return Cut {
                 end: end,
                 count: count,
@@ -139,7 +141,7 @@ fn put_piece(
 // How many packets a message takes, and how many bytes in all, with tags of so many bytes; refused where its content is not whole
 // fields. One walk: where no field is taken though bytes are left, one is broken or too long.
 fn measure(content: &[u8], tags: usize) -> ChainSize
-    requires { ⌜ (length (now content) ≤ 32768) × (tags ≤ 6) ⌝ }
+    requires { ⌜ (length (now content) ≤ mostContent) × (tags ≤ 6) ⌝ }
     ensures { λ r. ⌜ r ≡ measureOf tags (now (content .entry)) ⌝ }
 {
     let mut at: usize = 0;
@@ -174,7 +176,7 @@ fn put_rest(
     at: usize,
     tags: usize,
 ) -> usize
-    requires { ⌜ (length (now content) ≤ 32768) × (at ≤ length (now content)) × (to ≤ 27 * at) × (tags ≡ length (extensionBytes (tagsFor (m .date)))) × (tags ≤ 6) ⌝ }
+    requires { ⌜ (length (now content) ≤ mostContent) × (at ≤ length (now content)) × (to ≤ 27 * at) × (tags ≡ length (extensionBytes (tagsFor (m .date)))) × (tags ≤ 6) ⌝ }
     ensures { λ r. ⌜ PutRest m first (now (content .entry)) at to (now (out .entry)) (now (out .exit)) r ⌝ }
 {
     let c = next_piece(content, at);
@@ -206,7 +208,7 @@ pub fn chain_size(m: Message, content: &[u8]) -> ChainSize
     ensures { λ r. ⌜ r ≡ sizeAnswer m (now (content .entry)) ⌝ }
 {
     let date = m.date;
-    if 32768 < content.len() {
+    if MOST_CONTENT < content.len() {
         return ChainSize::Refused(Refusal::FieldRun);
     }
     measure(content, tags_len(date))
@@ -214,10 +216,11 @@ pub fn chain_size(m: Message, content: &[u8]) -> ChainSize
 
 // All packets of a message, one behind the other.
 pub fn write_chain(m: Message, content: &[u8], out: &mut [u8]) -> Written
-    ensures { λ r. ⌜ (r ≡ writtenAnswer (chainVerdict (now (content .entry))) (joined (packetsOf m (now (content .entry)))) (now (out .entry))) × (now (out .exit) ≡ writtenOutput (chainVerdict (now (content .entry))) (joined (packetsOf m (now (content .entry)))) (now (out .entry))) ⌝ }
+    ensures answer { λ r. ⌜ r ≡ writtenAnswer (chainVerdict (now (content .entry))) (joined (packetsOf m (now (content .entry)))) (now (out .entry)) ⌝ }
+    ensures output { λ _. ⌜ now (out .exit) ≡ writtenOutput (chainVerdict (now (content .entry))) (joined (packetsOf m (now (content .entry)))) (now (out .entry)) ⌝ }
 {
     let date = m.date;
-    if 32768 < content.len() {
+    if MOST_CONTENT < content.len() {
         return Written::Refused(Refusal::FieldRun);
     }
     let n = put_rest(out, 0, m, true, content, 0, tags_len(date));
@@ -253,10 +256,11 @@ fn find_piece(content: &[u8], i: usize) -> PiecePlace
 
 // Packet i of a message, counted from 0.
 pub fn write_packet(m: Message, content: &[u8], i: usize, out: &mut [u8]) -> Written
-    ensures { λ r. ⌜ (r ≡ writtenAnswer (placeVerdict m (now (content .entry)) i) (getD (packetsOf m (now (content .entry))) i []) (now (out .entry))) × (now (out .exit) ≡ writtenOutput (placeVerdict m (now (content .entry)) i) (getD (packetsOf m (now (content .entry))) i []) (now (out .entry))) ⌝ }
+    ensures answer { λ r. ⌜ r ≡ writtenAnswer (placeVerdict m (now (content .entry)) i) (getD (packetsOf m (now (content .entry))) i []) (now (out .entry)) ⌝ }
+    ensures output { λ _. ⌜ now (out .exit) ≡ writtenOutput (placeVerdict m (now (content .entry)) i) (getD (packetsOf m (now (content .entry))) i []) (now (out .entry)) ⌝ }
 {
     let date = m.date;
-    if is_shaped(content, 32768) {
+    if is_shaped(content, MOST_CONTENT) {
         match find_piece(content, i) {
             PiecePlace::NoPiece => {
                 return Written::NoPacket;

@@ -16,6 +16,13 @@ use crate::bytes::size16;
 use crate::refusal::Refusal;
 use crate::write::Written;
 
+// The content of a packet: a body of at most 4,096 bytes less its header's 16.
+pub const PACKET_CONTENT: usize = 4080;
+// The bytes of a field that a packet holds, without FID and length.
+pub const FIELD_CONTENT: usize = 4074;
+// The content of a message.
+pub const MOST_CONTENT: usize = 32768;
+
 // A field of a content: its FID, and where its bytes lie, without FID and length.
 pub enum FieldPlace {
     NoField,
@@ -73,7 +80,7 @@ pub fn is_shaped(content: &[u8], limit: usize) -> bool
         if n == 0 {
             return content.len() <= at;
         }
-        if 4080 < n {
+        if PACKET_CONTENT < n {
             return false;
         }
         at += n;
@@ -163,9 +170,10 @@ fn put_field(out: &mut [u8], to: usize, fid: u32, bytes: &[u8])
 
 // A field with a FID and bytes, at the start of the output.
 pub fn write_field(fid: u32, bytes: &[u8], out: &mut [u8]) -> Written
-    ensures { λ r. ⌜ (r ≡ writtenAnswer (fieldVerdict (now (bytes .entry))) (fieldWith fid (now (bytes .entry))) (now (out .entry))) × (now (out .exit) ≡ writtenOutput (fieldVerdict (now (bytes .entry))) (fieldWith fid (now (bytes .entry))) (now (out .entry))) ⌝ }
+    ensures answer { λ r. ⌜ r ≡ writtenAnswer (fieldVerdict (now (bytes .entry))) (fieldWith fid (now (bytes .entry))) (now (out .entry)) ⌝ }
+    ensures output { λ _. ⌜ now (out .exit) ≡ writtenOutput (fieldVerdict (now (bytes .entry))) (fieldWith fid (now (bytes .entry))) (now (out .entry)) ⌝ }
 {
-    if 4074 < bytes.len() {
+    if FIELD_CONTENT < bytes.len() {
         return Written::Refused(Refusal::FieldRun);
     }
     let n = 6 + bytes.len();

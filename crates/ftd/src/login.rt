@@ -4,12 +4,13 @@ ghost use mathlib.Core.Path.{_≡_};
 ghost use Prim.Native.Nat.{_+_, _<_, _≤_};
 ghost use lib.ListN.{length};
 ghost use Rattle.ftd.specs.Bytes.{put};
-ghost use Rattle.ftd.specs.Fields.{fieldsOf};
+ghost use Rattle.ftd.specs.Fields.{fieldsOf, packetContent};
 ghost use Rattle.ftd.specs.Write.{writtenAnswer, writtenOutput};
 ghost use Rattle.ftd.specs.Tags.{tagsFor, extensionBytes};
 ghost use Rattle.ftd.specs.Login.{loginBytes, endingBytes, loginVerdict, LoginLaws};
 use crate::bytes::copy_at;
 use crate::chain::next_piece;
+use crate::fields::PACKET_CONTENT;
 use crate::packet::Chain;
 use crate::packet::Header;
 use crate::refusal::Refusal;
@@ -69,19 +70,19 @@ fn put_ending(out: &mut [u8], to: usize, ending: Ending)
 
 // A login packet of so many fields at the start of the output.
 fn put_login(out: &mut [u8], date: TradeDate, content: &[u8], ending: Ending, fields: usize)
-    requires { ⌜ (4 + length (extensionBytes (tagsFor date)) + (16 + (length (now content) + length (endingBytes ending))) ≤ length (now out)) × (length (now content) ≤ 4080) × (fields ≡ length (fieldsOf (now content ++ endingBytes ending))) × (fields < 65536) ⌝ }
+    requires { ⌜ (4 + length (extensionBytes (tagsFor date)) + (16 + (length (now content) + length (endingBytes ending))) ≤ length (now out)) × (length (now content) ≤ packetContent) × (fields ≡ length (fieldsOf (now content ++ endingBytes ending))) × (fields < 65536) ⌝ }
     ensures { λ _. ⌜ now (out .exit) ≡ put (now (out .entry)) 0 (loginBytes date (now (content .entry) ++ endingBytes ending)) ⌝ }
 {
     let n = tags_len(date);
     let size = content.len() + ending_len(ending);
     let h = Header {
-        tid: 22,
+        tid: 0x0016,
         chain: Chain::Single,
         series: 0,
         number: 0,
         fields: (fields % 65536) as u16,
     };
-    put_frame(out, 0, 1, n, 16 + size);
+    put_frame(out, 0, 0x01, n, 16 + size);
     put_tags(out, 4, date);
     put_header(out, 4 + n, h, size);
     copy_at(out, 4 + n + 16, content);
@@ -91,10 +92,11 @@ fn put_login(out: &mut [u8], date: TradeDate, content: &[u8], ending: Ending, fi
 // A login packet or its answer; refused with 7 where the content is not whole fields, or more than one packet holds with what stands
 // behind it. One walk: the first piece is all of the content, or something is wrong with it.
 pub fn write_login(date: TradeDate, content: &[u8], ending: Ending, out: &mut [u8]) -> Written
-    ensures { λ r. ⌜ (r ≡ writtenAnswer (loginVerdict (now (content .entry)) ending) (loginBytes date (now (content .entry) ++ endingBytes ending)) (now (out .entry))) × (now (out .exit) ≡ writtenOutput (loginVerdict (now (content .entry)) ending) (loginBytes date (now (content .entry) ++ endingBytes ending)) (now (out .entry))) ⌝ }
+    ensures answer { λ r. ⌜ r ≡ writtenAnswer (loginVerdict (now (content .entry)) ending) (loginBytes date (now (content .entry) ++ endingBytes ending)) (now (out .entry)) ⌝ }
+    ensures output { λ _. ⌜ now (out .exit) ≡ writtenOutput (loginVerdict (now (content .entry)) ending) (loginBytes date (now (content .entry) ++ endingBytes ending)) (now (out .entry)) ⌝ }
 {
     let tail = ending_len(ending);
-    if 4080 - tail < content.len() {
+    if PACKET_CONTENT - tail < content.len() {
         return Written::Refused(Refusal::FieldRun);
     }
     let c = next_piece(content, 0);

@@ -21,6 +21,13 @@ use crate::tags::TagRun;
 use crate::tags::TradeDate;
 use crate::tags::read_tags;
 
+// The longest extension (4.1), and the body of a message packet: its header, and at most a packet's content.
+pub const MOST_EXTENSION: usize = 127;
+
+pub const LEAST_BODY: usize = 16;
+
+pub const MOST_BODY: usize = 4096;
+
 // A part of a packet: where it starts, and how many bytes it has.
 pub struct Span {
     pub start: usize,
@@ -112,30 +119,30 @@ pub fn not_one_packet(p: &[u8]) -> bool
 pub fn no_message_packet(p: &[u8]) -> bool
     ensures { λ r. ⌜ r ≡ noMessagePacket (now (p .entry)) ⌝ }
 {
-    if byte_in(p, 0) != 1 {
+    if byte_in(p, 0) != 0x01 {
         return true;
     }
     let body = body_in(p);
-    if body < 16 {
+    if body < LEAST_BODY {
         return true;
     }
-    4096 < body
+    MOST_BODY < body
 }
 
 // Refusal 3: type 0x01 with a body of 1 to 15 or above 4,096.
 pub(crate) fn wrong_body(kind: u8, body: usize) -> bool
     ensures { λ r. ⌜ r ≡ wrongBody kind body ⌝ }
 {
-    if kind != 1 {
+    if kind != 0x01 {
         return false;
     }
     if body == 0 {
         return false;
     }
-    if body < 16 {
+    if body < LEAST_BODY {
         return true;
     }
-    4096 < body
+    MOST_BODY < body
 }
 
 // Any type but 0x00 and 0x01, and type 0x00 with a body.
@@ -155,29 +162,29 @@ pub(crate) fn is_skipped(kind: u8, body: usize) -> bool
 fn is_letter(x: u8) -> bool
     ensures { λ r. ⌜ r ≡ isLetter x ⌝ }
 {
-    if x == 83 {
+    if x == b'S' {
         return true;
     }
-    if x == 70 {
+    if x == b'F' {
         return true;
     }
-    if x == 67 {
+    if x == b'C' {
         return true;
     }
-    x == 76
+    x == b'L'
 }
 
 // The chain's place that a letter stands for.
 fn chain_of(letter: u8) -> Chain
     ensures { λ r. ⌜ r ≡ chainOf letter ⌝ }
 {
-    if letter == 83 {
+    if letter == b'S' {
         return Chain::Single;
     }
-    if letter == 70 {
+    if letter == b'F' {
         return Chain::First;
     }
-    if letter == 67 {
+    if letter == b'C' {
         return Chain::Middle;
     }
     Chain::Last
@@ -188,10 +195,10 @@ pub fn letter(c: Chain) -> u8
     ensures { λ r. ⌜ r ≡ chainLetter c ⌝ }
 {
     match c {
-        Chain::Single => 83,
-        Chain::First => 70,
-        Chain::Middle => 67,
-        Chain::Last => 76,
+        Chain::Single => b'S',
+        Chain::First => b'F',
+        Chain::Middle => b'C',
+        Chain::Last => b'L',
     }
 }
 
@@ -338,7 +345,7 @@ pub fn read_dated(p: &[u8]) -> Dated
     let kind = p[0];
     let ext = size8(p[1]);
     let body = size16(be16(p, 2));
-    if 127 < ext {
+    if MOST_EXTENSION < ext {
         return Dated {
             packet: Packet::Refused(Refusal::LongExtension),
             date: TradeDate::None,

@@ -15,6 +15,9 @@ use crate::fields::first_field;
 use crate::refusal::Refusal;
 use crate::write::Written;
 
+// Its FID.
+pub const FID: u32 = 0x0004;
+
 // The start field of a content.
 pub enum Resume {
     // It has none.
@@ -31,10 +34,10 @@ pub enum Resume {
 pub fn find_resume(content: &[u8]) -> Resume
     ensures { λ r. ⌜ r ≡ resumeOf (now (content .entry)) ⌝ }
 {
-    if 1 < count_field(content, 4) {
+    if 1 < count_field(content, FID) {
         return Resume::Several;
     }
-    match first_field(content, 4) {
+    match first_field(content, FID) {
         FieldPlace::NoField => Resume::Absent,
         FieldPlace::Field { fid: _, start, len } => {
             if len == 6 {
@@ -53,7 +56,7 @@ pub(crate) fn put_resume(out: &mut [u8], at: usize, series: u16, number: u32)
     requires { ⌜ at + 12 ≤ length (now out) ⌝ }
     ensures { λ _. ⌜ now (out .exit) ≡ put (now (out .entry)) at (resumeBytes series number) ⌝ }
 {
-    put32(out, at, 4);
+    put32(out, at, FID);
     put16(out, at + 4, 6);
     put16(out, at + 6, series);
     put32(out, at + 8, number);
@@ -61,7 +64,8 @@ pub(crate) fn put_resume(out: &mut [u8], at: usize, series: u16, number: u32)
 
 // The start field for a series and a number, at the start of the output.
 pub fn write_resume(series: u16, number: u32, out: &mut [u8]) -> Written
-    ensures { λ r. ⌜ (r ≡ writtenAnswer fine (resumeBytes series number) (now (out .entry))) × (now (out .exit) ≡ writtenOutput fine (resumeBytes series number) (now (out .entry))) ⌝ }
+    ensures answer { λ r. ⌜ r ≡ writtenAnswer fine (resumeBytes series number) (now (out .entry)) ⌝ }
+    ensures output { λ _. ⌜ now (out .exit) ≡ writtenOutput fine (resumeBytes series number) (now (out .entry)) ⌝ }
 {
     if out.len() < 12 {
         return Written::Refused(Refusal::TooSmall);

@@ -59,7 +59,7 @@ fn value_of(s: &[u8], point: usize, behind: usize) -> Signed
     requires { ⌜ (1 ≤ point) × (point ≤ behind) × (behind ≤ length (now s)) × (length (now s) ≤ 18) ⌝ }
     ensures { λ r. ⌜ r ≡ signedOf (take point (now (s .entry)) ++ drop behind (now (s .entry))) ⌝ }
 {
-    if s[0] == 45 {
+    if s[0] == b'-' {
         return Signed::Value {
             negative: true,
             units: units(s, 1, point, behind),
@@ -133,9 +133,9 @@ fn power(n: usize) -> u64
 
 // The last digit of a number, as a byte.
 fn last_digit(x: u64) -> u8
-    ensures { λ r. ⌜ (r ≡ 48 + x % 10) ⌝ }
+    ensures { λ r. ⌜ (r ≡ 0x30 + x % 10) ⌝ }
 {
-    48 + (x % 10) as u8
+    b'0' + (x % 10) as u8
 }
 
 // The last digits of a number, as many as `width`.
@@ -158,7 +158,7 @@ fn put_number(out: &mut [u8], width: usize, negative: bool, units: u64)
     ensures { λ _. ⌜ now (out .exit) ≡ put (now (out .entry)) 0 (numberBytes width negative units) ⌝ }
 {
     if negative {
-        put8(out, 0, 45);
+        put8(out, 0, b'-');
         put_digits(out, 1, width - 1, units);
         return;
     }
@@ -206,7 +206,7 @@ fn put_float(out: &mut [u8], scale: usize, width: usize, negative: bool, units: 
 {
     let point = width - (scale + 1);
     put_number(out, point, negative, units / power(scale));
-    put8(out, point, 46);
+    put8(out, point, b'.');
     put_digits(out, point + 1, scale, units);
 }
 

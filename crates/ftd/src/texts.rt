@@ -18,7 +18,7 @@ pub fn text_size(s: &[u8]) -> usize
 {
     let mut n = s.len();
     while 0 < n {
-        if s[n - 1] == 32 {
+        if s[n - 1] == b' ' {
             n -= 1;
         } else {
             return n;
@@ -50,11 +50,11 @@ fn text_fits(width: usize, value: &[u8]) -> bool
 // Spaces from a place on, up to another.
 pub(crate) fn put_spaces(out: &mut [u8], from: usize, to: usize)
     requires { ⌜ (from ≤ to) × (to ≤ length (now out)) ⌝ }
-    ensures { λ _. ⌜ now (out .exit) ≡ put (now (out .entry)) from (replicate (to - from) 32) ⌝ }
+    ensures { λ _. ⌜ now (out .exit) ≡ put (now (out .entry)) from (replicate (to - from) 0x20) ⌝ }
 {
     let mut i = from;
     while i < to {
-        put8(out, i, 32);
+        put8(out, i, b' ');
         i += 1;
     }
 }

@@ -106,19 +106,19 @@ fn in_class(class: Class, b: u8) -> bool
 {
     match class {
         Class::Text => {
-            if b < 32 {
+            if b < b' ' {
                 return false;
             }
-            b != 127
+            b != 0x7F
         }
         Class::Digit => {
-            if b < 48 {
+            if b < b'0' {
                 return false;
             }
-            b <= 57
+            b <= b'9'
         }
-        Class::Zero => b == 48,
-        Class::Space => b == 32,
+        Class::Zero => b == b'0',
+        Class::Space => b == b' ',
     }
 }
 
@@ -162,7 +162,7 @@ fn is_signed(s: &[u8], point: usize, behind: usize) -> bool
     requires { ⌜ (1 ≤ point) × (point ≤ behind) × (behind ≤ length (now s)) ⌝ }
     ensures { λ r. ⌜ r ≡ isNumber (take point (now (s .entry)) ++ drop behind (now (s .entry))) ⌝ }
 {
-    if s[0] == 45 {
+    if s[0] == b'-' {
         if both_in(Class::Digit, s, 1, point, behind) {
             if both_in(Class::Zero, s, 1, point, behind) {
                 return false;
@@ -193,7 +193,7 @@ pub fn is_float(scale: u8, s: &[u8]) -> bool
         return false;
     }
     let point = s.len() - (decimals + 1);
-    if s[point] == 46 {
+    if s[point] == b'.' {
         return is_signed(s, point, point + 1);
     }
     false
@@ -203,11 +203,11 @@ pub fn is_float(scale: u8, s: &[u8]) -> bool
 pub(crate) fn digit(b: u8) -> u8
     ensures { λ r. ⌜ (r ≡ digitOf b) × (r ≤ 9) ⌝ }
 {
-    if b < 48 {
+    if b < b'0' {
         return 0;
     }
-    if b <= 57 {
-        return b - 48;
+    if b <= b'9' {
+        return b - b'0';
     }
     0
 }

@@ -8,12 +8,15 @@ ghost use Rattle.ftd.specs.Packet.{isSkipped};
 ghost use Rattle.ftd.specs.Tags.{goodTags};
 ghost use Rattle.ftd.specs.Write.Laws.{WriteLaws};
 ghost use Rattle.ftd.specs.Write.{frameHead, packetBytes, headerBytes, messageBytes, isPlain, plainVerdict, messageVerdict, writtenAnswer, writtenOutput};
+ghost use Rattle.ftd.specs.Fields.{packetContent};
 use crate::bytes::copy_at;
 use crate::bytes::put8;
 use crate::bytes::put16;
 use crate::bytes::put32;
+use crate::fields::PACKET_CONTENT;
 use crate::fields::exact_run;
 use crate::packet::Header;
+use crate::packet::MOST_EXTENSION;
 use crate::packet::is_skipped;
 use crate::packet::letter;
 use crate::packet::wrong_body;
@@ -63,7 +66,7 @@ fn is_plain(kind: u8, body: usize) -> bool
     if 65535 < body {
         return false;
     }
-    if kind != 1 {
+    if kind != 0x01 {
         return true;
     }
     body == 0
@@ -81,10 +84,10 @@ fn put_packet(out: &mut [u8], to: usize, kind: u8, extension: &[u8], body: &[u8]
 
 // A message packet at a place of the output.
 fn put_message(out: &mut [u8], to: usize, h: Header, extension: &[u8], content: &[u8])
-    requires { ⌜ (to + (4 + length (now extension) + (16 + length (now content))) ≤ length (now out)) × (length (now extension) < 256) × (length (now content) ≤ 4080) ⌝ }
+    requires { ⌜ (to + (4 + length (now extension) + (16 + length (now content))) ≤ length (now out)) × (length (now extension) < 256) × (length (now content) ≤ packetContent) ⌝ }
     ensures { λ _. ⌜ now (out .exit) ≡ put (now (out .entry)) to (messageBytes h (now (extension .entry)) (now (content .entry))) ⌝ }
 {
-    put_frame(out, to, 1, extension.len(), 16 + content.len());
+    put_frame(out, to, 0x01, extension.len(), 16 + content.len());
     copy_at(out, to + 4, extension);
     put_header(out, to + 4 + extension.len(), h, content.len());
     copy_at(out, to + 4 + extension.len() + 16, content);
@@ -92,9 +95,10 @@ fn put_message(out: &mut [u8], to: usize, h: Header, extension: &[u8], content: 
 
 // A link packet (type 0x00 or 0x01, no body) or a skipped one (type 0x00 with a body, any other type).
 pub fn write_plain(kind: u8, extension: &[u8], body: &[u8], out: &mut [u8]) -> Written
-    ensures { λ r. ⌜ (r ≡ writtenAnswer (plainVerdict kind (now (extension .entry)) (now (body .entry))) (packetBytes kind (now (extension .entry)) (now (body .entry))) (now (out .entry))) × (now (out .exit) ≡ writtenOutput (plainVerdict kind (now (extension .entry)) (now (body .entry))) (packetBytes kind (now (extension .entry)) (now (body .entry))) (now (out .entry))) ⌝ }
+    ensures answer { λ r. ⌜ r ≡ writtenAnswer (plainVerdict kind (now (extension .entry)) (now (body .entry))) (packetBytes kind (now (extension .entry)) (now (body .entry))) (now (out .entry)) ⌝ }
+    ensures output { λ _. ⌜ now (out .exit) ≡ writtenOutput (plainVerdict kind (now (extension .entry)) (now (body .entry))) (packetBytes kind (now (extension .entry)) (now (body .entry))) (now (out .entry)) ⌝ }
 {
-    if 127 < extension.len() {
+    if MOST_EXTENSION < extension.len() {
         return Written::Refused(Refusal::LongExtension);
     }
     if is_plain(kind, body.len()) {
@@ -126,12 +130,13 @@ fn plain_tags(kind: u8, extension: &[u8], body: usize) -> bool
 
 // A message packet.
 pub fn write_message(h: Header, extension: &[u8], content: &[u8], out: &mut [u8]) -> Written
-    ensures { λ r. ⌜ (r ≡ writtenAnswer (messageVerdict h (now (extension .entry)) (now (content .entry))) (messageBytes h (now (extension .entry)) (now (content .entry))) (now (out .entry))) × (now (out .exit) ≡ writtenOutput (messageVerdict h (now (extension .entry)) (now (content .entry))) (messageBytes h (now (extension .entry)) (now (content .entry))) (now (out .entry))) ⌝ }
+    ensures answer { λ r. ⌜ r ≡ writtenAnswer (messageVerdict h (now (extension .entry)) (now (content .entry))) (messageBytes h (now (extension .entry)) (now (content .entry))) (now (out .entry)) ⌝ }
+    ensures output { λ _. ⌜ now (out .exit) ≡ writtenOutput (messageVerdict h (now (extension .entry)) (now (content .entry))) (messageBytes h (now (extension .entry)) (now (content .entry))) (now (out .entry)) ⌝ }
 {
-    if 127 < extension.len() {
+    if MOST_EXTENSION < extension.len() {
         return Written::Refused(Refusal::LongExtension);
     }
-    if 4080 < content.len() {
+    if PACKET_CONTENT < content.len() {
         return Written::Refused(Refusal::BodyLength);
     }
     if good_tags(extension) {

@@ -236,7 +236,8 @@ fn goes_on(found: Packet) -> bool
 // The line at a place inside the capture.
 fn line_inside(capture: &[u8], at: usize, out: &mut [u8]) -> Line
     requires { ⌜ (at < length (now capture)) × (64 ≤ length (now out)) ⌝ }
-    ensures { λ r. ⌜ (r ≡ answerOf (now (capture .entry)) false at (now (out .entry))) × (now (out .exit) ≡ outOf (now (capture .entry)) false at (now (out .entry))) ⌝ }
+    ensures answer { λ r. ⌜ r ≡ answerOf (now (capture .entry)) false at (now (out .entry)) ⌝ }
+    ensures output { λ _. ⌜ now (out .exit) ≡ outOf (now (capture .entry)) false at (now (out .entry)) ⌝ }
 {
     let p = &capture[at..];
     let found = read(p);
@@ -252,7 +253,8 @@ fn line_inside(capture: &[u8], at: usize, out: &mut [u8]) -> Line
 
 // Writes the line at a place of a capture to the start of a buffer. `more` says that the input goes on behind the capture: then the line is `long`.
 pub fn write_line(capture: &[u8], more: bool, at: usize, out: &mut [u8]) -> Line
-    ensures { λ r. ⌜ (r ≡ answerOf (now (capture .entry)) more at (now (out .entry))) × (now (out .exit) ≡ outOf (now (capture .entry)) more at (now (out .entry))) ⌝ }
+    ensures answer { λ r. ⌜ r ≡ answerOf (now (capture .entry)) more at (now (out .entry)) ⌝ }
+    ensures output { λ _. ⌜ now (out .exit) ≡ outOf (now (capture .entry)) more at (now (out .entry)) ⌝ }
 {
     if out.len() < 64 {
         return Line::TooSmall;

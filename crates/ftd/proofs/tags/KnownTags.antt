@@ -17,7 +17,7 @@ unfoldable pub kinds : List ℕ
 kinds = map (λ (k : KnownTag). k .kind) knownTags
 
 unfoldable pub lengths : List ℕ
-lengths = map (λ (k : KnownTag). k .length) knownTags
+lengths = map (λ (k : KnownTag). k .size) knownTags
 
 seven : length knownTags ≡ 7
 unfolding knownTags
@@ -30,7 +30,7 @@ row kind len i h =
     let k : i < length knownTags = rw seven h in
     rw (
       List·getD-map (λ (r : KnownTag). r .kind) knownTags i (knownTag 0 0),
-      List·getD-map (λ (r : KnownTag). r .length) knownTags i (knownTag 0 0),
+      List·getD-map (λ (r : KnownTag). r .size) knownTags i (knownTag 0 0),
       add-one,
       drop-cons knownTags i (knownTag 0 0),
     )

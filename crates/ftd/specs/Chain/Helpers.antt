@@ -6,7 +6,7 @@ use mathlib.Core.Bool.{Bool, true, false, cond}
 use lib.ListN.{length, drop}
 use Rattle.ftd.specs.Bytes.{part, joined, put}
 use Rattle.ftd.specs.Runs.{runOf}
-use Rattle.ftd.specs.Fields.{field, fieldsOf, shapely}
+use Rattle.ftd.specs.Fields.{field, fieldsOf, shapely, packetContent}
 use Rattle.ftd.specs.Chain.{Piece, noFields, pack, piecesOf, framed}
 use Rattle.ftd.specs.declared.refusal.Refusal.the-variants.{FieldRun}
 use Rattle.ftd.specs.declared.chain.Cut.{Cut}
@@ -31,7 +31,7 @@ pub record NextPiece (content : List ℕ) (at : ℕ) (c : Cut) : Type 0 where
   pub pieces : shapely (runOf field (drop at content)) ≡ true → piecesOf (drop at content) ≡ pieceAt content at c ∷ othersOf (fieldsOf (drop (c .end) content))
   pub low : at ≤ c .end
   pub high : c .end ≤ length content
-  pub small : c .end ≤ at + 4080
+  pub small : c .end ≤ at + packetContent
   pub few : c .count ≤ c .end - at
   pub left : shapely (runOf field (drop (c .end) content)) ≡ shapely (runOf field (drop at content))
   pub stuck : c .end ≡ at → c .end < length content → shapely (runOf field (drop at content)) ≡ false

@@ -9,7 +9,7 @@ use lib.Dec.{eqb}
 use Rattle.ftd.specs.Bytes.{part, joined}
 use Rattle.ftd.specs.Runs.{Form, runOf}
 use Rattle.ftd.specs.Tags.{tag, goodTags, tradeDateOf, Tag, tagBytes, tagsFor, extensionBytes}
-use Rattle.ftd.specs.Fields.{fieldsOf, exactRun, shaped}
+use Rattle.ftd.specs.Fields.{fieldsOf, exactRun, shaped, mostContent, packetContent}
 use Rattle.ftd.specs.Packet.{extensionLength, bodyLength, notOnePacket, noMessagePacket, span, readOf, datedOf}
 use Rattle.ftd.specs.Chain.{Piece, noFields, piecesOf, chainAt, headerFor, packetsOf}
 use Rattle.ftd.specs.declared.tags.TradeDate.{TradeDate}
@@ -40,16 +40,16 @@ pub record ChainLaws : Type 0 where
   pub tags-date : (d : TradeDate) → tradeDateOf (extensionBytes (tagsFor d)) ≡ d
   -- Content that has shape is as many whole fields as it has fields; what one packet holds is one piece.
   pub exact : (content : List ℕ) (limit : ℕ) → shaped content limit ≡ true → exactRun content (length (fieldsOf content)) ≡ true
-  pub single : (content : List ℕ) → shaped content 4080 ≡ true → piecesOf content ≡ record { count = length (fieldsOf content); bytes = content } ∷ []
+  pub single : (content : List ℕ) → shaped content packetContent ≡ true → piecesOf content ≡ record { count = length (fieldsOf content); bytes = content } ∷ []
   -- The pieces' bytes joined are the content.
   pub pieces-joined : (content : List ℕ) (limit : ℕ) → shaped content limit ≡ true → joined (map (λ (p : Piece). p .bytes) (piecesOf content)) ≡ content
   -- Each piece is so many whole fields, of at most 4,080 bytes together.
   pub piece-whole : (content : List ℕ) (limit i : ℕ) → shaped content limit ≡ true → i < length (piecesOf content)
-      → (length (pieceAtPlace content i .bytes) ≤ 4080) × (exactRun (pieceAtPlace content i .bytes) (pieceAtPlace content i .count) ≡ true)
+      → (length (pieceAtPlace content i .bytes) ≤ packetContent) × (exactRun (pieceAtPlace content i .bytes) (pieceAtPlace content i .count) ≡ true)
   -- There are as many packets as pieces, one at least.
   pub as-many : (m : Message) (content : List ℕ) → (length (packetsOf m content) ≡ length (piecesOf content)) × (0 < length (packetsOf m content))
   -- Two neighbours have more than 4,080 bytes together, so that a message has at most 17.
-  pub few : (content : List ℕ) → length content ≤ 32768 → length (piecesOf content) ≤ 17
+  pub few : (content : List ℕ) → length content ≤ mostContent → length (piecesOf content) ≤ 17
   -- Each packet, with anything behind it, is read back: TID, series and number of the message, the letter of its place, its piece and the mark.
   pub read-back : (m : Message) (content : List ℕ) (limit i : ℕ) (q : List ℕ) → shaped content limit ≡ true → i < length (packetsOf m content)
       → readOf (packetAtPlace m content i ++ q)

@@ -7,7 +7,7 @@ use mathlib.Core.Logic.{_↔_}
 use lib.ListN.{length, getD}
 use Rattle.ftd.specs.Bytes.{Bytes}
 use Rattle.ftd.specs.Runs.{runOf, ended}
-use Rattle.ftd.specs.Fields.{field, fieldsOf, fidOf, bytesOf, fieldWith, Given, givenOf, fieldsWith, contentWith, shaped}
+use Rattle.ftd.specs.Fields.{field, fieldsOf, fidOf, bytesOf, fieldWith, Given, givenOf, fieldsWith, contentWith, shaped, fieldContent, packetContent}
 use Rattle.ftd.specs.Write.{fine, refuse, fieldVerdict}
 use Rattle.ftd.specs.declared.refusal.Refusal.the-variants.{FieldRun}
 
@@ -26,6 +26,6 @@ pub record FieldLaws : Type 0 where
   -- Content that is whole fields is its fields written, one behind the other.
   pub list-again : (c : List ℕ) → Bytes c → ended (runOf field c) ≡ true → contentWith (map givenOf (fieldsOf c)) ≡ c
   -- 7: a field that is written has shape exactly with at most 4,074 bytes, and six fewer than the limit at most.
-  pub shape : (fid : ℕ) (bytes : List ℕ) (limit : ℕ) → (shaped (fieldWith fid bytes) limit ≡ true) ↔ ((length bytes ≤ 4074) × (length bytes + 6 ≤ limit))
+  pub shape : (fid : ℕ) (bytes : List ℕ) (limit : ℕ) → (shaped (fieldWith fid bytes) limit ≡ true) ↔ ((length bytes ≤ fieldContent) × (length bytes + 6 ≤ limit))
   -- The writer refuses exactly what one packet does not hold as its content.
-  pub verdict : (fid : ℕ) (bytes : List ℕ) → fieldVerdict bytes ≡ cond (shaped (fieldWith fid bytes) 4080) fine (refuse FieldRun)
+  pub verdict : (fid : ℕ) (bytes : List ℕ) → fieldVerdict bytes ≡ cond (shaped (fieldWith fid bytes) packetContent) fine (refuse FieldRun)

@@ -8,7 +8,7 @@ use lib.ListN.{length, getD}
 use Rattle.ftd.specs.Bytes.{Bytes, part, joined}
 use Rattle.ftd.specs.Tags.{goodTags}
 use Rattle.ftd.specs.Fields.{exactRun, fidOf, bytesOf}
-use Rattle.ftd.specs.Packet.{kindOf, extensionLength, bodyLength, saidLength, bodyStart, extensionOf, versionOf, letterOf, fieldCountOf, contentLengthOf, contentOf, isLetter, span, extensionSpan, acceptedOf, isShort, readOf, messageFields, fieldOf, fieldBytes}
+use Rattle.ftd.specs.Packet.{mostExtension, mostBody, kindOf, extensionLength, bodyLength, saidLength, bodyStart, extensionOf, versionOf, letterOf, fieldCountOf, contentLengthOf, contentOf, isLetter, span, extensionSpan, acceptedOf, isShort, readOf, messageFields, fieldOf, fieldBytes}
 use Rattle.ftd.specs.declared.fields.FieldPlace.the-variants.{NoField, Field}
 use Rattle.ftd.specs.declared.packet.Span.{Span}
 use Rattle.ftd.specs.declared.packet.Header.{Header}
@@ -21,9 +21,9 @@ use Rattle.ftd.specs.declared.packet.Packet.the-variants.{Short, Link, S
 pub record IsMessage (p : List ℕ) : Type 0 where
   pub four : 4 ≤ length p
   pub type : kindOf p ≡ 1
-  pub extension : extensionLength p ≤ 127
+  pub extension : extensionLength p ≤ mostExtension
   pub least : 16 ≤ bodyLength p
-  pub most : bodyLength p ≤ 4096
+  pub most : bodyLength p ≤ mostBody
   pub there : saidLength p ≤ length p
   pub tags : goodTags (extensionOf p) ≡ true
   pub version : versionOf p ≡ 1
@@ -35,7 +35,7 @@ pub record IsMessage (p : List ℕ) : Type 0 where
 pub record IsLink (p : List ℕ) : Type 0 where
   pub four : 4 ≤ length p
   pub type : kindOf p ≤ 1
-  pub extension : extensionLength p ≤ 127
+  pub extension : extensionLength p ≤ mostExtension
   pub empty : bodyLength p ≡ 0
   pub there : saidLength p ≤ length p
   pub tags : goodTags (extensionOf p) ≡ true
@@ -44,7 +44,7 @@ pub record IsLink (p : List ℕ) : Type 0 where
 pub record IsSkipped (p : List ℕ) : Type 0 where
   pub four : 4 ≤ length p
   pub type : ((kindOf p ≡ 0) × (0 < bodyLength p)) ⊎ (2 ≤ kindOf p)
-  pub extension : extensionLength p ≤ 127
+  pub extension : extensionLength p ≤ mostExtension
   pub there : saidLength p ≤ length p
 
 -- ─── Places and widths ───

@@ -10,11 +10,11 @@ use Rattle.ftd.specs.Signed.{pow10}
 -- The last n digits of a number, filled with 0 in front.
 abbrev pub digitsIn : ℕ → ℕ → List ℕ
 digitsIn zero x = []
-digitsIn (suc n) x = digitsIn n (x / 10) ++ ((48 + x % 10) ∷ [])
+digitsIn (suc n) x = digitsIn n (x / 10) ++ ((0x30 + x % 10) ∷ [])
 
 -- A Number of a width: digits filled with 0 in front, first byte '-' if negative.
 unfoldable pub numberBytes : ℕ → Bool → ℕ → List ℕ
-numberBytes width negative units = cond negative (45 ∷ digitsIn (width - 1) units) (digitsIn width units)
+numberBytes width negative units = cond negative (0x2D ∷ digitsIn (width - 1) units) (digitsIn width units)
 
 -- The digits hold it, and minus zero is none. At most 18 bytes, as when it is read.
 unfoldable pub numberFits : ℕ → Bool → ℕ → Bool
@@ -25,7 +25,7 @@ numberFits width negative units =
 -- Float a,b, of `width` bytes in all: the same with '.' before the last b digits.
 unfoldable pub floatBytes : ℕ → ℕ → Bool → ℕ → List ℕ
 floatBytes scale width negative units =
-    numberBytes (width - (scale + 1)) negative (units / pow10 scale) ++ (46 ∷ digitsIn scale units)
+    numberBytes (width - (scale + 1)) negative (units / pow10 scale) ++ (0x2E ∷ digitsIn scale units)
 
 unfoldable pub floatFits : ℕ → ℕ → Bool → ℕ → Bool
 floatFits scale width negative units = leb (scale + 2) width && (leb width 18 && numberFits (width - 1) negative units)
