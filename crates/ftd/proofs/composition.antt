@@ -1,3 +1,3 @@
 -- The laws of make-up (Appendix E).
-pub mod Counts
+pub mod Lines
 pub mod Rule

@@ -2,7 +2,7 @@
 use Prim.Native.Nat.{_≤_}
 use native.Mathlib.Omega.{arith}
 use borrow.Author.Tests.{eq-eqb, ne-eqb}
-use Rattle.ftd.proofs.runs.Turns.{field-head}
+use Rattle.ftd.proofs.fields.Turns.{field-head}
 use Rattle.exports.specs.Numbers.{stepOf}
 use borrow.Author.Needs.{needs}
 use Rattle.exports.proofs.ftd_field_at.Statement.{statement}

@@ -14,7 +14,7 @@ use Rattle.ftd.specs.Fields.{field, fieldsOf, allSmall, shapely}
 use Rattle.ftd.specs.Chain.{Piece, pack, piecesOf}
 use Rattle.ftd.specs.Chain.Helpers.{NextPiece}
 use Rattle.ftd.proofs.runs.Laws.{run-over, run-next, entry-inside, entry-length}
-use Rattle.ftd.proofs.runs.Turns.{some-field}
+use Rattle.ftd.proofs.fields.Turns.{some-field}
 use Rattle.ftd.proofs.fields.Shape.{shape-over, shape-long, shape-turn, shapely-next}
 
 -- A piece that is begun at a place and has come to another.

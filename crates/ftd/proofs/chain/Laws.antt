@@ -24,7 +24,8 @@ use Rattle.ftd.specs.declared.chain.Message.{Message}
 use Rattle.ftd.proofs.Lists.{byte-append}
 use Rattle.ftd.proofs.bytes.Numbers.{back32}
 use Rattle.ftd.proofs.runs.Laws.{run-joined, run-whole}
-use Rattle.ftd.proofs.runs.Turns.{some-tag, some-field}
+use Rattle.ftd.proofs.fields.Turns.{some-field}
+use Rattle.ftd.proofs.tags.Turns.{some-tag}
 use Rattle.ftd.proofs.runs.Heads.{front-whole}
 use Rattle.ftd.proofs.runs.Joined.{Entry, Entries, run-of, Local, run-entries}
 use Rattle.ftd.proofs.packet.Laws.{by-test}

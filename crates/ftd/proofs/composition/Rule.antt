@@ -11,7 +11,7 @@ use Rattle.ftd.specs.Mode.{listedTids}
 use Rattle.ftd.specs.Composition.{CompositionLine, appendixE}
 use Rattle.ftd.specs.Composition.Rule.{again, lineRight, CompositionRule}
 use Rattle.ftd.specs.Composition.Helpers.{noneAgain, tableRight}
-use Rattle.ftd.proofs.composition.Counts.{noLine, lines, line-is}
+use Rattle.ftd.proofs.composition.Lines.{noLine, lines, line-is}
 
 right : tableRight appendixE ≡ true
 unfolding appendixE listedTids table rowsOf

@@ -17,7 +17,7 @@ use Rattle.ftd.specs.Fields.Laws.{FieldLaws}
 use Rattle.ftd.specs.declared.refusal.Refusal.the-variants.{FieldRun}
 use Rattle.ftd.proofs.runs.Laws.{run-joined, run-whole}
 use Rattle.ftd.proofs.runs.Heads.{front-whole}
-use Rattle.ftd.proofs.runs.Turns.{some-field}
+use Rattle.ftd.proofs.fields.Turns.{some-field}
 use Rattle.ftd.proofs.write.Puts.{length-field}
 use Rattle.ftd.proofs.bytes.Numbers.{back32, two-bytes, four-bytes}
 use Rattle.ftd.proofs.runs.Joined.{Entry, Entries, run-of}

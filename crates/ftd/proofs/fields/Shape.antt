@@ -9,7 +9,8 @@ use lib.Dec.{leb, eqb}
 use Rattle.ftd.specs.Runs.{front, runOf, ended}
 use Rattle.ftd.specs.Fields.{field, allSmall, shapely}
 use Rattle.ftd.proofs.runs.Laws.{run-over, run-next, entry-length}
-use Rattle.ftd.proofs.runs.Turns.{and-false, not-ended, is-ended, some-field}
+use Rattle.ftd.proofs.runs.Turns.{and-false, not-ended, is-ended}
+use Rattle.ftd.proofs.fields.Turns.{some-field}
 
 module _ (l : List ℕ) (at n : ℕ) (e : n ≡ front field (drop at l)) where
   -- The run is over: it is shapely where the bytes are at their end.

@@ -20,7 +20,7 @@ use Rattle.ftd.specs.declared.items.Checked.{Checked}
 use Rattle.ftd.specs.declared.items.Checked.the-variants.{Passed, Refused}
 use Rattle.ftd.proofs.Lists.{drop-part}
 use Rattle.ftd.proofs.runs.Laws.{run-over, run-next, entry-length}
-use Rattle.ftd.proofs.runs.Turns.{some-field, be32-entry, field-head}
+use Rattle.ftd.proofs.fields.Turns.{some-field, be32-entry, field-head}
 use Rattle.ftd.proofs.table.Rule.{table-rule, rows-none, rows-from, rows-length, rows-next, rows-over}
 
 -- ─── Refusal 8 ───

@@ -14,7 +14,7 @@ use Rattle.ftd.specs.declared.fields.FieldPlace.the-variants.{Field}
 use Rattle.ftd.specs.declared.resume.Resume.the-variants.{Next}
 use Rattle.ftd.proofs.runs.Laws.{run-whole}
 use Rattle.ftd.proofs.bytes.Numbers.{be16-behind, be32-behind}
-use Rattle.ftd.proofs.runs.Turns.{some-field}
+use Rattle.ftd.proofs.fields.Turns.{some-field}
 use Rattle.ftd.proofs.runs.Joined.{Entry, run-of}
 use Rattle.ftd.proofs.chain.Laws.{joined-append, entries-snoc, fields-entries}
 use Rattle.ftd.proofs.fields.Laws.{field-entry}

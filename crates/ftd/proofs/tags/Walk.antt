@@ -16,8 +16,7 @@ use Rattle.ftd.specs.declared.tags.TradeDate.{TradeDate}
 use Rattle.ftd.specs.declared.tags.TradeDate.the-variants.{None, At}
 use Rattle.ftd.specs.declared.tags.TagRun.{TagRun}
 use Rattle.ftd.specs.declared.tags.TagRun.the-variants.{Broken, Good}
-use Rattle.ftd.proofs.runs.Heads.{tag-short, tag-whole}
-use Rattle.ftd.proofs.runs.Turns.{tags-stop, tags-end, tags-wrong, find-over, find-here, find-turn}
+use Rattle.ftd.proofs.tags.Turns.{tags-stop, tags-end, tags-wrong, find-over, find-here, find-turn, tag-short, tag-whole}
 
 -- What is seen of the trade date up to a place: none, and it is still to be found, or one, and where it lies.
 pub record Seen (l : List ℕ) (at k place : ℕ) : Type 0 where

@@ -3,7 +3,7 @@ use Prim.Native.Nat.{_-_, _≤_}
 use mathlib.Core.Path.{_≡_, refl}
 use lib.ListN.{drop}
 use Rattle.ftd.specs.Composition.{appendixE, allHold}
-use Rattle.ftd.proofs.composition.Counts.{lines-end, lines-wrong, lines-turn}
+use Rattle.ftd.proofs.composition.Lines.{lines-end, lines-wrong, lines-turn}
 use Rattle.ftd.proofs.composition.all_hold.Statement.{statement}
 use Rattle.ftd.proofs.composition.all_hold.Tie as tie
 

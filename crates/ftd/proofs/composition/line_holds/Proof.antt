@@ -1,5 +1,5 @@
 use Rattle.ftd.specs.Composition.{appendixE, lineTids, directions, fids, leasts, mosts, lineAt}
-use Rattle.ftd.proofs.composition.Counts.{other-tid, other-direction, line-here}
+use Rattle.ftd.proofs.composition.Lines.{other-tid, other-direction, line-here}
 use borrow.Author.Needs.{needs}
 use Rattle.ftd.proofs.composition.line_holds.Statement.{statement}
 use Rattle.ftd.proofs.composition.line_holds.Tie as tie

@@ -5,8 +5,7 @@ use native.Mathlib.Omega.{arith}
 use lib.ListN.{length, drop}
 use Rattle.ftd.specs.Runs.{runOf}
 use Rattle.ftd.specs.Fields.{field, counted, countOf}
-use Rattle.ftd.proofs.runs.Turns.{field-head}
-use Rattle.ftd.proofs.composition.Counts.{count-over, count-turn}
+use Rattle.ftd.proofs.fields.Turns.{field-head, count-over, count-turn}
 use Rattle.ftd.proofs.fields.count_field.Statement.{statement}
 use Rattle.ftd.proofs.fields.count_field.Tie as tie
 

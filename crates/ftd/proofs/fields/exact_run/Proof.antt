@@ -8,7 +8,7 @@ use lib.Dec.{eqb}
 use lib.ListN.{length, drop}
 use Rattle.ftd.specs.Runs.{runOf, ended}
 use Rattle.ftd.specs.Fields.{field, exactRun}
-use Rattle.ftd.proofs.runs.Turns.{fields-stop, fields-end, fields-turn}
+use Rattle.ftd.proofs.fields.Turns.{fields-stop, fields-end, fields-turn}
 use Rattle.ftd.proofs.fields.exact_run.Statement.{statement}
 use Rattle.ftd.proofs.fields.exact_run.Tie as tie
 

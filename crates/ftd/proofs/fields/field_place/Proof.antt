@@ -6,7 +6,7 @@ use borrow.Author.Needs.{needs}
 use lib.ListN.{length, drop}
 use Rattle.ftd.specs.Runs.{runOf}
 use Rattle.ftd.specs.Fields.{field, fieldIn, fieldPlaceOf}
-use Rattle.ftd.proofs.runs.Turns.{field-head, place-over, place-here, place-turn}
+use Rattle.ftd.proofs.fields.Turns.{field-head, place-over, place-here, place-turn}
 use Rattle.ftd.proofs.fields.field_place.Statement.{statement}
 use Rattle.ftd.proofs.fields.field_place.Tie as tie
 

@@ -2,7 +2,7 @@
 use mathlib.Core.Path.{sym}
 use native.Mathlib.Omega.{arith}
 use borrow.Author.Needs.{needs}
-use Rattle.ftd.proofs.runs.Heads.{field-short, field-whole}
+use Rattle.ftd.proofs.fields.Turns.{field-short, field-whole}
 use Rattle.ftd.proofs.fields.field_size.Statement.{statement}
 use Rattle.ftd.proofs.fields.field_size.Tie as tie
 

@@ -5,7 +5,7 @@ use native.Mathlib.Omega.{arith}
 use lib.ListN.{length, drop}
 use Rattle.ftd.specs.Runs.{runOf}
 use Rattle.ftd.specs.Fields.{field, firstIn, firstOf}
-use Rattle.ftd.proofs.runs.Turns.{field-head, first-over, first-here, first-turn}
+use Rattle.ftd.proofs.fields.Turns.{field-head, first-over, first-here, first-turn}
 use Rattle.ftd.proofs.fields.first_field.Statement.{statement}
 use Rattle.ftd.proofs.fields.first_field.Tie as tie
 

@@ -13,7 +13,7 @@ use Rattle.ftd.specs.Table.Helpers.{kindColumn, widthColumn, scaleColumn
 use Rattle.ftd.specs.Fields.{field}
 use Rattle.ftd.specs.Runs.{runOf}
 use Rattle.ftd.proofs.items.Walk.{items-end, items-wrong, items-turn, walk-over, walk-unknown, walk-items}
-use Rattle.ftd.proofs.runs.Turns.{field-head}
+use Rattle.ftd.proofs.fields.Turns.{field-head}
 use Rattle.ftd.proofs.items.walk_items.Statement.{statement}
 use Rattle.ftd.proofs.items.walk_items.Tie as tie
 

@@ -8,7 +8,7 @@ use Rattle.ftd.specs.Items.{anyOther, wrongWidth}
 use Rattle.ftd.specs.Fields.{field}
 use Rattle.ftd.specs.Runs.{runOf}
 use Rattle.ftd.proofs.items.Walk.{widths-over, widths-here, widths-turn}
-use Rattle.ftd.proofs.runs.Turns.{field-head}
+use Rattle.ftd.proofs.fields.Turns.{field-head}
 use Rattle.ftd.proofs.items.wrong_width.Statement.{statement}
 use Rattle.ftd.proofs.items.wrong_width.Tie as tie
 

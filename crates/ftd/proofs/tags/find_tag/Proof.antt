@@ -6,7 +6,7 @@ use borrow.Author.Needs.{needs}
 use lib.ListN.{length, drop}
 use Rattle.ftd.specs.Runs.{runOf}
 use Rattle.ftd.specs.Tags.{tag, tagIn, tagPlace}
-use Rattle.ftd.proofs.runs.Turns.{tag-head, find-over, find-here, find-turn}
+use Rattle.ftd.proofs.tags.Turns.{tag-head, find-over, find-here, find-turn}
 use Rattle.ftd.proofs.tags.find_tag.Statement.{statement}
 use Rattle.ftd.proofs.tags.find_tag.Tie as tie
 

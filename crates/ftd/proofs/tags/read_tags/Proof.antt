@@ -6,7 +6,7 @@ use borrow.Author.Needs.{needs}
 use lib.ListN.{length, drop}
 use Rattle.ftd.specs.Runs.{runOf}
 use Rattle.ftd.specs.Tags.{tag, goodRun, goodTags}
-use Rattle.ftd.proofs.runs.Turns.{tag-head, tags-turn}
+use Rattle.ftd.proofs.tags.Turns.{tag-head, tags-turn}
 use Rattle.ftd.proofs.tags.Walk.{Seen, seen-none, seen-room, seen-turn, run-stop, run-unmarked, run-marked, run-twice, run-wrong}
 use Rattle.ftd.proofs.tags.read_tags.Statement.{statement}
 use Rattle.ftd.proofs.tags.read_tags.Tie as tie

@@ -2,7 +2,7 @@
 use mathlib.Core.Path.{sym}
 use native.Mathlib.Omega.{arith}
 use borrow.Author.Needs.{needs}
-use Rattle.ftd.proofs.runs.Heads.{tag-short, tag-whole}
+use Rattle.ftd.proofs.tags.Turns.{tag-short, tag-whole}
 use Rattle.ftd.proofs.tags.tag_size.Statement.{statement}
 use Rattle.ftd.proofs.tags.tag_size.Tie as tie
 

@@ -1,29 +1,14 @@
--- One turn of counting a field, and of the walk over Appendix E, over plain variables. Assumes nothing.
+-- Appendix E, a line at a time, over plain variables. Assumes nothing.
 use Prim.Native.Nat.{ℕ, _+_, _<_, _≤_}
 use mathlib.Core.Path.{_≡_, refl, _∙_}
 use mathlib.Core.List.{List}
 use mathlib.Core.Bool.{Bool, true, false, _&&_}
 use native.Mathlib.Numerals.{add-one}
 use borrow.Author.Tests.{eq-eqb, ne-eqb}
-use lib.ListN.{length, getD, take, drop, drop-of-length-le, List·getD-map}
+use lib.ListN.{length, getD, drop, drop-of-length-le, List·getD-map}
 use lib.Seq.{drop-cons}
-use Rattle.ftd.specs.Bytes.{be32Of}
-use Rattle.ftd.specs.Runs.{front, runOf}
-use Rattle.ftd.specs.Fields.{field, fidOf, oneIf, counted, countOf}
+use Rattle.ftd.specs.Fields.{countOf}
 use Rattle.ftd.specs.Composition.{CompositionLine, appendixE, lineTids, directions, fids, leasts, mosts, lineAt, inRange, lineHolds, allHold}
-use Rattle.ftd.proofs.runs.Laws.{run-over, run-next}
-use Rattle.ftd.proofs.runs.Turns.{some-field, be32-entry, field-head}
-
-module _ (l : List ℕ) (at n fid seen t : ℕ) (e : n ≡ front field (drop at l)) (inv : counted fid (runOf field (drop at l) .entries) seen ≡ t) where
-  pub count-over : n ≡ 0 → seen ≡ t
-  count-over z = rw (run-over field some-field l at n e z) at inv
-
-  pub count-turn : (n ≡ 0 → ⊥) → (found one : ℕ) → found ≡ be32Of l at → one ≡ oneIf found fid → counted fid (runOf field (drop (at + n) l) .entries) (seen + one) ≡ t
-  count-turn z found one q o =
-      let h : counted fid (runOf field (drop (at + n) l) .entries) (seen + oneIf (fidOf (take n (drop at l))) fid) ≡ t = rw (run-next field some-field l at n e z) at inv in
-      rw (o, q) (rw (be32-entry l at n (field-head l at n e z)) at h)
-
--- ─── Appendix E, a line at a time ───
 
 abbrev pub noLine : CompositionLine
 noLine = record { tid = 0; direction = 0; fid = 0; least = 0; most = 0 }
