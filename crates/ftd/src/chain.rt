@@ -24,8 +24,7 @@ use crate::tags::TradeDate;
 use crate::tags::put_tags;
 use crate::tags::tags_len;
 use crate::write::Written;
-use crate::write::put_frame;
-use crate::write::put_header;
+use crate::write::put_head;
 
 // What all packets of a message bear: the mark, if any, TID, series and number.
 pub struct Message {
@@ -64,9 +63,8 @@ fn put_tagged(out: &mut [u8], to: usize, h: Header, date: TradeDate, content: &[
     ensures { λ _. ⌜ now (out .exit) ≡ put (now (out .entry)) to (messageBytes h (extensionBytes (tagsFor date)) (now (content .entry))) ⌝ }
 {
     let n = tags_len(date);
-    put_frame(out, to, 0x01, n, 16 + content.len());
+    put_head(out, to, n, h, content.len());
     put_tags(out, to + 4, date);
-    put_header(out, to + 4 + n, h, content.len());
     copy_at(out, to + 4 + n + 16, content);
 }
 

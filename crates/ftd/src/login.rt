@@ -19,8 +19,7 @@ use crate::tags::TradeDate;
 use crate::tags::put_tags;
 use crate::tags::tags_len;
 use crate::write::Written;
-use crate::write::put_frame;
-use crate::write::put_header;
+use crate::write::put_head;
 
 // What stands behind the content of a login packet that is written.
 pub enum Ending {
@@ -70,7 +69,7 @@ fn put_ending(out: &mut [u8], to: usize, ending: Ending)
 
 // A login packet of so many fields at the start of the output.
 fn put_login(out: &mut [u8], date: TradeDate, content: &[u8], ending: Ending, fields: usize)
-    requires { ⌜ (4 + length (extensionBytes (tagsFor date)) + (16 + (length (now content) + length (endingBytes ending))) ≤ length (now out)) × (length (now content) ≤ packetContent) × (fields ≡ length (fieldsOf (now content ++ endingBytes ending))) × (fields < 65536) ⌝ }
+    requires { ⌜ (4 + length (extensionBytes (tagsFor date)) + (16 + (length (now content) + length (endingBytes ending))) ≤ length (now out)) × (length (now content) + length (endingBytes ending) ≤ packetContent) × (fields ≡ length (fieldsOf (now content ++ endingBytes ending))) × (fields < 65536) ⌝ }
     ensures { λ _. ⌜ now (out .exit) ≡ put (now (out .entry)) 0 (loginBytes date (now (content .entry) ++ endingBytes ending)) ⌝ }
 {
     let n = tags_len(date);
@@ -82,9 +81,8 @@ fn put_login(out: &mut [u8], date: TradeDate, content: &[u8], ending: Ending, fi
         number: 0,
         fields: (fields % 65536) as u16,
     };
-    put_frame(out, 0, 0x01, n, 16 + size);
+    put_head(out, 0, n, h, size);
     put_tags(out, 4, date);
-    put_header(out, 4 + n, h, size);
     copy_at(out, 4 + n + 16, content);
     put_ending(out, 4 + n + 16 + content.len(), ending);
 }

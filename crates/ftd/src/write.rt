@@ -35,7 +35,7 @@ pub enum Written {
 }
 
 // The first four bytes of a packet.
-pub(crate) fn put_frame(out: &mut [u8], to: usize, kind: u8, ext: usize, body: usize)
+fn put_frame(out: &mut [u8], to: usize, kind: u8, ext: usize, body: usize)
     requires { ⌜ (to + 4 ≤ length (now out)) × (ext < 256) × (body < 65536) ⌝ }
     ensures { λ _. ⌜ now (out .exit) ≡ put (now (out .entry)) to (frameHead kind ext body) ⌝ }
 {
@@ -45,7 +45,7 @@ pub(crate) fn put_frame(out: &mut [u8], to: usize, kind: u8, ext: usize, body: u
 }
 
 // The header of a message.
-pub(crate) fn put_header(out: &mut [u8], to: usize, h: Header, size: usize)
+fn put_header(out: &mut [u8], to: usize, h: Header, size: usize)
     requires { ⌜ (to + 16 ≤ length (now out)) × (size < 65536) ⌝ }
     ensures { λ _. ⌜ now (out .exit) ≡ put (now (out .entry)) to (headerBytes h size) ⌝ }
 {
@@ -57,6 +57,16 @@ pub(crate) fn put_header(out: &mut [u8], to: usize, h: Header, size: usize)
     put32(out, to + 8, h.number);
     put16(out, to + 12, h.fields);
     put16(out, to + 14, (size % 65536) as u16);
+}
+
+// The first four bytes of a message packet and its header, with room for an extension of so many bytes between them. Every message
+// packet is laid out by it; whoever calls it puts extension and content.
+pub(crate) fn put_head(out: &mut [u8], to: usize, ext: usize, h: Header, size: usize)
+    requires { ⌜ (to + (4 + ext + 16) ≤ length (now out)) × (ext < 256) × (size ≤ packetContent) ⌝ }
+    ensures { λ _. ⌜ now (out .exit) ≡ put (put (now (out .entry)) to (frameHead 0x01 ext (16 + size))) (to + 4 + ext) (headerBytes h size) ⌝ }
+{
+    put_frame(out, to, 0x01, ext, 16 + size);
+    put_header(out, to + 4 + ext, h, size);
 }
 
 // The values are a link packet or a skipped one.
@@ -87,9 +97,8 @@ fn put_message(out: &mut [u8], to: usize, h: Header, extension: &[u8], content: 
     requires { ⌜ (to + (4 + length (now extension) + (16 + length (now content))) ≤ length (now out)) × (length (now extension) < 256) × (length (now content) ≤ packetContent) ⌝ }
     ensures { λ _. ⌜ now (out .exit) ≡ put (now (out .entry)) to (messageBytes h (now (extension .entry)) (now (content .entry))) ⌝ }
 {
-    put_frame(out, to, 0x01, extension.len(), 16 + content.len());
+    put_head(out, to, extension.len(), h, content.len());
     copy_at(out, to + 4, extension);
-    put_header(out, to + 4 + extension.len(), h, content.len());
     copy_at(out, to + 4 + extension.len() + 16, content);
 }
 

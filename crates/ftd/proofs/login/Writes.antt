@@ -22,7 +22,7 @@ use Rattle.ftd.specs.declared.packet.Header.{Header}
 use Rattle.ftd.specs.declared.chain.Cut.{Cut}
 use Rattle.ftd.specs.declared.login.Ending.{Ending}
 use Rattle.ftd.specs.declared.login.Ending.the-variants.{Nothing, Resume}
-use Rattle.ftd.proofs.write.Puts.{then, length-header, length-message}
+use Rattle.ftd.proofs.write.Puts.{then, between-put, length-header, length-message}
 use Rattle.ftd.proofs.chain.Pieces.{piece-length, whole-last, shaped-facts}
 use Rattle.ftd.proofs.chain.Singles.{shaped-ended, one-piece}
 use Rattle.ftd.proofs.resume.Behind.{behind}
@@ -33,37 +33,40 @@ regroup : (f x n c e : List ℕ) → (((f ++ x) ++ n) ++ c) ++ e ≡ f ++ (x ++ 
 regroup f x n c e = simp append-assoc
 
 -- A message whose content is put in two parts.
-parts-put : (l o1 o2 o3 o4 o5 : List ℕ) (to : ℕ) (h : Header) (extension content more : List ℕ) → to ≤ length l
-    → o1 ≡ put l to (frameHead 1 (length extension) (16 + (length content + length more))) → o2 ≡ put o1 (to + 4) extension
-    → o3 ≡ put o2 (to + 4 + length extension) (headerBytes h (length content + length more)) → o4 ≡ put o3 (to + 4 + length extension + 16) content
-    → o5 ≡ put o4 (to + 4 + length extension + 16 + length content) more → o5 ≡ put l to (messageBytes h extension (content ++ more))
+parts-put : (l o1 o2 o3 o4 : List ℕ) (to : ℕ) (h : Header) (extension content more : List ℕ) → to + 4 + length extension ≤ length l
+    → o1 ≡ put (put l to (frameHead 1 (length extension) (16 + (length content + length more)))) (to + 4 + length extension)
+    (headerBytes h (length content + length more))
+    → o2 ≡ put o1 (to + 4) extension → o3 ≡ put o2 (to + 4 + length extension + 16) content
+    → o4 ≡ put o3 (to + 4 + length extension + 16 + length content) more → o4 ≡ put l to (messageBytes h extension (content ++ more))
 unfolding messageBytes packetBytes
-parts-put l o1 o2 o3 o4 o5 to h extension content more room b1 b2 b3 b4 b5 =
+parts-put l o1 o2 o3 o4 to h extension content more room b1 b2 b3 b4 =
     let s : length (content ++ more) ≡ length content + length more = length-append content more in
     let n : List ℕ = headerBytes h (length content + length more) in
     let e : length (n ++ (content ++ more)) ≡ 16 + (length content + length more) = rw (length-append n (content ++ more), length-header, s) in
     let f : List ℕ = frameHead 1 (length extension) (16 + (length content + length more)) in
     rw (s, e)
-    ((then l o4 o5 to (to + 4 + length extension + 16 + length content) (((f ++ extension) ++ n) ++ content) more room
+    ((then l o3 o4 to (to + 4 + length extension + 16 + length content) (((f ++ extension) ++ n) ++ content) more (omega arith)
     (rw (length-append ((f ++ extension) ++ n) content, length-append (f ++ extension) n, length-append f extension, length-header) (omega arith))
-    (then l o3 o4 to (to + 4 + length extension + 16) ((f ++ extension) ++ n) content room
+    (then l o2 o3 to (to + 4 + length extension + 16) ((f ++ extension) ++ n) content (omega arith)
     (rw (length-append (f ++ extension) n, length-append f extension, length-header) (omega arith))
-    (then l o2 o3 to (to + 4 + length extension) (f ++ extension) n room (rw length-append (omega arith))
-    (then l o1 o2 to (to + 4) f extension room refl b1 b2) b3) b4) b5)
+    (between-put l o1 o2 to (to + 4) f extension n room refl b1 b2) b3) b4)
     ∙ ap (put l to) (regroup f extension n content more))
 
--- The login packet, put in five.
-module _ (l o1 o2 o3 o4 o5 : List ℕ) (d : TradeDate) (content : List ℕ) (ending : Ending) (tags tail fields : ℕ) where
+-- The login packet, put in four.
+module _ (l o1 o2 o3 o4 : List ℕ) (d : TradeDate) (content : List ℕ) (ending : Ending) (tags tail fields : ℕ) where
   pub login-put : tags ≡ length (extensionBytes (tagsFor d)) → tail ≡ length (endingBytes ending) → fields ≡ length (fieldsOf (content ++ endingBytes ending))
-      → fields < 65536 → o1 ≡ put l 0 (frameHead 1 tags (16 + (length content + tail))) → o2 ≡ put o1 4 (extensionBytes (tagsFor d))
-      → o3 ≡ put o2 (4 + tags) (headerBytes (record { tid = loginTid; chain = Single; series = 0; number = 0; fields = fields % 65536 }) (length content + tail))
-      → o4 ≡ put o3 (4 + tags + 16) content → o5 ≡ put o4 (4 + tags + 16 + length content) (endingBytes ending)
-      → o5 ≡ put l 0 (loginBytes d (content ++ endingBytes ending))
+      → fields < 65536 → 4 + tags ≤ length l
+      → o1 ≡ put (put l 0 (frameHead 1 tags (16 + (length content + tail)))) (4 + tags)
+      (headerBytes (record { tid = loginTid; chain = Single; series = 0; number = 0; fields = fields % 65536 }) (length content + tail))
+      → o2 ≡ put o1 4 (extensionBytes (tagsFor d)) → o3 ≡ put o2 (4 + tags + 16) content
+      → o4 ≡ put o3 (4 + tags + 16 + length content) (endingBytes ending)
+      → o4 ≡ put l 0 (loginBytes d (content ++ endingBytes ending))
   unfolding loginBytes loginHeader
-  login-put t e f small b1 b2 b3 b4 b5 =
+  login-put t e f small room b1 b2 b3 b4 =
       let k : fields % 65536 ≡ length (fieldsOf (content ++ endingBytes ending)) = omega arith in
-      parts-put l o1 o2 o3 o4 o5 0 (record { tid = loginTid; chain = Single; series = 0; number = 0; fields = length (fieldsOf (content ++ endingBytes ending)) })
-      (extensionBytes (tagsFor d)) content (endingBytes ending) (omega arith) (rw (t, e) at b1) b2 (rw (t, e, k) at b3) (rw t at b4) (rw t at b5)
+      parts-put l o1 o2 o3 o4 0
+      (record { tid = loginTid; chain = Single; series = 0; number = 0; fields = length (fieldsOf (content ++ endingBytes ending)) })
+      (extensionBytes (tagsFor d)) content (endingBytes ending) (rw t at room) (rw (t, e, k) at b1) b2 (rw t at b3) (rw t at b4)
 
 pub login-size : (d : TradeDate) (content : List ℕ) (ending : Ending) (tags tail : ℕ) → tags ≡ length (extensionBytes (tagsFor d)) → tail ≡ length (endingBytes ending)
     → length (loginBytes d (content ++ endingBytes ending)) ≡ 4 + tags + (16 + (length content + tail))

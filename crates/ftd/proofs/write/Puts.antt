@@ -19,7 +19,7 @@ use Rattle.ftd.specs.declared.tags.TradeDate.the-variants.{At}
 use Rattle.ftd.specs.declared.write.Written.{Written}
 use Rattle.ftd.specs.declared.write.Written.the-variants.{Bytes, Refused}
 use Rattle.ftd.specs.declared.packet.Header.{Header}
-use Rattle.ftd.proofs.bytes.Put.{put-put, put-zero}
+use Rattle.ftd.proofs.bytes.Put.{length-put, put-put, put-before, put-zero}
 
 -- A put right behind a put is one put of both.
 pub then : (l o p : List ℕ) (to at : ℕ) (vs ws : List ℕ) → to ≤ length l → at ≡ to + length vs → o ≡ put l to vs → p ≡ put o at ws → p ≡ put l to (vs ++ ws)
@@ -67,20 +67,28 @@ pub length-header : (h : Header) (size : ℕ) → length (headerBytes h size) �
 unfolding headerBytes
 length-header h size = refl
 
-pub message-put : (l o1 o2 o3 o4 : List ℕ) (to : ℕ) (h : Header) (extension content : List ℕ) → to ≤ length l
-    → o1 ≡ put l to (frameHead 1 (length extension) (16 + length content)) → o2 ≡ put o1 (to + 4) extension
-    → o3 ≡ put o2 (to + 4 + length extension) (headerBytes h (length content)) → o4 ≡ put o3 (to + 4 + length extension + 16) content
-    → o4 ≡ put l to (messageBytes h extension content)
+-- What stands before and behind an extension, and then the extension between them, is one put of the three.
+pub between-put : (l o1 o2 : List ℕ) (to n : ℕ) (f e h : List ℕ) → to + length f + length e ≤ length l → n ≡ to + length f
+    → o1 ≡ put (put l to f) (n + length e) h → o2 ≡ put o1 n e → o2 ≡ put l to ((f ++ e) ++ h)
+between-put l o1 o2 to n f e h room s b1 b2 =
+    let kept : length (put l to f) ≡ length l = length-put l to f (omega arith) in
+    let low : to ≤ length l = omega arith in
+    rw (b2, b1, s, put-before (put l to f) (to + length f) (to + length f + length e) e h refl (rw kept room), put-put l to f (e ++ h) low)
+    (ap (put l to) (sym (append-assoc f e h)))
+
+pub message-put : (l o1 o2 o3 : List ℕ) (to : ℕ) (h : Header) (extension content : List ℕ) → to + 4 + length extension ≤ length l
+    → o1 ≡ put (put l to (frameHead 1 (length extension) (16 + length content))) (to + 4 + length extension) (headerBytes h (length content))
+    → o2 ≡ put o1 (to + 4) extension → o3 ≡ put o2 (to + 4 + length extension + 16) content
+    → o3 ≡ put l to (messageBytes h extension content)
 unfolding messageBytes packetBytes
-message-put l o1 o2 o3 o4 to h extension content room b1 b2 b3 b4 =
+message-put l o1 o2 o3 to h extension content room b1 b2 b3 =
     let n : List ℕ = headerBytes h (length content) in
     let e : length (n ++ content) ≡ 16 + length content = rw (length-append, length-header) in
     let f : List ℕ = frameHead 1 (length extension) (16 + length content) in
     rw e
-    ((then l o3 o4 to (to + 4 + length extension + 16) ((f ++ extension) ++ n) content room
+    ((then l o2 o3 to (to + 4 + length extension + 16) ((f ++ extension) ++ n) content (omega arith)
     (rw (length-append (f ++ extension) n, length-append f extension, length-header) (omega arith))
-    (then l o2 o3 to (to + 4 + length extension) (f ++ extension) n room (rw length-append (omega arith))
-    (then l o1 o2 to (to + 4) f extension room refl b1 b2) b3) b4)
+    (between-put l o1 o2 to (to + 4) f extension n room refl b1 b2) b3)
     ∙ ap (put l to) (append-assoc (f ++ extension) n content ∙ append-assoc f extension (n ++ content)))
 
 pub length-packet : (kind : ℕ) (extension body : List ℕ) → length (packetBytes kind extension body) ≡ 4 + length extension + length body

@@ -1,6 +1,7 @@
 -- `login::put_login` meets its contract. Assumes nothing.
-use borrow.Author.Needs.{needs}
+use native.Mathlib.Omega.{arith}
 use Rattle.ftd.proofs.login.Writes.{login-put}
+use borrow.Author.Needs.{needs}
 use Rattle.ftd.proofs.login.put_login.Statement.{statement}
 use Rattle.ftd.proofs.login.put_login.Tie as tie
 
@@ -16,20 +17,11 @@ add-size c = search needs
 cast-t12 : tie.Need-cast-t12
 cast-t12 c = search needs
 
-add-put-frame : tie.Need-add-put-frame
-add-put-frame c = search needs
-
-put-frame-requires : tie.Need-put-frame-requires
-put-frame-requires c κs = search needs
+put-head-requires : tie.Need-put-head-requires
+put-head-requires c κs = search needs
 
 put-tags-requires : tie.Need-put-tags-requires
 put-tags-requires c κs = search needs
-
-add-put-header : tie.Need-add-put-header
-add-put-header c = search needs
-
-put-header-requires : tie.Need-put-header-requires
-put-header-requires c κs = search needs
 
 add-copy-at : tie.Need-add-copy-at
 add-copy-at c = search needs
@@ -57,16 +49,16 @@ same-length c = search needs
 
 returns : tie.Need-returns
 returns c =
-    let p5 = c .before .before in
-    let p4 = p5 .before .before .before .before in
+    let p4 = c .before .before in
     let p3 = p4 .before .before .before .before in
     let p2 = p3 .before .before .before .before in
     let p1 = p2 .before .before .before .before in
     let e = p1 .before .before in
     let t = e .before in
     let s = t .before .before .before in
-    login-put _ _ _ _ _ _ (s .args .date) _ (s .args .ending) _ _ (s .args .fields) (t .tags-len .ensures .0) (e .ending-len .ensures .0) (s .pre .2) (s .pre .3)
-    (p1 .put-frame .ensures) (p2 .put-tags .ensures) (p3 .put-header .ensures) (p4 .copy-at .ensures) (p5 .put-ending .ensures)
+    login-put _ _ _ _ _ (s .args .date) _ (s .args .ending) _ _ (s .args .fields) (t .tags-len .ensures .0) (e .ending-len .ensures .0)
+    (s .pre .2) (s .pre .3) (omega arith)
+    (p1 .put-head .ensures) (p2 .put-tags .ensures) (p3 .copy-at .ensures) (p4 .put-ending .ensures)
 
 pub put-login-spec : {M : Type 1} → statement M
 put-login-spec =
@@ -76,11 +68,8 @@ put-login-spec =
     ending-len-requires
     add-size
     cast-t12
-    add-put-frame
-    put-frame-requires
+    put-head-requires
     put-tags-requires
-    add-put-header
-    put-header-requires
     add-copy-at
     add-copy-at-2
     copy-at-requires
