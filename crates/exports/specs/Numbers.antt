@@ -133,7 +133,7 @@ packetNumbers (Skipped kind e body) d = skippedNumbers kind e body
 packetNumbers (Message h e content) d = messageNumbers h e content d
 packetNumbers (Refused r) d = plainNumbers 4 (numberOf r)
 
--- A packet with the mark that it bears.
+-- A packet with the trade date that it bears.
 abbrev pub datedNumbers : Dated → FtdPacket
 datedNumbers x = packetNumbers (x .packet) (x .date)
 

@@ -28,7 +28,7 @@ pub record PieceLaws : Type 0 where
   -- One piece more is held, if a chain is there at all.
   pub holds : {s t k d : ℕ} {c : List ℕ} {j : ℕ} {p : List ℕ} → PacketAt s t k d c j p → (e : Receiver) → Eight e → (buffer : List ℕ) → Before e buffer s t k d c j
       → Holding (receiveOf e p buffer .end) (receiveOf e p buffer .bytes) s t k d c (suc j)
-  -- No mark moves; last may be reported; or the message is handed on, whole, as number last + 1 of the kept day.
+  -- No trade date moves; last may be reported; or the message is handed on, whole, as number last + 1 of the kept day.
   pub delivers : {s t k d : ℕ} {c : List ℕ} {j : ℕ} {p : List ℕ} → PacketAt s t k d c j p → (e : Receiver) → Eight e → (buffer : List ℕ) → Before e buffer s t k d c j →
       let r = receiveOf e p buffer in
       Delivered e s d k (record { tid = t; content = c }) (r .end) (messageIn (receivedSaid p (r .bytes) (r .answer))) (reportIn (receivedSaid p (r .bytes) (r .answer)))

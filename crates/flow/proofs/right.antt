@@ -1,4 +1,4 @@
--- Layer "right for a source": of mark, last, chain, handed on and reported of each series against published lists (`EndRight`): handed on is the first
+-- Layer "right for a source": of trade date, last, chain, handed on and reported of each series against published lists (`EndRight`): handed on is the first
 -- `last` published, a chain held is the first pieces of message last + 1. A predicate of these alone, not of how they came about; kept by every
 -- call of an end in any state that is handed genuine packets.
 pub mod Right

@@ -1,4 +1,4 @@
--- Layer "the receiver's step": each call of a receiving end does one of these: nothing to mark and last; a new day; the next message handed on; a
+-- Layer "the receiver's step": each call of a receiving end does one of these: nothing to trade date and last; a new day; the next message handed on; a
 -- piece held (`Turn`, `Got`). Which one, by its definition. Stated of one end in any state, of any bytes, with no word of a line.
 pub mod Moves
 pub mod Turns

@@ -72,7 +72,7 @@ refusalWith f none = []
 refusalWith f (some x) = refusal (f x)
 
 abbrev pub refusalBy : World → Event → List ℕ
-refusalBy w (openSender mark ss) = refusal (openedSaid (openDayOf (w .serving .end) mark ss .answer))
+refusalBy w (openSender date ss) = refusal (openedSaid (openDayOf (w .serving .end) date ss .answer))
 refusalBy w (publish s t content) = refusal (publishedSaid (publishOf (w .serving .end) s t content (w .serving .log) .answer))
 refusalBy w (login s i content out) =
     refusalWith (λ p. loginSaid (loginOf (w .serving .end) s p content out .answer)) (getElem? (w .receiving .requests) i)
@@ -132,7 +132,7 @@ twoDays =
     ∷ connect
     ∷ receive 0 0  -- refused 14
     ∷ login 1 2 rspLogin (space 200)  -- answer 2: by the stale login packet, from 1
-    ∷ confirmLogin 0  -- the answer of day 7: an equal mark, logs in
+    ∷ confirmLogin 0  -- the answer of day 7: an equal trade date, logs in
     ∷ confirmLogin 2
     ∷ send 1 (space 50)  -- message 4: c1
     ∷ receive 0 0  -- of day 7: refused 15
@@ -169,7 +169,7 @@ early =
     ∷ openSender 6 (1 ∷ [])
     ∷ openReceiver (1 ∷ 3 ∷ [])
     ∷ requestLogin 5 reqLogin (space 200)  -- refused 13
-    ∷ requestLogin 1 reqLogin (space 200)  -- login packet 0: next 1, no mark
+    ∷ requestLogin 1 reqLogin (space 200)  -- login packet 0: next 1, no trade date
     ∷ login 1 0 rspLogin (space 200)  -- answer 0, of day 6
     ∷ openSender 7 (3 ∷ 1 ∷ [])  -- in the other order than the receiving end
     ∷ publish 1 tid a1

@@ -43,17 +43,17 @@ use Rattle.flow.specs.declared.sender.Sent.the-variants.{Refused as NotS
 use Rattle.flow.specs.Ends.{_when_else_, Left, Wrote, left, wrote, over, mostContent, packetContent, mostMessages, mostSeries, wrongSeries, filled, before, upTo, newSeries, noPlace, sender, isServed, publishedOf, placeOf, withEntry, withNext}
 use Rattle.flow.specs.Log.{entryBytes, entryTid, entryContent, logShort, entryFits, entryOf}
 
--- ─── Opening: a mark above the present one, if any, and the series ───
+-- ─── Opening: a trade date above the present one, if any, and the series ───
 
 -- 11: against the opening's rule.
 abbrev pub wrongDayOpening : Sender → ℕ → List ℕ → Bool
-wrongDayOpening e mark ss = wrongSeries ss || upTo mark (e .day .date)
+wrongDayOpening e date ss = wrongSeries ss || upTo date (e .day .date)
 
 -- It empties log and logins.
 unfoldable pub openDayOf : Sender → ℕ → List ℕ → Left Sender Opened
-openDayOf e mark ss =
-    left e (Refused Opening) when wrongDayOpening e mark ss else
-    left (sender (At mark) (length ss) (filled (newSeries 0) (map newSeries ss)) 0 (replicate mostSeries noPlace)) Done
+openDayOf e date ss =
+    left e (Refused Opening) when wrongDayOpening e date ss else
+    left (sender (At date) (length ss) (filled (newSeries 0) (map newSeries ss)) 0 (replicate mostSeries noPlace)) Done
 
 -- ─── Content that is given to a call, rows 7 to 10 ───
 

@@ -60,7 +60,7 @@ only false x = []
 
 -- What the line hands over is named by its place among all that the line was ever given, from 0; a place that names nothing is no call.
 pub data Event : Type 0 where
-  openSender : ℕ → List ℕ → Event  -- the serving end's Opening: mark, series
+  openSender : ℕ → List ℕ → Event  -- the serving end's Opening: trade date, series
   publish : ℕ → ℕ → List ℕ → Event  -- series, TID, content
   login : ℕ → ℕ → List ℕ → List ℕ → Event  -- series, place of the login packet, the answer's content, output
   send : ℕ → List ℕ → Event  -- series, output
@@ -85,7 +85,7 @@ pub data Previous : Type 0 where
 pub record SenderSide : Type 0 where
   pub end : Sender
   pub log : List ℕ
-  pub day : TradeDate  -- the mark of its last Opening; none before
+  pub day : TradeDate  -- the trade date of its last Opening; none before
   pub openings : ℕ  -- how many Openings it took
   pub published : List (Dated Message)  -- by the day of the last Opening: "from the serving end's Opening with that mark to its next one"
   pub answers : List (InSeries (List ℕ))  -- on the line: "answers of Login with their series"
@@ -93,12 +93,12 @@ pub record SenderSide : Type 0 where
 
 -- A refused call opens, publishes, logs in and sends nothing.
 abbrev pub afterOpen : SenderSide → ℕ → Left Sender Opened → SenderSide
-afterOpen v mark r =
+afterOpen v date r =
     let taken = isTaken (openedSaid (r .answer)) in
     record {
       end = r .end;
       log = v .log;
-      day = cond taken (At mark) (v .day);
+      day = cond taken (At date) (v .day);
       openings = cond taken (suc (v .openings)) (v .openings);
       published = v .published;
       answers = v .answers;
@@ -151,7 +151,7 @@ pub record ReceiverSide : Type 0 where
   pub buffer : List ℕ
   pub restarts : ℕ  -- how many Openings it took, and how many connections came
   pub requests : List (List ℕ)  -- on the line: "login packets of Ask"
-  pub days : List (InSeries TradeDate)  -- of each Answer that it took, the mark
+  pub days : List (InSeries TradeDate)  -- of each Answer that it took, the trade date
   pub handed : List (Dated Message)  -- "of the day whose mark its packets bear"
   pub reports : List (Dated ℕ)  -- "of the day of its series' last Answer, that one included"
   pub delivered : List Delivery  -- whether the call was refused or not
@@ -223,7 +223,7 @@ seriesIn (Skipped kind extension body) = 0
 seriesIn (Accepted h extension content) = h .series
 seriesIn (Refused r) = 0
 
--- Without tag 0x05 the packet counts as of the kept mark.
+-- Without tag 0x05 the packet counts as of the kept trade date.
 abbrev pub borne : TradeDate → TradeDate → TradeDate
 borne None kept = kept
 borne (At d) kept = At d
@@ -283,7 +283,7 @@ with w (some x) f = f x
 
 -- Each call gets the log and the buffer that the last one left.
 abbrev pub step : World → Event → World
-step w (openSender mark ss) = serves w (afterOpen (w .serving) mark (openDayOf (w .serving .end) mark ss))
+step w (openSender date ss) = serves w (afterOpen (w .serving) date (openDayOf (w .serving .end) date ss))
 step w (publish s tid content) = serves w (afterPublish (w .serving) s tid content (publishOf (w .serving .end) s tid content (w .serving .log)))
 step w (login s i content out) = with w (getElem? (w .receiving .requests) i) λ p.
     serves w (afterLogin (w .serving) s (loginOf (w .serving .end) s p content out))
@@ -310,7 +310,7 @@ behind (came a b) i j = eqb a i && eqb b j
 behind other i j = false
 
 abbrev pub inRun : World → Event → Bool
-inRun w (openSender mark ss) = true
+inRun w (openSender date ss) = true
 inRun w (publish s tid content) = true
 inRun w (login s i content out) = true
 inRun w (send s out) = true

@@ -208,7 +208,7 @@ readOf p =
     (cond (restMissing p) Short
     (wholeOf p))))
 
--- A link packet and a message packet bear the mark of their extension; nothing else bears one.
+-- A link packet and a message packet bear the trade date of their extension; nothing else bears one.
 abbrev pub bearsDate : Packet → Bool
 bearsDate Short = false
 bearsDate (Link kind extension) = true

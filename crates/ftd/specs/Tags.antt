@@ -87,7 +87,7 @@ abbrev pub TagInside : List ℕ → TagPlace → Type 0
 TagInside extension NoTag = Unit
 TagInside extension (Data start len) = start + len ≤ length extension
 
--- The mark: tag 0x05, the trade date, as a number of four bytes; none where the extension has no such tag.
+-- The trade date (01: mark): tag 0x05, as a number of four bytes; none where the extension has no such tag.
 abbrev pub dateAt : List ℕ → TagPlace → TradeDate
 dateAt extension NoTag = None
 dateAt extension (Data start len) = cond (eqb len 4) (At (be32Of extension start)) None
@@ -95,7 +95,7 @@ dateAt extension (Data start len) = cond (eqb len 4) (At (be32Of extension start
 unfoldable pub tradeDateOf : List ℕ → TradeDate
 tradeDateOf extension = dateAt extension (tagPlace extension 0x05)
 
--- The extension check and the mark as one answer.
+-- The extension check and the trade date as one answer.
 unfoldable pub tagRunOf : List ℕ → TagRun
 tagRunOf extension = cond (goodTags extension) (Good (tradeDateOf extension)) Broken
 

@@ -26,7 +26,7 @@ use crate::tags::tags_len;
 use crate::write::Written;
 use crate::write::put_head;
 
-// What all packets of a message bear: the mark, if any, TID, series and number.
+// What all packets of a message bear: the trade date, if any, TID, series and number.
 pub struct Message {
     pub date: TradeDate,
     pub tid: u32,

@@ -72,7 +72,7 @@ pub enum Packet {
     Refused(Refusal),
 }
 
-// What the bytes are, and the mark that it bears.
+// What the bytes are, and the trade date that it bears.
 pub struct Dated {
     pub packet: Packet,
     pub date: TradeDate,
@@ -254,7 +254,7 @@ fn read_message(p: &[u8], ext: usize, body: usize) -> Packet
 }
 
 // A link packet or a message packet.
-fn bears_mark(packet: Packet) -> bool
+fn bears_date(packet: Packet) -> bool
     ensures { λ r. ⌜ r ≡ bearsDate packet ⌝ }
 {
     match packet {
@@ -277,11 +277,11 @@ fn bears_mark(packet: Packet) -> bool
     }
 }
 
-// The mark goes with what bears one.
-fn with_mark(packet: Packet, date: TradeDate) -> Dated
+// The trade date goes with what bears one.
+fn with_date(packet: Packet, date: TradeDate) -> Dated
     ensures { λ r. ⌜ r ≡ withDate packet date ⌝ }
 {
-    if bears_mark(packet) {
+    if bears_date(packet) {
         return Dated {
             packet: packet,
             date: date,
@@ -327,12 +327,12 @@ fn read_whole(p: &[u8], kind: u8, ext: usize, body: usize) -> Dated
                     date: date,
                 };
             }
-            with_mark(read_message(p, ext, body), date)
+            with_date(read_message(p, ext, body), date)
         }
     }
 }
 
-// What the bytes from the front on are, with the mark of a link packet or a message packet: the tags are walked once.
+// What the bytes from the front on are, with the trade date of a link packet or a message packet: the tags are walked once.
 pub fn read_dated(p: &[u8]) -> Dated
     ensures { λ r. ⌜ r ≡ datedOf (now (p .entry)) ⌝ }
 {

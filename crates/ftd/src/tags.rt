@@ -22,13 +22,13 @@ pub enum TagPlace {
     Data { start: usize, len: usize },
 }
 
-// The mark of a day: the trade date of tag 0x05, as a number of four bytes, or none.
+// The trade date (01: mark): tag 0x05, as a number of four bytes, or none.
 pub enum TradeDate {
     None,
     At(u32),
 }
 
-// What the extension check finds: refusal 2, or the mark.
+// What the extension check finds: refusal 2, or the trade date.
 pub enum TagRun {
     Broken,
     Good(TradeDate),
@@ -89,7 +89,7 @@ fn count_date(kind: u8, dates: usize) -> usize
 }
 
 // The place of a trade date's data, or the one seen before.
-fn mark_place(kind: u8, place: usize, at: usize) -> usize
+fn date_place(kind: u8, place: usize, at: usize) -> usize
     requires { ⌜ at + 2 ≤ 18446744073709551615 ⌝ }
     ensures { λ r. ⌜ r ≡ datePlace kind place at ⌝ }
 {
@@ -99,7 +99,7 @@ fn mark_place(kind: u8, place: usize, at: usize) -> usize
     place
 }
 
-// The extension check, and the mark, in one walk: tags end with the extension, known ones have their lengths, 0x05 stands once at most.
+// The extension check, and the trade date, in one walk: tags end with the extension, known ones have their lengths, 0x05 stands once at most.
 pub fn read_tags(extension: &[u8]) -> TagRun
     ensures { λ r. ⌜ r ≡ tagRunOf (now (extension .entry)) ⌝ }
 {
@@ -122,7 +122,7 @@ pub fn read_tags(extension: &[u8]) -> TagRun
         }
         if length_right(extension[at], extension[at + 1]) {
             dates = count_date(extension[at], dates);
-            place = mark_place(extension[at], place, at);
+            place = date_place(extension[at], place, at);
             at += n;
         } else {
             return TagRun::Broken;
@@ -160,7 +160,7 @@ pub fn find_tag(extension: &[u8], kind: u8) -> TagPlace
     }
 }
 
-// The mark that the extension bears: the first tag 0x05, if it has its four bytes.
+// The trade date that the extension bears: the first tag 0x05, if it has its four bytes.
 pub fn trade_date(extension: &[u8]) -> TradeDate
     ensures { λ r. ⌜ r ≡ tradeDateOf (now (extension .entry)) ⌝ }
 {

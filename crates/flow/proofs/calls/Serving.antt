@@ -47,15 +47,15 @@ use Rattle.flow.proofs.ends.SenderOpened.{openedSender}
 
 -- ─── Opening ───
 
-pub data OpenDone (e : Sender) (mark : ℕ) (ss : List ℕ) : Left Sender Opened → Type 0 where
-  open-refused : (r : Refusal) → OpenDone e mark ss (left e (Refused r))
-  open-taken : wrongSeries ss ≡ false → upTo mark (e .day .date) ≡ false → OpenDone e mark ss (left (openedSender mark ss) Done)
+pub data OpenDone (e : Sender) (date : ℕ) (ss : List ℕ) : Left Sender Opened → Type 0 where
+  open-refused : (r : Refusal) → OpenDone e date ss (left e (Refused r))
+  open-taken : wrongSeries ss ≡ false → upTo date (e .day .date) ≡ false → OpenDone e date ss (left (openedSender date ss) Done)
 
-pub open-cases : (e : Sender) (mark : ℕ) (ss : List ℕ) → OpenDone e mark ss (openDayOf e mark ss)
+pub open-cases : (e : Sender) (date : ℕ) (ss : List ℕ) → OpenDone e date ss (openDayOf e date ss)
 unfolding openDayOf
-open-cases e mark ss =
-    by-when (OpenDone e mark ss) (wrongDayOpening e mark ss) (λ q. open-refused Opening) λ q.
-    let h = or-neither (wrongSeries ss) (upTo mark (e .day .date)) q in
+open-cases e date ss =
+    by-when (OpenDone e date ss) (wrongDayOpening e date ss) (λ q. open-refused Opening) λ q.
+    let h = or-neither (wrongSeries ss) (upTo date (e .day .date)) q in
     open-taken (h .0) (h .1)
 
 -- ─── Publish ───

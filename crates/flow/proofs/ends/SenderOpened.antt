@@ -17,7 +17,7 @@ use Rattle.flow.proofs.ends.SenderLookups.{Eight}
 
 -- What an opening leaves.
 abbrev pub openedSender : ℕ → List ℕ → Sender
-openedSender mark ss = sender (At mark) (length ss) (filled (newSeries 0) (map newSeries ss)) 0 (replicate mostSeries noPlace)
+openedSender date ss = sender (At date) (length ss) (filled (newSeries 0) (map newSeries ss)) 0 (replicate mostSeries noPlace)
 
 -- ─── Fresh ───
 
@@ -31,9 +31,9 @@ numbers-back : (ss : List ℕ) → map (λ (x : DaySeries). x .series) (map newS
 numbers-back [] = refl
 numbers-back (s ∷ ss) = ap (λ (l : List ℕ). s ∷ l) (numbers-back ss)
 
-pub opened-series : (mark : ℕ) (ss : List ℕ) → daySeries (openedSender mark ss) ≡ ss
+pub opened-series : (date : ℕ) (ss : List ℕ) → daySeries (openedSender date ss) ≡ ss
 unfolding daySeries
-opened-series mark ss =
+opened-series date ss =
     ap (map (λ (x : DaySeries). x .series)) (take-at (map newSeries ss) (replicate (mostSeries - length (map newSeries ss)) (newSeries 0)) (length ss) (length-map ss newSeries))
     ∙ numbers-back ss
 
@@ -44,22 +44,22 @@ none-published [] (suc n) (suc i) = none-published [] n i
 none-published (s ∷ ss) n zero = refl
 none-published (s ∷ ss) n (suc i) = none-published ss n i
 
-pub opened-published : (mark : ℕ) (ss : List ℕ) (s : ℕ) → publishedOf (openedSender mark ss) s ≡ 0
+pub opened-published : (date : ℕ) (ss : List ℕ) (s : ℕ) → publishedOf (openedSender date ss) s ≡ 0
 unfolding publishedOf
-opened-published mark ss s = none-published ss (mostSeries - length (map newSeries ss)) (indexOf s (daySeries (openedSender mark ss)))
+opened-published date ss s = none-published ss (mostSeries - length (map newSeries ss)) (indexOf s (daySeries (openedSender date ss)))
 
 no-login : (n i : ℕ) → getD (replicate n noPlace) i noPlace ≡ noPlace
 no-login zero i = refl
 no-login (suc n) zero = refl
 no-login (suc n) (suc i) = no-login n i
 
-pub opened-place : (mark : ℕ) (ss : List ℕ) (s : ℕ) → placeOf (openedSender mark ss) s ≡ noPlace
+pub opened-place : (date : ℕ) (ss : List ℕ) (s : ℕ) → placeOf (openedSender date ss) s ≡ noPlace
 unfolding placeOf
-opened-place mark ss s = no-login mostSeries (indexOf s (daySeries (openedSender mark ss)))
+opened-place date ss s = no-login mostSeries (indexOf s (daySeries (openedSender date ss)))
 
-pub opened-eight : (mark : ℕ) (ss : List ℕ) → wrongSeries ss ≡ false → Eight (openedSender mark ss)
+pub opened-eight : (date : ℕ) (ss : List ℕ) → wrongSeries ss ≡ false → Eight (openedSender date ss)
 unfolding wrongSeries
-opened-eight mark ss h =
+opened-eight date ss h =
     let a = or-neither (eqb (length ss) 0 || ltb mostSeries (length ss) || member 0 ss) (not (differing ss)) h in
     let b = or-neither (eqb (length ss) 0 || ltb mostSeries (length ss)) (member 0 ss) (a .0) in
     let c = or-neither (eqb (length ss) 0) (ltb mostSeries (length ss)) (b .0) in

@@ -42,7 +42,7 @@ line-rule w i zero l n q = absurd (omega arith)
 line-rule w i (suc j) l n q = let f : j ≡ n = omega arith in rw f at (was-before (w .receiving .previous) i j l)
 
 pub step-safe : (w : World) (e : Event) → AllGenuine (w .serving) → inRun w e ≡ true → SafeWorld w → SafeWorld (step w e)
-step-safe w (openSender mark ss) g t h = h
+step-safe w (openSender date ss) g t h = h
 step-safe w (publish s tid content) g t h = safe-published (w .serving .published) (w .serving .messages) (w .receiving) h _
 step-safe w (login s i content out) g t h = by-given SafeWorld w (getElem? (w .receiving .requests) i) h (λ p q. h)
 step-safe w (send s out) g t h = safe-sent (w .serving .published) (w .serving .messages) (w .receiving) h _

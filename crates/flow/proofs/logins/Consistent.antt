@@ -1,4 +1,4 @@
--- What holds of the marks and numbers of a receiving end after every list of calls: without a day nothing was received, and who is logged in
+-- What holds of the trade dates and numbers of a receiving end after every list of calls: without a day nothing was received, and who is logged in
 -- has a day. Assumes nothing.
 use Prim.Native.Nat.{ℕ}
 use mathlib.Core.Path.{_≡_, refl, ap, _∙_}
@@ -84,7 +84,7 @@ module _ (o : TradeDate) (c : Bool) (e : Receiver) (h : Consistent e) where
 -- ─── Over the world ───
 
 abbrev pub isConnect : Event → Bool
-isConnect (World.openSender mark ss) = false
+isConnect (World.openSender date ss) = false
 isConnect (World.publish s tid content) = false
 isConnect (World.login s i content out) = false
 isConnect (World.send s out) = false
@@ -106,15 +106,15 @@ turned t = record { hands = _; reports = _; turn = t }
 -- The day of an answer on the line is not above the serving end's.
 pub answer-upto : (o : TradeDate) (a : InSeries (List ℕ)) → GenuineAnswer o a → Upto (datedOf (a .what) .date) o
 answer-upto o a h =
-    let f : datedOf (a .what) .date ≡ At (h .mark) =
-    ap (λ (p : List ℕ). datedOf p .date) (h .bytes) ∙ ap (λ (x : Read). x .date) (login-back (At (h .mark)) (h .content) (h .shape)) in
-    rw f (upto-test (h .mark) o (h .not-later))
+    let f : datedOf (a .what) .date ≡ At (h .date) =
+    ap (λ (p : List ℕ). datedOf p .date) (h .bytes) ∙ ap (λ (x : Read). x .date) (login-back (At (h .date)) (h .content) (h .shape)) in
+    rw f (upto-test (h .date) o (h .not-later))
 
 abbrev Quiet : World → World → Type 0
 Quiet w v = Turned (w .serving .day) false (w .receiving .end) (v .receiving .end)
 
 pub step-turn : (w : World) → GenuineAnswers (w .serving) → (e : Event) → Turned (w .serving .day) (isConnect e) (w .receiving .end) (step w e .receiving .end)
-step-turn w h (World.openSender mark ss) = turned stays
+step-turn w h (World.openSender date ss) = turned stays
 step-turn w h (World.publish s tid content) = turned stays
 step-turn w h (World.login s i content out) = by-given (Quiet w) w (getElem? (w .receiving .requests) i) (turned stays) (λ p e. turned stays)
 step-turn w h (World.send s out) = turned stays

@@ -1,4 +1,4 @@
--- A packet of one series leaves every other series as it is: its mark and last, its login and chain, its part of the buffer. Assumes nothing.
+-- A packet of one series leaves every other series as it is: its trade date and last, its login and chain, its part of the buffer. Assumes nothing.
 use Prim.Native.Nat.{ℕ, _≤_}
 use mathlib.Core.Path.{_≡_, refl}
 use mathlib.Core.List.{List}

@@ -78,7 +78,7 @@ module _ {s t k d : ℕ} {c : List ℕ} {j : ℕ} {p : List ℕ} (at : PacketAt 
 
   -- Received by an end in any state, with any buffer.
   module _ (e : Receiver) (eight : Eight e) (buffer : List ℕ) where
-    -- Another series' part of the buffer, chain, mark and last stay.
+    -- Another series' part of the buffer, chain, trade date and last stay.
     pub take-elsewhere : (u : ℕ) → (u ≡ s → ⊥) → Elsewhere e buffer (receiveOf e p buffer .end) (receiveOf e p buffer .bytes) u
     unfolding headerFor
     take-elsewhere u n = took-elsewhere e eight (headerAt m c j inside) (At d) (spanAt m c j inside) (pieceAtPlace c j .bytes) buffer (receiveOf e p buffer) (took e buffer) u n

@@ -143,7 +143,7 @@ module _ (s d n : ℕ) (content : List ℕ) (ans : Answering content) where
     -- Each event but a connection.
     pub passes : SafeWorld w → AllGenuine (w .serving) → (e : Event) → inRun w e ≡ true → allParts r ≤ length (w .receiving .buffer) → step w e .receiving .restarts ≡ w .receiving .restarts
         → Passes w (step w e)
-    passes safe genuine (World.openSender mark ss) l room q = still _ refl (turned stays)
+    passes safe genuine (World.openSender date ss) l room q = still _ refl (turned stays)
     passes safe genuine (World.publish t tid c) l room q = still _ refl (turned stays)
     passes safe genuine (World.login t i c out) l room q = by-given (Passes w) w (getElem? (w .receiving .requests) i) (still w refl (turned stays)) (λ p e. still _ refl (turned stays))
     passes safe genuine (World.send t out) l room q = still _ refl (turned stays)
@@ -183,7 +183,7 @@ taken-grows true n = omega arith
 taken-grows false n = omega arith
 
 grows-step : (w : World) → Eight (w .receiving .end) → (e : Event) → Grows w (step w e)
-grows-step w h (World.openSender mark ss) = grows-same w _ refl (omega arith) refl
+grows-step w h (World.openSender date ss) = grows-same w _ refl (omega arith) refl
 grows-step w h (World.publish t tid c) = grows-same w _ refl (omega arith) refl
 grows-step w h (World.login t i c out) =
     by-given (Grows w) w (getElem? (w .receiving .requests) i) (grows-same w w refl (omega arith) refl) (λ p e. grows-same w _ refl (omega arith) refl)

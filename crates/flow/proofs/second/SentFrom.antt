@@ -85,7 +85,7 @@ module _ (v u : SenderSide) (h : ServedSide u) (s d k : ℕ) (z : SentFrom v u s
   unfolding sent-genuine
   sent-numbered x a b c =
       let n = next-entry (u .end) (u .log) (u .day) (u .published) h s a b in
-      (sent-genuine u h s x a b c, same-day (u .day) (n .mark) d (n .same-day) (z .day), sym (n .number) ∙ next-is)
+      (sent-genuine u h s x a b c, same-day (u .day) (n .date) d (n .same-day) (z .day), sym (n .number) ∙ next-is)
 
   pub from-sent : (x : List ℕ) → Seated (u .end) s → placeOf (u .end) s .next ≤ publishedOf (u .end) s →
       entryOf (u .end) (u .log) s (placeOf (u .end) s .next) ≡ some x →

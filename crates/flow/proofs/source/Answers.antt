@@ -31,14 +31,14 @@ use Rattle.flow.proofs.source.Kept.{move-rises}
 use Rattle.flow.proofs.source.Entries.{served-day}
 
 pub record GenuineAnswer (day : TradeDate) (a : InSeries (List ℕ)) : Type 0 where
-  pub mark : ℕ
+  pub date : ℕ
   pub content : List ℕ
-  pub bytes : a .what ≡ loginBytes (At mark) content
+  pub bytes : a .what ≡ loginBytes (At date) content
   pub shape : shaped content packetContent ≡ true
   pub widths : wrongWidth content ≡ false
   pub items : wrongItem content ≡ false
   pub counts : composed loginTid Down content ≡ true
-  pub not-later : upTo mark day ≡ true
+  pub not-later : upTo date day ≡ true
 
 abbrev pub GenuineAnswers : SenderSide → Type 0
 GenuineAnswers v = (i : ℕ) (a : InSeries (List ℕ)) → getElem? (v .answers) i ≡ some a → GenuineAnswer (v .day) a
@@ -48,7 +48,7 @@ answer-genuine : (v : SenderSide) → ServedSide v → (s : ℕ) (h : Header) (d
 answer-genuine v z s h date asked content out t =
     let d = served-day (v .end) (v .log) (v .day) (v .published) z s (t .served) in
     record {
-      mark = d .0;
+      date = d .0;
       content = content;
       bytes = ap (λ (x : TradeDate). loginBytes x content) (z .same-day ∙ d .1);
       shape = t .run;
@@ -61,17 +61,17 @@ answer-genuine v z s h date asked content out t =
 
 pub move-answers : (v u : SenderSide) → Move v u → ServedSide v → GenuineAnswers v → GenuineAnswers u
 move-answers v u stays h g = g
-move-answers v u (opens mark ss a b) h g = λ i x q.
+move-answers v u (opens date ss a b) h g = λ i x q.
     let y = g i x q in
     record {
-      mark = y .mark;
+      date = y .date;
       content = y .content;
       bytes = y .bytes;
       shape = y .shape;
       widths = y .widths;
       items = y .items;
       counts = y .counts;
-      not-later = move-rises v _ (opens mark ss a b) h (y .mark) (y .not-later);
+      not-later = move-rises v _ (opens date ss a b) h (y .date) (y .not-later);
     }
 move-answers v u (publishes s tid content t) h g = g
 move-answers v u (logs-in s p content out x y c e t) h g =

@@ -28,12 +28,12 @@ use Rattle.flow.proofs.common.Bools.{not-both}
 
 -- The message that is next: its day, its place there from 0 (its number less 1), and its entry.
 pub record NextEntry (e : Sender) (log : List ℕ) (day : TradeDate) (history : List (Dated Message)) (s : ℕ) : Type 0 where
-  pub mark : ℕ
+  pub date : ℕ
   pub place : ℕ
   pub message : Message
-  pub same-day : day ≡ At mark
+  pub same-day : day ≡ At date
   pub number : placeOf e s .next ≡ suc place
-  pub published : getElem? (of s mark history) place ≡ some message
+  pub published : getElem? (of s date history) place ≡ some message
   pub entry : entryOf e log s (placeOf e s .next) ≡ some (entryBytes s (message .tid) (placeOf e s .next) (message .content))
   pub shape : shaped (message .content) mostContent ≡ true
 
@@ -59,7 +59,7 @@ module _ (e : Sender) (log : List ℕ) (day : TradeDate) (history : List (Dated 
         let c = counted-day in
         let x = place-there (messagesOf s (onDay d history)) i (omega arith) in
         record {
-          mark = d;
+          date = d;
           place = i;
           message = x .0;
           same-day = same;

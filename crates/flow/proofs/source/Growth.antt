@@ -23,7 +23,7 @@ grown-along v u t g h = record {
 
 pub move-grows : (v u : SenderSide) → Move v u → Grown v u
 move-grows v u stays = grown-same v
-move-grows v u (opens mark ss a b) =
+move-grows v u (opens date ss a b) =
     record { published = extends-same (v .published); answers = extends-same (v .answers); messages = extends-same (v .messages) }
 move-grows v u (publishes s tid content t) =
     record { published = extends-append (v .published) _; answers = extends-same (v .answers); messages = extends-same (v .messages) }

@@ -31,10 +31,10 @@ use Rattle.flow.proofs.common.Rows.{by-given}
 -- ─── What a call that was taken leaves ───
 
 abbrev pub openedSide : SenderSide → ℕ → List ℕ → SenderSide
-openedSide v mark ss = record {
-  end = openedSender mark ss;
+openedSide v date ss = record {
+  end = openedSender date ss;
   log = v .log;
-  day = At mark;
+  day = At date;
   openings = suc (v .openings);
   published = v .published;
   answers = v .answers;
@@ -76,7 +76,7 @@ sentSide v s x = record {
 
 pub data Move (v : SenderSide) : SenderSide → Type 0 where
   stays : Move v v
-  opens : (mark : ℕ) (ss : List ℕ) → wrongSeries ss ≡ false → upTo mark (v .end .day .date) ≡ false → Move v (openedSide v mark ss)
+  opens : (date : ℕ) (ss : List ℕ) → wrongSeries ss ≡ false → upTo date (v .end .day .date) ≡ false → Move v (openedSide v date ss)
   publishes : (s tid : ℕ) (content : List ℕ) → PublishTests (v .end) s tid content (v .log) → Move v (publishedSide v s tid content)
   logs-in : (s : ℕ) (p content out : List ℕ) (h : Header) (x c : Span) → datedOf p .packet ≡ Accepted h x c →
       LoginTests (v .end) s h (datedOf p .date) (part p (c .start) (c .len)) content out →
@@ -87,12 +87,12 @@ pub data Move (v : SenderSide) : SenderSide → Type 0 where
 -- ─── Each call's, in any state and of any bytes ───
 
 module _ (v : SenderSide) where
-  pub open-move : (mark : ℕ) (ss : List ℕ) → Move v (afterOpen v mark (openDayOf (v .end) mark ss))
-  open-move mark ss = go (openDayOf (v .end) mark ss) (open-cases (v .end) mark ss)
+  pub open-move : (date : ℕ) (ss : List ℕ) → Move v (afterOpen v date (openDayOf (v .end) date ss))
+  open-move date ss = go (openDayOf (v .end) date ss) (open-cases (v .end) date ss)
     where
-      go : (r : Left Sender Opened) → OpenDone (v .end) mark ss r → Move v (afterOpen v mark r)
+      go : (r : Left Sender Opened) → OpenDone (v .end) date ss r → Move v (afterOpen v date r)
       go r (open-refused x) = stays
-      go r (open-taken a b) = opens mark ss a b
+      go r (open-taken a b) = opens date ss a b
 
   pub publish-move : (s tid : ℕ) (content : List ℕ) → Move v (afterPublish v s tid content (publishOf (v .end) s tid content (v .log)))
   publish-move s tid content = go (publishOf (v .end) s tid content (v .log)) (publish-cases (v .end) s tid content (v .log))
@@ -126,7 +126,7 @@ module _ (v : SenderSide) where
 -- ─── Each event's ───
 
 pub step-moves : (w : World) (e : Event) → Move (w .serving) (step w e .serving)
-step-moves w (openSender mark ss) = open-move (w .serving) mark ss
+step-moves w (openSender date ss) = open-move (w .serving) date ss
 step-moves w (publish s tid content) = publish-move (w .serving) s tid content
 step-moves w (login s i content out) =
     by-given (λ (u : World). Move (w .serving) (u .serving)) w (getElem? (w .receiving .requests) i) stays λ p q. login-move (w .serving) s p content out

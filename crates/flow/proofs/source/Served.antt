@@ -61,27 +61,27 @@ served-fresh log = record {
 module _ (e : Sender) (log : List ℕ) (day : TradeDate) (history : List (Dated Message)) (h : Served e log day history) where
   -- ─── Opened ───
 
-  pub served-opened : (mark : ℕ) (ss : List ℕ) → wrongSeries ss ≡ false → upTo mark (e .day .date) ≡ false →
-      Served (openedSender mark ss) log (At mark) history
-  served-opened mark ss a b =
-      let above : upTo mark day ≡ false = rw (h .same-day) at b in
-      let empty : onDay mark history ≡ [] = h .not-later mark above in
+  pub served-opened : (date : ℕ) (ss : List ℕ) → wrongSeries ss ≡ false → upTo date (e .day .date) ≡ false →
+      Served (openedSender date ss) log (At date) history
+  served-opened date ss a b =
+      let above : upTo date day ≡ false = rw (h .same-day) at b in
+      let empty : onDay date history ≡ [] = h .not-later date above in
       record {
-        eight = opened-eight mark ss a;
+        eight = opened-eight date ss a;
         same-day = refl;
         unopened = λ q. absurd (none-at q);
-        counted = λ s q. opened-published mark ss s ∙ ap (λ (l : List Pub). length (messagesOf s l)) (sym empty);
-        not-later = λ d q. h .not-later d (above-along d mark day above q);
+        counted = λ s q. opened-published date ss s ∙ ap (λ (l : List Pub). length (messagesOf s l)) (sym empty);
+        not-later = λ d q. h .not-later d (above-along d date day above q);
         few = h .few;
         holds = rw empty record { inside = omega arith; laid-out = refl; sound = tt };
         placed = λ s q l. absurd (outside s l);
       }
     where
-      none-at : At mark ≡ None → ⊥
+      none-at : At date ≡ None → ⊥
       none-at q = let z : _≡_ {A = ℕ} 0 1 = cc in omega arith
 
-      outside : (s : ℕ) → placeOf (openedSender mark ss) s .login ≡ true → ⊥
-      outside s l = not-both (placeOf (openedSender mark ss) s .login) l (ap (λ (p : Place). p .login) (opened-place mark ss s))
+      outside : (s : ℕ) → placeOf (openedSender date ss) s .login ≡ true → ⊥
+      outside s l = not-both (placeOf (openedSender date ss) s .login) l (ap (λ (p : Place). p .login) (opened-place date ss s))
 
   -- ─── The number that is sent next ───
 

@@ -39,7 +39,7 @@ pub data Got (e : Receiver) (t : ℕ) : ℕ → LiveSeries → List Message → 
   held : (tid n : ℕ) → Got e t (keptOf e t .last) (holding tid n) [] (keptOf e t .last ∷ [])
   handed : {k : ℕ} (x : Message) → k ≡ keptOf e t .last + 1 → Got e t k loggedIn (x ∷ []) (k ∷ [])
 
--- A call: the end behind it, what it handed on and what it reported. Nothing to mark and last (login and chain may go); a day not below the
+-- A call: the end behind it, what it handed on and what it reported. Nothing to trade date and last (login and chain may go); a day not below the
 -- kept one, with last 0 if it is a new one; or what Receive got. o is a day that no answer is above, c says whether it is a connection.
 pub data Turn (o : TradeDate) (c : Bool) (e : Receiver) : Receiver → List Message → List ℕ → Type 0 where
   stays : Turn o c e e [] []

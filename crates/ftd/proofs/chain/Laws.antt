@@ -34,7 +34,7 @@ use Rattle.ftd.proofs.write.Puts.{length-packet}
 use Rattle.ftd.proofs.chain.Pieces.{shaped-facts, framed-count, pieces-some}
 use Rattle.ftd.proofs.chain.Singles.{exact-shaped, one-piece}
 
--- ─── The mark ───
+-- ─── The trade date ───
 
 pub date-good : (d : TradeDate) → (goodTags (extensionBytes (tagsFor d)) ≡ true) × (length (extensionBytes (tagsFor d)) ≤ 6)
 unfolding goodTags runOf tag front lengthRight knownTags countDate
@@ -217,10 +217,10 @@ module _ (m : Message) (content : List ℕ) where
       rw (packet-at i h)
       (message-back (headerFor m (letterAt m content i) (pieceAtPlace content i .count)) (extensionBytes (tagsFor (m .date))) (pieceAtPlace content i .bytes) q (packet-fine limit i s h))
 
-  mark-back : (i : ℕ) (q : List ℕ) → i < length (packetsOf m content)
+  trade-date-back : (i : ℕ) (q : List ℕ) → i < length (packetsOf m content)
       → tradeDateOf (part (packetAtPlace m content i ++ q) 4 (length (extensionBytes (tagsFor (m .date))))) ≡ m .date
   unfolding packetFor
-  mark-back i q h =
+  trade-date-back i q h =
       rw (packet-at i h, message-places (headerFor m (letterAt m content i) (pieceAtPlace content i .count)) (extensionBytes (tagsFor (m .date))) (pieceAtPlace content i .bytes) q .0)
       (date-back (m .date))
 
@@ -319,7 +319,7 @@ chain-laws =
       as-many = as-many;
       few = few;
       read-back = read-back;
-      mark-back = mark-back;
+      trade-date-back = trade-date-back;
       piece-back = piece-back;
       dated-back = packet-dated;
       one-packet = packet-one;

@@ -1,4 +1,4 @@
--- What each way through the reading functions decides of the mark, over plain variables. Assumes nothing.
+-- What each way through the reading functions decides of the trade date, over plain variables. Assumes nothing.
 use Prim.Native.Nat.{ℕ, _+_, _-_, _<_, _≤_}
 use mathlib.Core.Path.{_≡_, refl, ap, _∙_}
 use mathlib.Core.List.{List}
@@ -17,59 +17,59 @@ use Rattle.ftd.specs.declared.packet.Packet.{Packet}
 use Rattle.ftd.specs.declared.packet.Packet.the-variants.{Short, Link, Skipped, Refused}
 use Rattle.ftd.specs.declared.packet.Dated.{Dated}
 use Rattle.ftd.proofs.packet.Verdicts.{whole-skipped, whole-broken, whole-link, whole-message, read-head-missing, read-long, read-body, read-rest-missing, read-there}
-use Rattle.ftd.proofs.tags.Walk.{run-broken, run-good, run-mark}
+use Rattle.ftd.proofs.tags.Walk.{run-broken, run-good, run-date}
 
 -- What bears none, and what bears one.
 module _ (w : Packet) (d : TradeDate) where
-  mark-none : (r : Packet) → r ≡ w → bearsDate r ≡ false → record { packet = r; date = None } ≡ withDate w d
+  date-none : (r : Packet) → r ≡ w → bearsDate r ≡ false → record { packet = r; date = None } ≡ withDate w d
   unfolding withDate
-  mark-none r e b = rw (← e, b)
+  date-none r e b = rw (← e, b)
 
-  mark-one : (r : Packet) (x : TradeDate) → r ≡ w → x ≡ d → bearsDate r ≡ true → record { packet = r; date = x } ≡ withDate w d
+  date-one : (r : Packet) (x : TradeDate) → r ≡ w → x ≡ d → bearsDate r ≡ true → record { packet = r; date = x } ≡ withDate w d
   unfolding withDate
-  mark-one r x e q b = rw (← e, b, q)
+  date-one r x e q b = rw (← e, b, q)
 
 module _ (p : List ℕ) (ext body : ℕ) (said : SaysLengths p ext body) (kind : ℕ) (a : kind ≡ kindOf p) (skipped : Bool) (s : skipped ≡ isSkipped kind body) where
   pub dated-skipped : skipped ≡ true
       → record { packet = Skipped kind (span 4 ext) (span (4 + ext) body); date = None } ≡ withDate (wholeOf p) (tradeDateOf (extensionOf p))
-  dated-skipped w = mark-none (wholeOf p) _ _ (whole-skipped p ext body said kind a skipped s w) refl
+  dated-skipped w = date-none (wholeOf p) _ _ (whole-skipped p ext body said kind a skipped s w) refl
 
   module _ (not-skipped : skipped ≡ false) (r : TagRun) (g : r ≡ tagRunOf (take (4 + ext - 4) (drop 4 p))) where
     pub dated-broken : r ≡ Broken → record { packet = Refused BrokenTag; date = None } ≡ withDate (wholeOf p) (tradeDateOf (extensionOf p))
-    dated-broken w = mark-none (wholeOf p) _ _ (whole-broken p ext body said kind a skipped s not-skipped _ refl (run-broken _ r g w)) refl
+    dated-broken w = date-none (wholeOf p) _ _ (whole-broken p ext body said kind a skipped s not-skipped _ refl (run-broken _ r g w)) refl
 
     module _ (x : TradeDate) (q : r ≡ Good x) where
-      mark-same : x ≡ tradeDateOf (extensionOf p)
+      date-same : x ≡ tradeDateOf (extensionOf p)
       unfolding extensionOf
-      mark-same =
+      date-same =
           let d : 4 + ext - 4 ≡ ext = omega arith in
-          run-mark _ r x g q ∙ ap (λ (n : ℕ). tradeDateOf (take n (drop 4 p))) (d ∙ said .0)
+          run-date _ r x g q ∙ ap (λ (n : ℕ). tradeDateOf (take n (drop 4 p))) (d ∙ said .0)
 
       pub dated-link : body ≡ 0 → record { packet = Link kind (span 4 ext); date = x } ≡ withDate (wholeOf p) (tradeDateOf (extensionOf p))
-      dated-link z = mark-one (wholeOf p) _ _ x (whole-link p ext body said kind a skipped s not-skipped _ refl (run-good _ r x g q) z) mark-same refl
+      dated-link z = date-one (wholeOf p) _ _ x (whole-link p ext body said kind a skipped s not-skipped _ refl (run-good _ r x g q) z) date-same refl
 
       pub dated-message : (body ≡ 0 → ⊥) → (k : Packet) → k ≡ messageOf p → (y : Dated) → y ≡ withDate k x → y ≡ withDate (wholeOf p) (tradeDateOf (extensionOf p))
-      dated-message z k m y e = rw (← (whole-message p ext body said kind a skipped s not-skipped _ refl (run-good _ r x g q) z k m), ← mark-same) e
+      dated-message z k m y e = rw (← (whole-message p ext body said kind a skipped s not-skipped _ refl (run-good _ r x g q) z k m), ← date-same) e
 
 module _ (p : List ℕ) where
   pub dated-head-missing : length p < 4 → record { packet = Short; date = None } ≡ datedOf p
   unfolding datedOf
-  dated-head-missing h = mark-none (readOf p) _ _ (read-head-missing p h) refl
+  dated-head-missing h = date-none (readOf p) _ _ (read-head-missing p h) refl
 
   module _ (four : 4 ≤ length p) (ext : ℕ) (x : ext ≡ extensionLength p) where
     pub dated-long : 127 < ext → record { packet = Refused LongExtension; date = None } ≡ datedOf p
     unfolding datedOf
-    dated-long w = mark-none (readOf p) _ _ (read-long p four ext x w) refl
+    dated-long w = date-none (readOf p) _ _ (read-long p four ext x w) refl
 
     module _ (fits : ext ≤ 127) (kind body n : ℕ) (a : kind ≡ kindOf p) (m : n ≡ bodyLength p) (b : body ≡ n) (wrong : Bool) (q : wrong ≡ wrongBody kind body) where
       pub dated-body : wrong ≡ true → record { packet = Refused BodyLength; date = None } ≡ datedOf p
       unfolding datedOf
-      dated-body w = mark-none (readOf p) _ _ (read-body p four ext x fits kind body n a m b wrong q w) refl
+      dated-body w = date-none (readOf p) _ _ (read-body p four ext x fits kind body n a m b wrong q w) refl
 
       module _ (right : wrong ≡ false) where
         pub dated-rest-missing : length p < 4 + ext + body → record { packet = Short; date = None } ≡ datedOf p
         unfolding datedOf
-        dated-rest-missing w = mark-none (readOf p) _ _ (read-rest-missing p four ext x fits kind body n a m b wrong q right w) refl
+        dated-rest-missing w = date-none (readOf p) _ _ (read-rest-missing p four ext x fits kind body n a m b wrong q right w) refl
 
         pub dated-there : 4 + ext + body ≤ length p → (r : Dated) → r ≡ withDate (wholeOf p) (tradeDateOf (extensionOf p)) → r ≡ datedOf p
         unfolding datedOf

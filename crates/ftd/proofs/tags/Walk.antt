@@ -1,4 +1,4 @@
--- One turn of the walk that checks the tags and finds the mark, over plain variables. Assumes nothing.
+-- One turn of the walk that checks the tags and finds the trade date, over plain variables. Assumes nothing.
 use Prim.Native.Nat.{ℕ, _+_, _-_, _<_, _≤_}
 use mathlib.Core.Path.{_≡_, refl, sym, ap, _∙_}
 use mathlib.Core.List.{List}
@@ -81,13 +81,13 @@ module _ (l : List ℕ) (at n : ℕ) (e : n ≡ front tag (drop at l)) where
       run-wrong z r g w = rw (← (tags-wrong l at n e k _ inv z r g w))
 
       module _ (z : n ≡ 0) (h : length l ≤ at) where
-        pub run-unmarked : k ≡ 0 → Good None ≡ tagRunOf l
+        pub run-undated : k ≡ 0 → Good None ≡ tagRunOf l
         unfolding tagRunOf tradeDateOf
-        run-unmarked o = rw (← (tags-end l at n e k _ inv z h), o, ← (find-over l at n e 5 _ (s .none o) z))
+        run-undated o = rw (← (tags-end l at n e k _ inv z h), o, ← (find-over l at n e 5 _ (s .none o) z))
 
-        pub run-marked : (v : ℕ) → k ≡ 1 → v ≡ be32Of l place → Good (At v) ≡ tagRunOf l
+        pub run-dated : (v : ℕ) → k ≡ 1 → v ≡ be32Of l place → Good (At v) ≡ tagRunOf l
         unfolding tagRunOf tradeDateOf
-        run-marked v o w = rw (← (tags-end l at n e k _ inv z h), o, s .one o .0, w)
+        run-dated v o w = rw (← (tags-end l at n e k _ inv z h), o, s .one o .0, w)
 
         pub run-twice : (k ≡ 0 → ⊥) → (k ≡ 1 → ⊥) → Broken ≡ tagRunOf l
         unfolding tagRunOf
@@ -101,9 +101,9 @@ abbrev isGood : TagRun → Bool
 isGood Broken = false
 isGood (Good d) = true
 
-abbrev markIn : TagRun → TradeDate
-markIn Broken = None
-markIn (Good d) = d
+abbrev dateIn : TagRun → TradeDate
+dateIn Broken = None
+dateIn (Good d) = d
 
 module _ (l : List ℕ) where
   good-is : isGood (tagRunOf l) ≡ goodTags l
@@ -121,6 +121,6 @@ module _ (l : List ℕ) where
     pub run-good : goodTags l ≡ true
     run-good = sym good-is ∙ ap isGood (sym q ∙ w)
 
-    pub run-mark : d ≡ tradeDateOf l
+    pub run-date : d ≡ tradeDateOf l
     unfolding tagRunOf
-    run-mark = ap markIn (sym w ∙ q) ∙ rw run-good
+    run-date = ap dateIn (sym w ∙ q) ∙ rw run-good

@@ -368,7 +368,7 @@ module _ (h : Header) (extension content : List ℕ) where
         part-append m q (4 + length extension + 16) (length content) (omega arith) ∙ content-part,
       )
 
-  -- With its mark.
+  -- With its trade date.
   extension-said : (q : List ℕ) → extensionLength (m ++ q) ≡ length extension
   unfolding messageBytes packetBytes
   extension-said q = refl

@@ -35,7 +35,7 @@ letterAt m content i = chainAt (eqb i 0) (eqb (i + 1) (length (packetsOf m conte
 pub record ChainLaws : Type 0 where
   -- An extension made of tags is a run of just these tags.
   pub tags-back : (ts : List Tag) → runOf tag (extensionBytes ts) ≡ record { entries = map tagBytes ts; rest = [] }
-  -- The tags that an end writes pass the check of tags, and have the mark.
+  -- The tags that an end writes pass the check of tags, and have the trade date.
   pub tags-good : (d : TradeDate) → goodTags (extensionBytes (tagsFor d)) ≡ true
   pub tags-date : (d : TradeDate) → tradeDateOf (extensionBytes (tagsFor d)) ≡ d
   -- Content that has shape is as many whole fields as it has fields; what one packet holds is one piece.
@@ -50,16 +50,16 @@ pub record ChainLaws : Type 0 where
   pub as-many : (m : Message) (content : List ℕ) → (length (packetsOf m content) ≡ length (piecesOf content)) × (0 < length (packetsOf m content))
   -- Two neighbours have more than 4,080 bytes together, so that a message has at most 17.
   pub few : (content : List ℕ) → length content ≤ mostContent → length (piecesOf content) ≤ 17
-  -- Each packet, with anything behind it, is read back: TID, series and number of the message, the letter of its place, its piece and the mark.
+  -- Each packet, with anything behind it, is read back: TID, series and number of the message, the letter of its place, its piece and the trade date.
   pub read-back : (m : Message) (content : List ℕ) (limit i : ℕ) (q : List ℕ) → shaped content limit ≡ true → i < length (packetsOf m content)
       → readOf (packetAtPlace m content i ++ q)
       ≡ Accepted (headerFor m (letterAt m content i) (pieceAtPlace content i .count)) (span 4 (length (extensionBytes (tagsFor (m .date)))))
       (span (4 + length (extensionBytes (tagsFor (m .date))) + 16) (length (pieceAtPlace content i .bytes)))
-  pub mark-back : (m : Message) (content : List ℕ) (i : ℕ) (q : List ℕ) → i < length (packetsOf m content)
+  pub trade-date-back : (m : Message) (content : List ℕ) (i : ℕ) (q : List ℕ) → i < length (packetsOf m content)
       → tradeDateOf (part (packetAtPlace m content i ++ q) 4 (length (extensionBytes (tagsFor (m .date))))) ≡ m .date
   pub piece-back : (m : Message) (content : List ℕ) (i : ℕ) (q : List ℕ) → i < length (packetsOf m content)
       → part (packetAtPlace m content i ++ q) (4 + length (extensionBytes (tagsFor (m .date))) + 16) (length (pieceAtPlace content i .bytes)) ≡ pieceAtPlace content i .bytes
-  -- The same with the mark, as one answer; and each is one packet, and a message packet.
+  -- The same with the trade date, as one answer; and each is one packet, and a message packet.
   pub dated-back : (m : Message) (content : List ℕ) (limit i : ℕ) (q : List ℕ) → shaped content limit ≡ true → i < length (packetsOf m content)
       → datedOf (packetAtPlace m content i ++ q)
       ≡ record {

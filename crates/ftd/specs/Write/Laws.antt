@@ -29,7 +29,7 @@ pub record WriteLaws : Type 0 where
       → readOf (messageBytes h extension content ++ q) ≡ Message h (span 4 (length extension)) (span (4 + length extension + 16) (length content))
   pub message-places : (h : Header) (extension content q : List ℕ) → (part (messageBytes h extension content ++ q) 4 (length extension) ≡ extension)
       × (part (messageBytes h extension content ++ q) (4 + length extension + 16) (length content) ≡ content)
-  -- The same with the mark, as one answer; and what was written is one packet, and a message packet.
+  -- The same with the trade date, as one answer; and what was written is one packet, and a message packet.
   pub dated-back : (h : Header) (extension content q : List ℕ) → messageVerdict h extension content ≡ fine
       → datedOf (messageBytes h extension content ++ q)
       ≡ record { packet = Message h (span 4 (length extension)) (span (4 + length extension + 16) (length content)); date = tradeDateOf extension }

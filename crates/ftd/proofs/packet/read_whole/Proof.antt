@@ -38,8 +38,8 @@ returns-2 c = search (needs, dated-link)
 read-message-requires : tie.Need-read-message-requires
 read-message-requires c κs = search (needs, body-least)
 
-with-mark-requires : tie.Need-with-mark-requires
-with-mark-requires c κs = search needs
+with-date-requires : tie.Need-with-date-requires
+with-date-requires c κs = search needs
 
 returns-3 : tie.Need-returns-3
 returns-3 c = search (needs, dated-broken)
@@ -62,6 +62,6 @@ read-whole-spec =
     enum-known-date
     returns-2
     read-message-requires
-    with-mark-requires
+    with-date-requires
     returns-3
     returns-4)

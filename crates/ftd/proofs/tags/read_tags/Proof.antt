@@ -7,7 +7,7 @@ use lib.ListN.{length, drop}
 use Rattle.ftd.specs.Runs.{runOf}
 use Rattle.ftd.specs.Tags.{tag, goodRun, goodTags}
 use Rattle.ftd.proofs.tags.Turns.{tag-head, tags-turn}
-use Rattle.ftd.proofs.tags.Walk.{Seen, seen-none, seen-room, seen-turn, run-stop, run-unmarked, run-marked, run-twice, run-wrong}
+use Rattle.ftd.proofs.tags.Walk.{Seen, seen-none, seen-room, seen-turn, run-stop, run-undated, run-dated, run-twice, run-wrong}
 use Rattle.ftd.proofs.tags.read_tags.Statement.{statement}
 use Rattle.ftd.proofs.tags.read_tags.Tie as tie
 
@@ -29,13 +29,13 @@ returns : tie.Need-returns Inv-loop μ-loop
 returns c = search (needs, run-stop)
 
 returns-2 : tie.Need-returns-2 Inv-loop μ-loop
-returns-2 c = search (needs, run-unmarked)
+returns-2 c = search (needs, run-undated)
 
 be32-requires : tie.Need-be32-requires Inv-loop μ-loop
 be32-requires c κs = search (needs, seen-room)
 
 returns-3 : tie.Need-returns-3 Inv-loop μ-loop
-returns-3 c = search (needs, run-marked)
+returns-3 c = search (needs, run-dated)
 
 returns-4 : tie.Need-returns-4 Inv-loop μ-loop
 returns-4 c = search (needs, run-twice)
@@ -60,11 +60,11 @@ shared-slice-read-count-date c = search needs
 count-date-requires : tie.Need-count-date-requires Inv-loop μ-loop
 count-date-requires c κs = search needs
 
-shared-slice-read-mark-place : tie.Need-shared-slice-read-mark-place Inv-loop μ-loop
-shared-slice-read-mark-place c = search needs
+shared-slice-read-date-place : tie.Need-shared-slice-read-date-place Inv-loop μ-loop
+shared-slice-read-date-place c = search needs
 
-mark-place-requires : tie.Need-mark-place-requires Inv-loop μ-loop
-mark-place-requires c κs = search needs
+date-place-requires : tie.Need-date-place-requires Inv-loop μ-loop
+date-place-requires c κs = search needs
 
 add-at : tie.Need-add-at Inv-loop μ-loop
 add-at c = search needs
@@ -84,7 +84,7 @@ loop-again c =
       search needs,
       tags-turn _ _ _ (g .tag-size .ensures .0) _ _ (i .2) _ (f .if1 .left) _ (r .length-right .ensures) (t .if5 .taken) (d .count-date .ensures .0),
       seen-turn _ _ _ (g .tag-size .ensures .0) _ _ (i .3) _ _ (f .if1 .left) (g .tag-size .ensures .1) _ (r .length-right .ensures) (t .if5 .taken)
-          (d .count-date .ensures .0) (c .mark-place .ensures),
+          (d .count-date .ensures .0) (c .date-place .ensures),
     )
 
 returns-5 : tie.Need-returns-5 Inv-loop μ-loop
@@ -109,8 +109,8 @@ read-tags-spec =
     length-right-requires
     shared-slice-read-count-date
     count-date-requires
-    shared-slice-read-mark-place
-    mark-place-requires
+    shared-slice-read-date-place
+    date-place-requires
     add-at
     loop-less
     loop-again

@@ -1,9 +1,9 @@
--- `tags::mark_place` meets its contract. Assumes nothing.
+-- `tags::date_place` meets its contract. Assumes nothing.
 use borrow.Author.Needs.{needs}
 use Rattle.ftd.specs.Tags.Helpers.{datePlace}
 use Rattle.ftd.proofs.Tests.{tests}
-use Rattle.ftd.proofs.tags.mark_place.Statement.{statement}
-use Rattle.ftd.proofs.tags.mark_place.Tie as tie
+use Rattle.ftd.proofs.tags.date_place.Statement.{statement}
+use Rattle.ftd.proofs.tags.date_place.Tie as tie
 
 add-result : tie.Need-add-result
 add-result c = search needs
@@ -16,5 +16,5 @@ returns-2 : tie.Need-returns-2
 unfolding datePlace
 returns-2 c = search tests
 
-pub mark-place-spec : {M : Type 1} → statement M
-mark-place-spec = tie.close (tie.spec add-result returns returns-2)
+pub date-place-spec : {M : Type 1} → statement M
+date-place-spec = tie.close (tie.spec add-result returns returns-2)
