@@ -40,6 +40,12 @@ def text(*path):
         return f.read()
 
 
+def kind_names():
+    """The kinds' names, by number."""
+    found = re.findall(r"^(\w+Kind) = (\d+)$", text("specs", "Table.antt"), re.M)
+    return [name for name, _ in sorted(found, key=lambda f: int(f[1]))]
+
+
 def compare(std):
     rows, places = tables(std)
     fails = 0
@@ -53,8 +59,10 @@ def compare(std):
             print("    %s" % next(((a, b) for a, b in zip(paper, here) if a != b), (len(paper), len(here))).__repr__())
 
     spec = text("specs", "Table.antt")
-    found = re.findall(r"row (\d+) (\d+) (\d+) (\d+) +-- (\S+) (\S+)", spec)
-    same("rows of Appendix D, with item and type", rows, [tuple(map(int, r[:4])) + r[4:] for r in found])
+    kinds = kind_names()
+    found = re.findall(r"row (\d+) (\w+) (\d+) (\d+) +-- (\S+) (\S+)", spec)
+    same("rows of Appendix D, with item and type", rows,
+         [(int(r[0]), kinds.index(r[1]), int(r[2]), int(r[3])) + r[4:] for r in found])
     heads = re.findall(r"-- (\w+), FID 0x([0-9A-F]{4}): (\d+) rows, (\d+) bytes", spec)
     same("fields, with name, rows and width", [(f["name"], f["fid"], len(f["rows"]), f["width"]) for f in std["fields"]],
          [(h[0], int(h[1], 16), int(h[2]), int(h[3])) for h in heads])
@@ -83,12 +91,13 @@ def main(args):
     if args[1:] == ["--rows"]:
         head = "    "
         names = {f["fid"]: f for f in std["fields"]}
+        kinds = kind_names()
         last = None
         for fid, kind, width, scale, item, kind_name in rows:
             if fid != last:
                 f = names[fid]
                 print("    -- %s, FID 0x%04X: %d rows, %d bytes" % (f["name"], fid, len(f["rows"]), f["width"]))
-            print("%srow %d %d %d %d  -- %s %s" % (head, fid, kind, width, scale, item, kind_name))
+            print("%srow %d %s %d %d  -- %s %s" % (head, fid, kinds[kind], width, scale, item, kind_name))
             head, last = "    ∷ ", fid
         print("    ∷ []")
     elif args[1:] == ["--places"]:

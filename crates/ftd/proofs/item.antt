@@ -2,3 +2,4 @@
 pub mod Laws
 pub mod Readings
 pub mod Writings
+pub mod Fields

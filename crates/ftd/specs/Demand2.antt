@@ -5,6 +5,7 @@ use Rattle.ftd.specs.Write.Laws.{WriteLaws}
 use Rattle.ftd.specs.Chain.Laws.{ChainLaws}
 use Rattle.ftd.specs.Fields.Laws.{FieldLaws}
 use Rattle.ftd.specs.Item.{ItemLaws}
+use Rattle.ftd.specs.Item.Fields.{KnownLaws}
 use Rattle.ftd.specs.Values.Laws.{ValueLaws}
 
 pub record Demand2 : Type 0 where
@@ -18,3 +19,5 @@ pub record Demand2 : Type 0 where
   -- Items, by row of the table: accepted exactly if they have a value, and both round trips; by type, the parts of it.
   pub items : ItemLaws
   pub values : ValueLaws
+  -- Known fields, as lists of their items' values: accepted exactly if each item has one, and both round trips.
+  pub known : KnownLaws

@@ -1,16 +1,17 @@
 -- The value of an item (01, "Typed items"): by its row of the table, what its bytes say, the bytes of a value, and which values fit.
+pub mod Fields
 use Prim.Native.Nat.{ℕ, _+_, _<_}
 use mathlib.Core.Path.{_≡_}
 use mathlib.Core.Logic.{_↔_}
 use mathlib.Core.Option.{Option, none, some}
 use mathlib.Core.List.{List, [], _∷_}
 use mathlib.Core.Bool.{Bool, true, false, cond, _&&_}
-use lib.ListN.{length}
+use lib.ListN.{length, take}
 use lib.Dec.{leb, ltb, eqb}
 use Rattle.ftd.specs.Bytes.{part, Bytes, bytes16, bytes32}
-use Rattle.ftd.specs.Table.{Row, row, table}
+use Rattle.ftd.specs.Table.{wordKind, intKind, stringKind, numberKind, floatKind, dateKind, Row, row, table}
 use Rattle.ftd.specs.Table.Rule.{rowAt}
-use Rattle.ftd.specs.Values.{every, isText, isValue}
+use Rattle.ftd.specs.Values.{isValue}
 use Rattle.ftd.specs.Whole.{charFits, charValue, wordValue, intValue}
 use Rattle.ftd.specs.Signed.{numberValue, floatValue}
 use Rattle.ftd.specs.Texts.{textValue, textBytes, textFits}
@@ -25,6 +26,8 @@ use Rattle.ftd.specs.declared.whole.Whole.{Whole}
 use Rattle.ftd.specs.declared.whole.Whole.the-variants.{NoValue as NoWhole, Value as WholeValue}
 use Rattle.ftd.specs.declared.signed.Signed.{Signed}
 use Rattle.ftd.specs.declared.signed.Signed.the-variants.{NoValue as NoSigned, Value as SignedValue}
+use Rattle.ftd.specs.declared.texts.Text.{Text as StringValue}
+use Rattle.ftd.specs.declared.texts.Text.the-variants.{NoValue as NoText, Value as TextValue}
 use Rattle.ftd.specs.declared.dates.Date.{Date as DateValue}
 use Rattle.ftd.specs.declared.dates.Date.the-variants.{NoDate, Unused, Day}
 
@@ -53,18 +56,19 @@ dateAs NoDate = none
 dateAs Unused = some (date Unused)
 dateAs (Day year month day) = some (date (Day year month day))
 
-abbrev pub textAs : List ℕ → Option ItemValue
-textAs l = cond (every isText l) (some (text (textValue l))) none
+abbrev pub textAs : List ℕ → StringValue → Option ItemValue
+textAs l NoText = none
+textAs l (TextValue len) = some (text (take len l))
 
 -- By kind and decimals.
 unfoldable pub typedValue : ℕ → ℕ → List ℕ → Option ItemValue
 typedValue kind scale l =
-    cond (eqb kind 1) (wholeAs word (wordValue l))
-    (cond (eqb kind 2) (wholeAs int (intValue l))
-    (cond (eqb kind 3) (textAs l)
-    (cond (eqb kind 4) (signedAs number (numberValue l))
-    (cond (eqb kind 5) (signedAs float (floatValue scale l))
-    (cond (eqb kind 6) (dateAs (dateValue l))
+    cond (eqb kind wordKind) (wholeAs word (wordValue l))
+    (cond (eqb kind intKind) (wholeAs int (intValue l))
+    (cond (eqb kind stringKind) (textAs l (textValue l))
+    (cond (eqb kind numberKind) (signedAs number (numberValue l))
+    (cond (eqb kind floatKind) (signedAs float (floatValue scale l))
+    (cond (eqb kind dateKind) (dateAs (dateValue l))
     (wholeAs char (charValue kind l)))))))
 
 -- Of a row. Bytes of another length than its width are no value of it.
@@ -86,12 +90,12 @@ valueBytes r (date d) = dateBytes d
 -- It is a value of the row's type, and the row's width holds it.
 unfoldable pub fits : Row → ItemValue → Bool
 fits r (char b) = ltb b 256 && charFits (r .kind) b
-fits r (word x) = eqb (r .kind) 1 && ltb x 65536
-fits r (int x) = eqb (r .kind) 2 && ltb x 4294967296
-fits r (text t) = eqb (r .kind) 3 && textFits (r .width) t
-fits r (number negative units) = eqb (r .kind) 4 && numberFits (r .width) negative units
-fits r (float negative units) = eqb (r .kind) 5 && floatFits (r .scale) (r .width) negative units
-fits r (date d) = eqb (r .kind) 6 && dateFits d
+fits r (word x) = eqb (r .kind) wordKind && ltb x 65536
+fits r (int x) = eqb (r .kind) intKind && ltb x 4294967296
+fits r (text t) = eqb (r .kind) stringKind && textFits (r .width) t
+fits r (number negative units) = eqb (r .kind) numberKind && numberFits (r .width) negative units
+fits r (float negative units) = eqb (r .kind) floatKind && floatFits (r .scale) (r .width) negative units
+fits r (date d) = eqb (r .kind) dateKind && dateFits d
 
 -- ─── An item of a field ───
 
@@ -127,6 +131,18 @@ takenAs (Text start len) t = some (text t)
 takenAs (Number negative units) t = some (number negative units)
 takenAs (Float negative units) t = some (float negative units)
 takenAs (Date d) t = some (date d)
+
+-- It is of the item's type; a Char of any kind.
+abbrev pub ofKind : ℕ → FieldItem → Bool
+ofKind kind NoItem = false
+ofKind kind NoValue = false
+ofKind kind (Char b) = true
+ofKind kind (Word x) = eqb kind wordKind
+ofKind kind (Int x) = eqb kind intKind
+ofKind kind (Text start len) = eqb kind stringKind
+ofKind kind (Number negative units) = eqb kind numberKind
+ofKind kind (Float negative units) = eqb kind floatKind
+ofKind kind (Date d) = eqb kind dateKind
 
 -- Whether it fits an item's place, and its bytes there. Nothing fits where there is no such item, or no value.
 abbrev pub fitsAt : ℕ → ItemPlace → Option ItemValue → Bool

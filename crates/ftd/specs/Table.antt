@@ -7,19 +7,103 @@ use mathlib.Core.Bool.{Bool, cond}
 use lib.ListN.{length}
 use lib.Dec.{ltb, eqb}
 
+-- ─── Kinds of items' types ───
+
+-- Table 6: Char without an enumeration, Word, Int, String, Number, Float; and Date, which is FTDDate of Appendix B alone.
+abbrev pub charKind : ℕ
+charKind = 0
+
+abbrev pub wordKind : ℕ
+wordKind = 1
+
+abbrev pub intKind : ℕ
+intKind = 2
+
+abbrev pub stringKind : ℕ
+stringKind = 3
+
+abbrev pub numberKind : ℕ
+numberKind = 4
+
+abbrev pub floatKind : ℕ
+floatKind = 5
+
+abbrev pub dateKind : ℕ
+dateKind = 6
+
+-- Char with an enumeration of Appendix B, by the values that it lists. A kind has the name of its first type.
+-- 0 1 2: FTDActionFlag, FTDDataFlowFlag, FTDMatchFlag, FTDTradeRight
+abbrev pub actionFlagKind : ℕ
+actionFlagKind = 7
+
+-- 0 1: FTDBoolFlag, FTDClientType, FTDDirection, FTDNewsUrgency, FTDPubStyle, FTDVolumeType
+abbrev pub boolFlagKind : ℕ
+boolFlagKind = 8
+
+-- 0: FTDForceExitCode, FTDInstrumentType, FTDInstrumentVersion, FTDStopCode, FTDTradeType, FTDUserStatus, FTDUserType
+abbrev pub forceExitCodeKind : ℕ
+forceExitCodeKind = 9
+
+-- 1 3: FTDHedgeFlag
+abbrev pub hedgeFlagKind : ℕ
+hedgeFlagKind = 10
+
+-- 0 1 2 3 4: FTDInstrumentStatus, FTDMarketStatus, FTDParticipantType
+abbrev pub instrumentStatusKind : ℕ
+instrumentStatusKind = 11
+
+-- 1 2 3 4 5: FTDMatchCondition
+abbrev pub matchConditionKind : ℕ
+matchConditionKind = 12
+
+-- 1 2 3 4 5 6 7: FTDMatchSession
+abbrev pub matchSessionKind : ℕ
+matchSessionKind = 13
+
+-- 0 1 2 3: FTDOffsetFlag
+abbrev pub offsetFlagKind : ℕ
+offsetFlagKind = 14
+
+-- 0 1 2 3 4 5: FTDOrderStatus
+abbrev pub orderStatusKind : ℕ
+orderStatusKind = 15
+
+-- 0 1 2 3 4 5 6: FTDOrderType
+abbrev pub orderTypeKind : ℕ
+orderTypeKind = 16
+
+-- All, in order.
+abbrev pub kinds : List ℕ
+kinds =
+    charKind
+    ∷ wordKind
+    ∷ intKind
+    ∷ stringKind
+    ∷ numberKind
+    ∷ floatKind
+    ∷ dateKind
+    ∷ actionFlagKind
+    ∷ boolFlagKind
+    ∷ forceExitCodeKind
+    ∷ hedgeFlagKind
+    ∷ instrumentStatusKind
+    ∷ matchConditionKind
+    ∷ matchSessionKind
+    ∷ offsetFlagKind
+    ∷ orderStatusKind
+    ∷ orderTypeKind
+    ∷ []
+
+-- The first and the last of those with an enumeration.
+abbrev pub firstListed : ℕ
+firstListed = actionFlagKind
+
+abbrev pub lastListed : ℕ
+lastListed = orderTypeKind
+
+-- ─── Rows ───
+
 -- A row: the field (FID), the kind of the item's type, its width in bytes, and its decimals (Float only, else 0).
--- Kinds: 0 Char without an enumeration, 1 Word, 2 Int, 3 String, 4 Number, 5 Float, 6 Date (FTDDate alone), and Char with an
--- enumeration of Appendix B:
---  7  0 1 2           FTDActionFlag, FTDDataFlowFlag, FTDMatchFlag, FTDTradeRight
---  8  0 1             FTDBoolFlag, FTDClientType, FTDDirection, FTDNewsUrgency, FTDPubStyle, FTDVolumeType
---  9  0               FTDForceExitCode, FTDInstrumentType, FTDInstrumentVersion, FTDStopCode, FTDTradeType, FTDUserStatus, FTDUserType
--- 10  1 3             FTDHedgeFlag
--- 11  0 1 2 3 4       FTDInstrumentStatus, FTDMarketStatus, FTDParticipantType
--- 12  1 2 3 4 5       FTDMatchCondition
--- 13  1 2 3 4 5 6 7   FTDMatchSession
--- 14  0 1 2 3         FTDOffsetFlag
--- 15  0 1 2 3 4 5     FTDOrderStatus
--- 16  0 1 2 3 4 5 6   FTDOrderType
 pub record Row : Type 0 where
   pub fid : ℕ
   pub kind : ℕ
@@ -29,7 +113,7 @@ pub record Row : Type 0 where
 abbrev pub row : ℕ → ℕ → ℕ → ℕ → Row
 row f k w s = record { fid = f; kind = k; width = w; scale = s }
 
--- The values that the enumerations of kinds 7 to 16 list, as Appendix B prints them.
+-- The values that the enumerations list, as Appendix B prints them, from the first listed kind to the last.
 unfoldable pub enumerations : List (List ℕ)
 enumerations =
     (0 ∷ 1 ∷ 2 ∷ [])
@@ -62,430 +146,430 @@ total (r ∷ rs) = r .width + total rs
 unfoldable pub table : List Row
 table =
     -- BulletinField, FID 0x0001: 8 rows, 822 bytes
-    row 1 3 3 0  -- NewsType FTDNewsType
-    ∷ row 1 8 1 0  -- NewsUrgency FTDNewsUrgency
-    ∷ row 1 3 8 0  -- SendTime FTDTime
-    ∷ row 1 3 80 0  -- Abstract FTDStringType<80>
-    ∷ row 1 3 20 0  -- ComeFrom FTDStringType<20>
-    ∷ row 1 3 10 0  -- MarketId FTDMarketId
-    ∷ row 1 3 500 0  -- Content FTDStringType<500>
-    ∷ row 1 3 200 0  -- URLLink FTDStringType<200>
+    row 1 stringKind 3 0  -- NewsType FTDNewsType
+    ∷ row 1 boolFlagKind 1 0  -- NewsUrgency FTDNewsUrgency
+    ∷ row 1 stringKind 8 0  -- SendTime FTDTime
+    ∷ row 1 stringKind 80 0  -- Abstract FTDStringType<80>
+    ∷ row 1 stringKind 20 0  -- ComeFrom FTDStringType<20>
+    ∷ row 1 stringKind 10 0  -- MarketId FTDMarketId
+    ∷ row 1 stringKind 500 0  -- Content FTDStringType<500>
+    ∷ row 1 stringKind 200 0  -- URLLink FTDStringType<200>
     -- ClientField, FID 0x0002: 5 rows, 98 bytes
-    ∷ row 2 3 8 0  -- ClientId FTDClientId
-    ∷ row 2 3 8 0  -- ParticipantId FTDParticipantId
-    ∷ row 2 3 80 0  -- ClientName FTDName
-    ∷ row 2 8 1 0  -- ClientType FTDClientType
-    ∷ row 2 7 1 0  -- TradeRights FTDTradeRight
+    ∷ row 2 stringKind 8 0  -- ClientId FTDClientId
+    ∷ row 2 stringKind 8 0  -- ParticipantId FTDParticipantId
+    ∷ row 2 stringKind 80 0  -- ClientName FTDName
+    ∷ row 2 boolFlagKind 1 0  -- ClientType FTDClientType
+    ∷ row 2 actionFlagKind 1 0  -- TradeRights FTDTradeRight
     -- DepositField, FID 0x0003: 27 rows, 353 bytes
-    ∷ row 3 3 8 0  -- ParticipantId FTDParticipantId
-    ∷ row 3 11 1 0  -- ParticipantType FTDParticipantType
-    ∷ row 3 6 8 0  -- TradeDate FTDDate
-    ∷ row 3 5 14 2  -- InitMargin FTDValue
-    ∷ row 3 5 14 2  -- BuySpecOpenUsedMargin FTDValue
-    ∷ row 3 5 14 2  -- BuyHedgeOpenUsedMargin FTDValue
-    ∷ row 3 5 14 2  -- SellSpecOpenUsedMargin FTDValue
-    ∷ row 3 5 14 2  -- SellHedgeOpenUsedMargin FTDValue
-    ∷ row 3 5 14 2  -- BuySpecOffsetProfit FTDValue
-    ∷ row 3 5 14 2  -- BuyHedgeOffsetProfit FTDValue
-    ∷ row 3 5 14 2  -- SellSpecOffsetProfit FTDValue
-    ∷ row 3 5 14 2  -- SellHedgeOffsetProfit FTDValue
-    ∷ row 3 5 14 2  -- BuySpecOpenFrozMargin FTDValue
-    ∷ row 3 5 14 2  -- BuyHedgeOpenFrozMargin FTDValue
-    ∷ row 3 5 14 2  -- SellSpecOpenFrozMargin FTDValue
-    ∷ row 3 5 14 2  -- SellHedgeOpenFrozMargin FTDValue
-    ∷ row 3 5 14 2  -- BuySpecOffsetMargin FTDValue
-    ∷ row 3 5 14 2  -- BuyHedgeOffsetMargin FTDValue
-    ∷ row 3 5 14 2  -- SellSpecOffsetMargin FTDValue
-    ∷ row 3 5 14 2  -- SellHedgeOffsetMargin FTDValue
-    ∷ row 3 5 14 2  -- BuySpecTurnOver FTDValue
-    ∷ row 3 5 14 2  -- BuyHedgeTurnOver FTDValue
-    ∷ row 3 5 14 2  -- SellSpecTurnOver FTDValue
-    ∷ row 3 5 14 2  -- SellHedgeTurnOver FTDValue
-    ∷ row 3 5 14 2  -- AddValue FTDValue
-    ∷ row 3 5 14 2  -- DelValue FTDValue
-    ∷ row 3 5 14 2  -- BalanceValue FTDValue
+    ∷ row 3 stringKind 8 0  -- ParticipantId FTDParticipantId
+    ∷ row 3 instrumentStatusKind 1 0  -- ParticipantType FTDParticipantType
+    ∷ row 3 dateKind 8 0  -- TradeDate FTDDate
+    ∷ row 3 floatKind 14 2  -- InitMargin FTDValue
+    ∷ row 3 floatKind 14 2  -- BuySpecOpenUsedMargin FTDValue
+    ∷ row 3 floatKind 14 2  -- BuyHedgeOpenUsedMargin FTDValue
+    ∷ row 3 floatKind 14 2  -- SellSpecOpenUsedMargin FTDValue
+    ∷ row 3 floatKind 14 2  -- SellHedgeOpenUsedMargin FTDValue
+    ∷ row 3 floatKind 14 2  -- BuySpecOffsetProfit FTDValue
+    ∷ row 3 floatKind 14 2  -- BuyHedgeOffsetProfit FTDValue
+    ∷ row 3 floatKind 14 2  -- SellSpecOffsetProfit FTDValue
+    ∷ row 3 floatKind 14 2  -- SellHedgeOffsetProfit FTDValue
+    ∷ row 3 floatKind 14 2  -- BuySpecOpenFrozMargin FTDValue
+    ∷ row 3 floatKind 14 2  -- BuyHedgeOpenFrozMargin FTDValue
+    ∷ row 3 floatKind 14 2  -- SellSpecOpenFrozMargin FTDValue
+    ∷ row 3 floatKind 14 2  -- SellHedgeOpenFrozMargin FTDValue
+    ∷ row 3 floatKind 14 2  -- BuySpecOffsetMargin FTDValue
+    ∷ row 3 floatKind 14 2  -- BuyHedgeOffsetMargin FTDValue
+    ∷ row 3 floatKind 14 2  -- SellSpecOffsetMargin FTDValue
+    ∷ row 3 floatKind 14 2  -- SellHedgeOffsetMargin FTDValue
+    ∷ row 3 floatKind 14 2  -- BuySpecTurnOver FTDValue
+    ∷ row 3 floatKind 14 2  -- BuyHedgeTurnOver FTDValue
+    ∷ row 3 floatKind 14 2  -- SellSpecTurnOver FTDValue
+    ∷ row 3 floatKind 14 2  -- SellHedgeTurnOver FTDValue
+    ∷ row 3 floatKind 14 2  -- AddValue FTDValue
+    ∷ row 3 floatKind 14 2  -- DelValue FTDValue
+    ∷ row 3 floatKind 14 2  -- BalanceValue FTDValue
     -- DisseminationstartField, FID 0x0004: 2 rows, 6 bytes
-    ∷ row 4 1 2 0  -- SequenceSeries FTDSequenceSeries
-    ∷ row 4 2 4 0  -- SequenceNo FTDSequenceNo
+    ∷ row 4 wordKind 2 0  -- SequenceSeries FTDSequenceSeries
+    ∷ row 4 intKind 4 0  -- SequenceNo FTDSequenceNo
     -- ErrorField, FID 0x0005: 3 rows, 130 bytes
-    ∷ row 5 3 10 0  -- ErrorCode FTDErrorCode
-    ∷ row 5 3 100 0  -- ErrorText FTDStringType<100>
-    ∷ row 5 3 20 0  -- TimeStamp FTDTimeStamp
+    ∷ row 5 stringKind 10 0  -- ErrorCode FTDErrorCode
+    ∷ row 5 stringKind 100 0  -- ErrorText FTDStringType<100>
+    ∷ row 5 stringKind 20 0  -- TimeStamp FTDTimeStamp
     -- ErrorTargetOrderField, FID 0x002D: 2 rows, 44 bytes
-    ∷ row 45 3 20 0  -- OrderSysId FTDSysOrderId
-    ∷ row 45 3 24 0  -- OrderLocalId FTDLocalId
+    ∷ row 45 stringKind 20 0  -- OrderSysId FTDSysOrderId
+    ∷ row 45 stringKind 24 0  -- OrderLocalId FTDLocalId
     -- ErrorTargetSequenceField, FID 0x002E: 2 rows, 6 bytes
-    ∷ row 46 1 2 0  -- SequenceSeries FTDSequenceSeries
-    ∷ row 46 2 4 0  -- SequenceNo FTDSequenceNo
+    ∷ row 46 wordKind 2 0  -- SequenceSeries FTDSequenceSeries
+    ∷ row 46 intKind 4 0  -- SequenceNo FTDSequenceNo
     -- ForceExitField, FID 0x0006: 2 rows, 101 bytes
-    ∷ row 6 9 1 0  -- ForceExitCode FTDForceExitCode
-    ∷ row 6 3 100 0  -- ForceExitMsg FTDStringType<100>
+    ∷ row 6 forceExitCodeKind 1 0  -- ForceExitCode FTDForceExitCode
+    ∷ row 6 stringKind 100 0  -- ForceExitMsg FTDStringType<100>
     -- InstrumentField, FID 0x0007: 26 rows, 201 bytes
-    ∷ row 7 3 10 0  -- MarketId FTDMarketId
-    ∷ row 7 3 10 0  -- InstrumentId FTDInstrumentId
-    ∷ row 7 9 1 0  -- InstrumentVersion FTDInstrumentVersion
-    ∷ row 7 3 80 0  -- InstrumentName FTDName
-    ∷ row 7 0 1 0  -- ShortCutKey FTDCharType
-    ∷ row 7 6 8 0  -- StartTrdDate FTDDate
-    ∷ row 7 6 8 0  -- EndTrdDate FTDDate
-    ∷ row 7 9 1 0  -- InstrumentType FTDInstrumentType
-    ∷ row 7 6 8 0  -- EndDelvDate FTDDate
-    ∷ row 7 6 8 0  -- StartDelvDate FTDDate
-    ∷ row 7 9 1 0  -- InstrStopCode FTDStopCode
-    ∷ row 7 3 3 0  -- Currency FTDStringType<3>
-    ∷ row 7 7 1 0  -- TradeRights FTDTradeRight
-    ∷ row 7 8 1 0  -- FuseRights FTDBoolFlag
-    ∷ row 7 2 4 0  -- Unit FTDIntType
-    ∷ row 7 5 12 4  -- Tick FTDPrice
-    ∷ row 7 5 4 2  -- HighLimitRate FTDPercent
-    ∷ row 7 5 4 2  -- LowLimitRate FTDPercent
-    ∷ row 7 2 4 0  -- MaxLot FTDVolume
-    ∷ row 7 2 4 0  -- MinLot FTDVolume
-    ∷ row 7 8 1 0  -- Pubstyle FTDPubStyle
-    ∷ row 7 5 12 4  -- Fuselimit FTDPrice
-    ∷ row 7 2 4 0  -- Fusepersisttime FTDIntType
-    ∷ row 7 3 6 0  -- Fusepoint FTDStringType<6>
-    ∷ row 7 8 1 0  -- FuseFlag FTDBoolFlag
-    ∷ row 7 2 4 0  -- Forcedistime FTDIntType
+    ∷ row 7 stringKind 10 0  -- MarketId FTDMarketId
+    ∷ row 7 stringKind 10 0  -- InstrumentId FTDInstrumentId
+    ∷ row 7 forceExitCodeKind 1 0  -- InstrumentVersion FTDInstrumentVersion
+    ∷ row 7 stringKind 80 0  -- InstrumentName FTDName
+    ∷ row 7 charKind 1 0  -- ShortCutKey FTDCharType
+    ∷ row 7 dateKind 8 0  -- StartTrdDate FTDDate
+    ∷ row 7 dateKind 8 0  -- EndTrdDate FTDDate
+    ∷ row 7 forceExitCodeKind 1 0  -- InstrumentType FTDInstrumentType
+    ∷ row 7 dateKind 8 0  -- EndDelvDate FTDDate
+    ∷ row 7 dateKind 8 0  -- StartDelvDate FTDDate
+    ∷ row 7 forceExitCodeKind 1 0  -- InstrStopCode FTDStopCode
+    ∷ row 7 stringKind 3 0  -- Currency FTDStringType<3>
+    ∷ row 7 actionFlagKind 1 0  -- TradeRights FTDTradeRight
+    ∷ row 7 boolFlagKind 1 0  -- FuseRights FTDBoolFlag
+    ∷ row 7 intKind 4 0  -- Unit FTDIntType
+    ∷ row 7 floatKind 12 4  -- Tick FTDPrice
+    ∷ row 7 floatKind 4 2  -- HighLimitRate FTDPercent
+    ∷ row 7 floatKind 4 2  -- LowLimitRate FTDPercent
+    ∷ row 7 intKind 4 0  -- MaxLot FTDVolume
+    ∷ row 7 intKind 4 0  -- MinLot FTDVolume
+    ∷ row 7 boolFlagKind 1 0  -- Pubstyle FTDPubStyle
+    ∷ row 7 floatKind 12 4  -- Fuselimit FTDPrice
+    ∷ row 7 intKind 4 0  -- Fusepersisttime FTDIntType
+    ∷ row 7 stringKind 6 0  -- Fusepoint FTDStringType<6>
+    ∷ row 7 boolFlagKind 1 0  -- FuseFlag FTDBoolFlag
+    ∷ row 7 intKind 4 0  -- Forcedistime FTDIntType
     -- InstrumentStatusField, FID 0x0008: 2 rows, 11 bytes
-    ∷ row 8 3 10 0  -- InstrumentId FTDInstrumentId
-    ∷ row 8 11 1 0  -- InstrumentStatus FTDInstrumentStatus
+    ∷ row 8 stringKind 10 0  -- InstrumentId FTDInstrumentId
+    ∷ row 8 instrumentStatusKind 1 0  -- InstrumentStatus FTDInstrumentStatus
     -- MarketField, FID 0x0026: 4 rows, 93 bytes
-    ∷ row 38 3 10 0  -- MarketId FTDMarketId
-    ∷ row 38 3 80 0  -- MarketName FTDName
-    ∷ row 38 1 2 0  -- BroadcastSequenceSeries FTDWordType
-    ∷ row 38 9 1 0  -- TradeType FTDTradeType
+    ∷ row 38 stringKind 10 0  -- MarketId FTDMarketId
+    ∷ row 38 stringKind 80 0  -- MarketName FTDName
+    ∷ row 38 wordKind 2 0  -- BroadcastSequenceSeries FTDWordType
+    ∷ row 38 forceExitCodeKind 1 0  -- TradeType FTDTradeType
     -- MarketMatchDataChgField, FID 0x0012: 12 rows, 99 bytes
-    ∷ row 18 3 10 0  -- InstrumentId FTDInstrumentId
-    ∷ row 18 9 1 0  -- InstrumentVersion FTDInstrumentVersion
-    ∷ row 18 5 12 4  -- OpenPrice FTDPrice
-    ∷ row 18 5 12 4  -- HighPrice FTDPrice
-    ∷ row 18 5 12 4  -- LowPrice FTDPrice
-    ∷ row 18 5 12 4  -- LastPrice FTDPrice
-    ∷ row 18 5 12 4  -- BidPrice FTDPrice
-    ∷ row 18 5 12 4  -- AskPrice FTDPrice
-    ∷ row 18 2 4 0  -- BidLot FTDVolume
-    ∷ row 18 2 4 0  -- AskLot FTDVolume
-    ∷ row 18 2 4 0  -- Volume FTDVolume
-    ∷ row 18 2 4 0  -- OpenInterest FTDVolume
+    ∷ row 18 stringKind 10 0  -- InstrumentId FTDInstrumentId
+    ∷ row 18 forceExitCodeKind 1 0  -- InstrumentVersion FTDInstrumentVersion
+    ∷ row 18 floatKind 12 4  -- OpenPrice FTDPrice
+    ∷ row 18 floatKind 12 4  -- HighPrice FTDPrice
+    ∷ row 18 floatKind 12 4  -- LowPrice FTDPrice
+    ∷ row 18 floatKind 12 4  -- LastPrice FTDPrice
+    ∷ row 18 floatKind 12 4  -- BidPrice FTDPrice
+    ∷ row 18 floatKind 12 4  -- AskPrice FTDPrice
+    ∷ row 18 intKind 4 0  -- BidLot FTDVolume
+    ∷ row 18 intKind 4 0  -- AskLot FTDVolume
+    ∷ row 18 intKind 4 0  -- Volume FTDVolume
+    ∷ row 18 intKind 4 0  -- OpenInterest FTDVolume
     -- MarketMatchDataField, FID 0x0013: 30 rows, 252 bytes
-    ∷ row 19 3 10 0  -- InstrumentId FTDInstrumentId
-    ∷ row 19 9 1 0  -- InstrumentVersion FTDInstrumentVersion
-    ∷ row 19 5 12 4  -- PreClose FTDPrice
-    ∷ row 19 5 12 4  -- PreSettle FTDPrice
-    ∷ row 19 2 4 0  -- PreOpenInterest FTDVolume
-    ∷ row 19 5 12 4  -- OpenPrice FTDPrice
-    ∷ row 19 5 12 4  -- BidPrice FTDPrice
-    ∷ row 19 2 4 0  -- BidLot FTDVolume
-    ∷ row 19 5 12 4  -- AskPrice FTDPrice
-    ∷ row 19 2 4 0  -- AskLot FTDVolume
-    ∷ row 19 5 12 4  -- LastPrice FTDPrice
-    ∷ row 19 2 4 0  -- LastLot FTDVolume
-    ∷ row 19 2 4 0  -- TradeLot FTDIntType
-    ∷ row 19 2 4 0  -- TradeTurnover FTDVolume
-    ∷ row 19 2 4 0  -- OpenInterest FTDVolume
-    ∷ row 19 5 12 4  -- HighPrice FTDPrice
-    ∷ row 19 5 12 4  -- LowPrice FTDPrice
-    ∷ row 19 5 12 4  -- ClosePrice FTDPrice
-    ∷ row 19 5 12 4  -- SettlePrice FTDPrice
-    ∷ row 19 5 12 4  -- ClearPrice FTDPrice
-    ∷ row 19 5 12 4  -- AveragePrice FTDPrice
-    ∷ row 19 5 12 4  -- LifeHigh FTDPrice
-    ∷ row 19 5 12 4  -- LifeLow FTDPrice
-    ∷ row 19 5 12 4  -- HighLimit FTDPrice
-    ∷ row 19 5 12 4  -- LowLimit FTDPrice
-    ∷ row 19 2 4 0  -- TotalVolume FTDVolume
-    ∷ row 19 3 8 0  -- UpdateTime FTDTime
-    ∷ row 19 8 1 0  -- MarketMatchDataStatus FTDBoolFlag
-    ∷ row 19 2 4 0  -- TotalMarketMatchData FTDIntType
-    ∷ row 19 2 4 0  -- BroadcastSequenceNo FTDIntType
+    ∷ row 19 stringKind 10 0  -- InstrumentId FTDInstrumentId
+    ∷ row 19 forceExitCodeKind 1 0  -- InstrumentVersion FTDInstrumentVersion
+    ∷ row 19 floatKind 12 4  -- PreClose FTDPrice
+    ∷ row 19 floatKind 12 4  -- PreSettle FTDPrice
+    ∷ row 19 intKind 4 0  -- PreOpenInterest FTDVolume
+    ∷ row 19 floatKind 12 4  -- OpenPrice FTDPrice
+    ∷ row 19 floatKind 12 4  -- BidPrice FTDPrice
+    ∷ row 19 intKind 4 0  -- BidLot FTDVolume
+    ∷ row 19 floatKind 12 4  -- AskPrice FTDPrice
+    ∷ row 19 intKind 4 0  -- AskLot FTDVolume
+    ∷ row 19 floatKind 12 4  -- LastPrice FTDPrice
+    ∷ row 19 intKind 4 0  -- LastLot FTDVolume
+    ∷ row 19 intKind 4 0  -- TradeLot FTDIntType
+    ∷ row 19 intKind 4 0  -- TradeTurnover FTDVolume
+    ∷ row 19 intKind 4 0  -- OpenInterest FTDVolume
+    ∷ row 19 floatKind 12 4  -- HighPrice FTDPrice
+    ∷ row 19 floatKind 12 4  -- LowPrice FTDPrice
+    ∷ row 19 floatKind 12 4  -- ClosePrice FTDPrice
+    ∷ row 19 floatKind 12 4  -- SettlePrice FTDPrice
+    ∷ row 19 floatKind 12 4  -- ClearPrice FTDPrice
+    ∷ row 19 floatKind 12 4  -- AveragePrice FTDPrice
+    ∷ row 19 floatKind 12 4  -- LifeHigh FTDPrice
+    ∷ row 19 floatKind 12 4  -- LifeLow FTDPrice
+    ∷ row 19 floatKind 12 4  -- HighLimit FTDPrice
+    ∷ row 19 floatKind 12 4  -- LowLimit FTDPrice
+    ∷ row 19 intKind 4 0  -- TotalVolume FTDVolume
+    ∷ row 19 stringKind 8 0  -- UpdateTime FTDTime
+    ∷ row 19 boolFlagKind 1 0  -- MarketMatchDataStatus FTDBoolFlag
+    ∷ row 19 intKind 4 0  -- TotalMarketMatchData FTDIntType
+    ∷ row 19 intKind 4 0  -- BroadcastSequenceNo FTDIntType
     -- MarketMatchIncDataField, FID 0x000A: 6 rows, 29 bytes
-    ∷ row 10 3 10 0  -- InstrumentId FTDInstrumentId
-    ∷ row 10 9 1 0  -- InstrumentVersion FTDInstrumentVersion
-    ∷ row 10 8 1 0  -- VolumeType FTDVolumeType
-    ∷ row 10 5 12 4  -- Price FTDPrice
-    ∷ row 10 2 4 0  -- Volume FTDVolume
-    ∷ row 10 7 1 0  -- MatchFlag FTDMatchFlag
+    ∷ row 10 stringKind 10 0  -- InstrumentId FTDInstrumentId
+    ∷ row 10 forceExitCodeKind 1 0  -- InstrumentVersion FTDInstrumentVersion
+    ∷ row 10 boolFlagKind 1 0  -- VolumeType FTDVolumeType
+    ∷ row 10 floatKind 12 4  -- Price FTDPrice
+    ∷ row 10 intKind 4 0  -- Volume FTDVolume
+    ∷ row 10 actionFlagKind 1 0  -- MatchFlag FTDMatchFlag
     -- MarketOrderDataField, FID 0x000D: 7 rows, 33 bytes
-    ∷ row 13 3 10 0  -- InstrumentId FTDInstrumentId
-    ∷ row 13 9 1 0  -- InstrumentVersion FTDInstrumentVersion
-    ∷ row 13 8 1 0  -- VolumeType FTDVolumeType
-    ∷ row 13 8 1 0  -- Direction FTDDirection
-    ∷ row 13 5 12 4  -- Price FTDPrice
-    ∷ row 13 2 4 0  -- Volume FTDVolume
-    ∷ row 13 2 4 0  -- BroadcastSequenceNo FTDIntType
+    ∷ row 13 stringKind 10 0  -- InstrumentId FTDInstrumentId
+    ∷ row 13 forceExitCodeKind 1 0  -- InstrumentVersion FTDInstrumentVersion
+    ∷ row 13 boolFlagKind 1 0  -- VolumeType FTDVolumeType
+    ∷ row 13 boolFlagKind 1 0  -- Direction FTDDirection
+    ∷ row 13 floatKind 12 4  -- Price FTDPrice
+    ∷ row 13 intKind 4 0  -- Volume FTDVolume
+    ∷ row 13 intKind 4 0  -- BroadcastSequenceNo FTDIntType
     -- MarketStatusField, FID 0x0009: 3 rows, 15 bytes
-    ∷ row 9 3 10 0  -- MarketId FTDMarketId
-    ∷ row 9 11 1 0  -- MarketStatusId FTDMarketStatus
-    ∷ row 9 2 4 0  -- BroadcastSequenceNo FTDIntType
+    ∷ row 9 stringKind 10 0  -- MarketId FTDMarketId
+    ∷ row 9 instrumentStatusKind 1 0  -- MarketStatusId FTDMarketStatus
+    ∷ row 9 intKind 4 0  -- BroadcastSequenceNo FTDIntType
     -- OrderActionField, FID 0x000B: 6 rows, 71 bytes
-    ∷ row 11 7 1 0  -- OrderActionCode FTDActionFlag
-    ∷ row 11 3 20 0  -- OrderSysId FTDSysOrderId
-    ∷ row 11 3 24 0  -- ActionLocalId FTDLocalId
-    ∷ row 11 3 10 0  -- InstrumentId FTDInstrumentId
-    ∷ row 11 9 1 0  -- InstrumentVersion FTDInstrumentVersion
-    ∷ row 11 3 15 0  -- UserId FTDUserId
+    ∷ row 11 actionFlagKind 1 0  -- OrderActionCode FTDActionFlag
+    ∷ row 11 stringKind 20 0  -- OrderSysId FTDSysOrderId
+    ∷ row 11 stringKind 24 0  -- ActionLocalId FTDLocalId
+    ∷ row 11 stringKind 10 0  -- InstrumentId FTDInstrumentId
+    ∷ row 11 forceExitCodeKind 1 0  -- InstrumentVersion FTDInstrumentVersion
+    ∷ row 11 stringKind 15 0  -- UserId FTDUserId
     -- OrderInsertField, FID 0x000C: 20 rows, 158 bytes
-    ∷ row 12 3 20 0  -- OrderSysId FTDSysOrderId
-    ∷ row 12 3 24 0  -- OrderLocalId FTDLocalId
-    ∷ row 12 3 15 0  -- UserId FTDUserId
-    ∷ row 12 3 8 0  -- ParticipantId FTDParticipantId
-    ∷ row 12 3 8 0  -- ClientId FTDClientId
-    ∷ row 12 3 10 0  -- InstrumentId FTDInstrumentId
-    ∷ row 12 8 1 0  -- Direction FTDDirection
-    ∷ row 12 14 1 0  -- OffsetFlag FTDOffsetFlag
-    ∷ row 12 10 1 0  -- HedgeFlag FTDHedgeFlag
-    ∷ row 12 5 12 4  -- StopPrice FTDPrice
-    ∷ row 12 5 12 4  -- LimitPrice FTDPrice
-    ∷ row 12 2 4 0  -- VolumeTotalOriginal FTDIntType
-    ∷ row 12 16 1 0  -- OrderType FTDOrderType
-    ∷ row 12 12 1 0  -- MatchCondition FTDMatchCondition
-    ∷ row 12 13 1 0  -- MatchSession FTDMatchSession
-    ∷ row 12 6 8 0  -- ValidThrough FTDDate
-    ∷ row 12 2 4 0  -- MinimalVolume FTDVolume
-    ∷ row 12 8 1 0  -- AutoSuspend FTDBoolFlag
-    ∷ row 12 3 20 0  -- InsertTime FTDDateTime
-    ∷ row 12 3 6 0  -- MessageReference FTDMsgRef
+    ∷ row 12 stringKind 20 0  -- OrderSysId FTDSysOrderId
+    ∷ row 12 stringKind 24 0  -- OrderLocalId FTDLocalId
+    ∷ row 12 stringKind 15 0  -- UserId FTDUserId
+    ∷ row 12 stringKind 8 0  -- ParticipantId FTDParticipantId
+    ∷ row 12 stringKind 8 0  -- ClientId FTDClientId
+    ∷ row 12 stringKind 10 0  -- InstrumentId FTDInstrumentId
+    ∷ row 12 boolFlagKind 1 0  -- Direction FTDDirection
+    ∷ row 12 offsetFlagKind 1 0  -- OffsetFlag FTDOffsetFlag
+    ∷ row 12 hedgeFlagKind 1 0  -- HedgeFlag FTDHedgeFlag
+    ∷ row 12 floatKind 12 4  -- StopPrice FTDPrice
+    ∷ row 12 floatKind 12 4  -- LimitPrice FTDPrice
+    ∷ row 12 intKind 4 0  -- VolumeTotalOriginal FTDIntType
+    ∷ row 12 orderTypeKind 1 0  -- OrderType FTDOrderType
+    ∷ row 12 matchConditionKind 1 0  -- MatchCondition FTDMatchCondition
+    ∷ row 12 matchSessionKind 1 0  -- MatchSession FTDMatchSession
+    ∷ row 12 dateKind 8 0  -- ValidThrough FTDDate
+    ∷ row 12 intKind 4 0  -- MinimalVolume FTDVolume
+    ∷ row 12 boolFlagKind 1 0  -- AutoSuspend FTDBoolFlag
+    ∷ row 12 stringKind 20 0  -- InsertTime FTDDateTime
+    ∷ row 12 stringKind 6 0  -- MessageReference FTDMsgRef
     -- OrderStatusField, FID 0x000E: 30 rows, 254 bytes
-    ∷ row 14 3 20 0  -- OrderSysId FTDSysOrderId
-    ∷ row 14 3 24 0  -- OrderLocalId FTDLocalId
-    ∷ row 14 3 15 0  -- UserId FTDUserId
-    ∷ row 14 3 8 0  -- ParticipantId FTDParticipantId
-    ∷ row 14 3 8 0  -- ClientId FTDClientId
-    ∷ row 14 3 10 0  -- InstrumentId FTDInstrumentId
-    ∷ row 14 8 1 0  -- Direction FTDDirection
-    ∷ row 14 14 1 0  -- OffsetFlag FTDOffsetFlag
-    ∷ row 14 10 1 0  -- HedgeFlag FTDHedgeFlag
-    ∷ row 14 5 12 4  -- StopPrice FTDPrice
-    ∷ row 14 5 12 4  -- LimitPrice FTDPrice
-    ∷ row 14 2 4 0  -- VolumeTotalOriginal FTDIntType
-    ∷ row 14 16 1 0  -- OrderType FTDOrderType
-    ∷ row 14 2 4 0  -- VolumeTotal FTDIntType
-    ∷ row 14 12 1 0  -- MatchCondition FTDMatchCondition
-    ∷ row 14 13 1 0  -- MatchSession FTDMatchSession
-    ∷ row 14 6 8 0  -- ValidThrough FTDDate
-    ∷ row 14 2 4 0  -- MinimalVolume FTDVolume
-    ∷ row 14 8 1 0  -- AutoSuspend FTDBoolFlag
-    ∷ row 14 15 1 0  -- OrderStatus FTDOrderStatus
-    ∷ row 14 3 20 0  -- InsertTime FTDDateTime
-    ∷ row 14 3 8 0  -- ActiveTime FTDTime
-    ∷ row 14 3 8 0  -- SuspendTime FTDTime
-    ∷ row 14 3 8 0  -- UpdateTime FTDTime
-    ∷ row 14 3 15 0  -- ActiveUserId FTDUserId
-    ∷ row 14 5 12 4  -- Margin FTDPrice
-    ∷ row 14 3 24 0  -- ForceGroupId FTDLocalId
-    ∷ row 14 5 12 4  -- TradePrice FTDPrice
-    ∷ row 14 2 4 0  -- TradeVolume FTDIntType
-    ∷ row 14 3 6 0  -- MessageReference FTDMsgRef
+    ∷ row 14 stringKind 20 0  -- OrderSysId FTDSysOrderId
+    ∷ row 14 stringKind 24 0  -- OrderLocalId FTDLocalId
+    ∷ row 14 stringKind 15 0  -- UserId FTDUserId
+    ∷ row 14 stringKind 8 0  -- ParticipantId FTDParticipantId
+    ∷ row 14 stringKind 8 0  -- ClientId FTDClientId
+    ∷ row 14 stringKind 10 0  -- InstrumentId FTDInstrumentId
+    ∷ row 14 boolFlagKind 1 0  -- Direction FTDDirection
+    ∷ row 14 offsetFlagKind 1 0  -- OffsetFlag FTDOffsetFlag
+    ∷ row 14 hedgeFlagKind 1 0  -- HedgeFlag FTDHedgeFlag
+    ∷ row 14 floatKind 12 4  -- StopPrice FTDPrice
+    ∷ row 14 floatKind 12 4  -- LimitPrice FTDPrice
+    ∷ row 14 intKind 4 0  -- VolumeTotalOriginal FTDIntType
+    ∷ row 14 orderTypeKind 1 0  -- OrderType FTDOrderType
+    ∷ row 14 intKind 4 0  -- VolumeTotal FTDIntType
+    ∷ row 14 matchConditionKind 1 0  -- MatchCondition FTDMatchCondition
+    ∷ row 14 matchSessionKind 1 0  -- MatchSession FTDMatchSession
+    ∷ row 14 dateKind 8 0  -- ValidThrough FTDDate
+    ∷ row 14 intKind 4 0  -- MinimalVolume FTDVolume
+    ∷ row 14 boolFlagKind 1 0  -- AutoSuspend FTDBoolFlag
+    ∷ row 14 orderStatusKind 1 0  -- OrderStatus FTDOrderStatus
+    ∷ row 14 stringKind 20 0  -- InsertTime FTDDateTime
+    ∷ row 14 stringKind 8 0  -- ActiveTime FTDTime
+    ∷ row 14 stringKind 8 0  -- SuspendTime FTDTime
+    ∷ row 14 stringKind 8 0  -- UpdateTime FTDTime
+    ∷ row 14 stringKind 15 0  -- ActiveUserId FTDUserId
+    ∷ row 14 floatKind 12 4  -- Margin FTDPrice
+    ∷ row 14 stringKind 24 0  -- ForceGroupId FTDLocalId
+    ∷ row 14 floatKind 12 4  -- TradePrice FTDPrice
+    ∷ row 14 intKind 4 0  -- TradeVolume FTDIntType
+    ∷ row 14 stringKind 6 0  -- MessageReference FTDMsgRef
     -- ParticipantField, FID 0x000F: 4 rows, 90 bytes
-    ∷ row 15 3 8 0  -- ParticipantId FTDParticipantId
-    ∷ row 15 3 80 0  -- ParticipantName FTDName
-    ∷ row 15 11 1 0  -- ParticipantType FTDParticipantType
-    ∷ row 15 7 1 0  -- PartiTrdRight FTDTradeRight
+    ∷ row 15 stringKind 8 0  -- ParticipantId FTDParticipantId
+    ∷ row 15 stringKind 80 0  -- ParticipantName FTDName
+    ∷ row 15 instrumentStatusKind 1 0  -- ParticipantType FTDParticipantType
+    ∷ row 15 actionFlagKind 1 0  -- PartiTrdRight FTDTradeRight
     -- PositionField, FID 0x0010: 37 rows, 163 bytes
-    ∷ row 16 3 8 0  -- ParticipantId FTDParticipantId
-    ∷ row 16 3 8 0  -- ClientId FTDClientId
-    ∷ row 16 3 10 0  -- InstrumentId FTDInstrumentId
-    ∷ row 16 9 1 0  -- InstrumentVersion FTDInstrumentVersion
-    ∷ row 16 6 8 0  -- TradeDate FTDDate
-    ∷ row 16 2 4 0  -- YdBuyHedgePosition FTDVolume
-    ∷ row 16 2 4 0  -- YdBuySpecPosition FTDVolume
-    ∷ row 16 2 4 0  -- YdSellHedgePosition FTDVolume
-    ∷ row 16 2 4 0  -- YdSellSpecPosition FTDVolume
-    ∷ row 16 2 4 0  -- BuyHedgeVolume FTDVolume
-    ∷ row 16 2 4 0  -- BuySpecVolume FTDVolume
-    ∷ row 16 2 4 0  -- SellHedgeVolume FTDVolume
-    ∷ row 16 2 4 0  -- SellSpecVolume FTDVolume
-    ∷ row 16 2 4 0  -- BuyHedgePosition FTDVolume
-    ∷ row 16 2 4 0  -- BuySpecPosition FTDVolume
-    ∷ row 16 2 4 0  -- SellHedgePosition FTDVolume
-    ∷ row 16 2 4 0  -- SellSpecPosition FTDVolume
-    ∷ row 16 2 4 0  -- BuyOffsHPosition FTDVolume
-    ∷ row 16 2 4 0  -- BuyOffsSPosition FTDVolume
-    ∷ row 16 2 4 0  -- SellOffsHPosition FTDVolume
-    ∷ row 16 2 4 0  -- SellOffsSPosition FTDVolume
-    ∷ row 16 2 4 0  -- YdBuyOffsHPosition FTDVolume
-    ∷ row 16 2 4 0  -- YdBuyOffsSPosition FTDVolume
-    ∷ row 16 2 4 0  -- YdSellOffsHPosition FTDVolume
-    ∷ row 16 2 4 0  -- YdSellOffsSPosition FTDVolume
-    ∷ row 16 2 4 0  -- LongOpenFrozHPosition FTDVolume
-    ∷ row 16 2 4 0  -- LongOpenFrozSPosition FTDVolume
-    ∷ row 16 2 4 0  -- ShortOpenFrozHPosition FTDVolume
-    ∷ row 16 2 4 0  -- ShortOpenFrozSPosition FTDVolume
-    ∷ row 16 2 4 0  -- LongOffsFrozHPosition FTDVolume
-    ∷ row 16 2 4 0  -- LongOffsFrozSPosition FTDVolume
-    ∷ row 16 2 4 0  -- ShortOffsFrozHPosition FTDVolume
-    ∷ row 16 2 4 0  -- ShortOffsFrozSPosition FTDVolume
-    ∷ row 16 2 4 0  -- YdLongOffsFrozHPosition FTDVolume
-    ∷ row 16 2 4 0  -- YdLongOffsFrozSPosition FTDVolume
-    ∷ row 16 2 4 0  -- YdShortOffsFrozHPosition FTDVolume
-    ∷ row 16 2 4 0  -- YdShortOffsFrozSPosition FTDVolume
+    ∷ row 16 stringKind 8 0  -- ParticipantId FTDParticipantId
+    ∷ row 16 stringKind 8 0  -- ClientId FTDClientId
+    ∷ row 16 stringKind 10 0  -- InstrumentId FTDInstrumentId
+    ∷ row 16 forceExitCodeKind 1 0  -- InstrumentVersion FTDInstrumentVersion
+    ∷ row 16 dateKind 8 0  -- TradeDate FTDDate
+    ∷ row 16 intKind 4 0  -- YdBuyHedgePosition FTDVolume
+    ∷ row 16 intKind 4 0  -- YdBuySpecPosition FTDVolume
+    ∷ row 16 intKind 4 0  -- YdSellHedgePosition FTDVolume
+    ∷ row 16 intKind 4 0  -- YdSellSpecPosition FTDVolume
+    ∷ row 16 intKind 4 0  -- BuyHedgeVolume FTDVolume
+    ∷ row 16 intKind 4 0  -- BuySpecVolume FTDVolume
+    ∷ row 16 intKind 4 0  -- SellHedgeVolume FTDVolume
+    ∷ row 16 intKind 4 0  -- SellSpecVolume FTDVolume
+    ∷ row 16 intKind 4 0  -- BuyHedgePosition FTDVolume
+    ∷ row 16 intKind 4 0  -- BuySpecPosition FTDVolume
+    ∷ row 16 intKind 4 0  -- SellHedgePosition FTDVolume
+    ∷ row 16 intKind 4 0  -- SellSpecPosition FTDVolume
+    ∷ row 16 intKind 4 0  -- BuyOffsHPosition FTDVolume
+    ∷ row 16 intKind 4 0  -- BuyOffsSPosition FTDVolume
+    ∷ row 16 intKind 4 0  -- SellOffsHPosition FTDVolume
+    ∷ row 16 intKind 4 0  -- SellOffsSPosition FTDVolume
+    ∷ row 16 intKind 4 0  -- YdBuyOffsHPosition FTDVolume
+    ∷ row 16 intKind 4 0  -- YdBuyOffsSPosition FTDVolume
+    ∷ row 16 intKind 4 0  -- YdSellOffsHPosition FTDVolume
+    ∷ row 16 intKind 4 0  -- YdSellOffsSPosition FTDVolume
+    ∷ row 16 intKind 4 0  -- LongOpenFrozHPosition FTDVolume
+    ∷ row 16 intKind 4 0  -- LongOpenFrozSPosition FTDVolume
+    ∷ row 16 intKind 4 0  -- ShortOpenFrozHPosition FTDVolume
+    ∷ row 16 intKind 4 0  -- ShortOpenFrozSPosition FTDVolume
+    ∷ row 16 intKind 4 0  -- LongOffsFrozHPosition FTDVolume
+    ∷ row 16 intKind 4 0  -- LongOffsFrozSPosition FTDVolume
+    ∷ row 16 intKind 4 0  -- ShortOffsFrozHPosition FTDVolume
+    ∷ row 16 intKind 4 0  -- ShortOffsFrozSPosition FTDVolume
+    ∷ row 16 intKind 4 0  -- YdLongOffsFrozHPosition FTDVolume
+    ∷ row 16 intKind 4 0  -- YdLongOffsFrozSPosition FTDVolume
+    ∷ row 16 intKind 4 0  -- YdShortOffsFrozHPosition FTDVolume
+    ∷ row 16 intKind 4 0  -- YdShortOffsFrozSPosition FTDVolume
     -- PPositionField, FID 0x0011: 36 rows, 155 bytes
-    ∷ row 17 3 8 0  -- ParticipantId FTDParticipantId
-    ∷ row 17 3 10 0  -- InstrumentId FTDInstrumentId
-    ∷ row 17 9 1 0  -- InstrumentVersion FTDInstrumentVersion
-    ∷ row 17 6 8 0  -- TradeDate FTDDate
-    ∷ row 17 2 4 0  -- YdBuyHedgePosition FTDVolume
-    ∷ row 17 2 4 0  -- YdBuySpecPosition FTDVolume
-    ∷ row 17 2 4 0  -- YdSellHedgePosition FTDVolume
-    ∷ row 17 2 4 0  -- YdSellSpecPosition FTDVolume
-    ∷ row 17 2 4 0  -- BuyHedgeVolume FTDVolume
-    ∷ row 17 2 4 0  -- BuySpecVolume FTDVolume
-    ∷ row 17 2 4 0  -- SellHedgeVolume FTDVolume
-    ∷ row 17 2 4 0  -- SellSpecVolume FTDVolume
-    ∷ row 17 2 4 0  -- BuyHedgePosition FTDVolume
-    ∷ row 17 2 4 0  -- BuySpecPosition FTDVolume
-    ∷ row 17 2 4 0  -- SellHedgePosition FTDVolume
-    ∷ row 17 2 4 0  -- SellSpecPosition FTDVolume
-    ∷ row 17 2 4 0  -- BuyOffsHPosition FTDVolume
-    ∷ row 17 2 4 0  -- BuyOffsSPosition FTDVolume
-    ∷ row 17 2 4 0  -- SellOffsHPosition FTDVolume
-    ∷ row 17 2 4 0  -- SellOffsSPosition FTDVolume
-    ∷ row 17 2 4 0  -- YdBuyOffsHPosition FTDVolume
-    ∷ row 17 2 4 0  -- YdBuyOffsSPosition FTDVolume
-    ∷ row 17 2 4 0  -- YdSellOffsHPosition FTDVolume
-    ∷ row 17 2 4 0  -- YdSellOffsSPosition FTDVolume
-    ∷ row 17 2 4 0  -- LongOpenFrozHPosition FTDVolume
-    ∷ row 17 2 4 0  -- LongOpenFrozSPosition FTDVolume
-    ∷ row 17 2 4 0  -- ShortOpenFrozHPosition FTDVolume
-    ∷ row 17 2 4 0  -- ShortOpenFrozSPosition FTDVolume
-    ∷ row 17 2 4 0  -- LongOffsFrozHPosition FTDVolume
-    ∷ row 17 2 4 0  -- LongOffsFrozSPosition FTDVolume
-    ∷ row 17 2 4 0  -- ShortOffsFrozHPosition FTDVolume
-    ∷ row 17 2 4 0  -- ShortOffsFrozSPosition FTDVolume
-    ∷ row 17 2 4 0  -- YdLongOffsFrozHPosition FTDVolume
-    ∷ row 17 2 4 0  -- YdLongOffsFrozSPosition FTDVolume
-    ∷ row 17 2 4 0  -- YdShortOffsFrozHPosition FTDVolume
-    ∷ row 17 2 4 0  -- YdShortOffsFrozSPosition FTDVolume
+    ∷ row 17 stringKind 8 0  -- ParticipantId FTDParticipantId
+    ∷ row 17 stringKind 10 0  -- InstrumentId FTDInstrumentId
+    ∷ row 17 forceExitCodeKind 1 0  -- InstrumentVersion FTDInstrumentVersion
+    ∷ row 17 dateKind 8 0  -- TradeDate FTDDate
+    ∷ row 17 intKind 4 0  -- YdBuyHedgePosition FTDVolume
+    ∷ row 17 intKind 4 0  -- YdBuySpecPosition FTDVolume
+    ∷ row 17 intKind 4 0  -- YdSellHedgePosition FTDVolume
+    ∷ row 17 intKind 4 0  -- YdSellSpecPosition FTDVolume
+    ∷ row 17 intKind 4 0  -- BuyHedgeVolume FTDVolume
+    ∷ row 17 intKind 4 0  -- BuySpecVolume FTDVolume
+    ∷ row 17 intKind 4 0  -- SellHedgeVolume FTDVolume
+    ∷ row 17 intKind 4 0  -- SellSpecVolume FTDVolume
+    ∷ row 17 intKind 4 0  -- BuyHedgePosition FTDVolume
+    ∷ row 17 intKind 4 0  -- BuySpecPosition FTDVolume
+    ∷ row 17 intKind 4 0  -- SellHedgePosition FTDVolume
+    ∷ row 17 intKind 4 0  -- SellSpecPosition FTDVolume
+    ∷ row 17 intKind 4 0  -- BuyOffsHPosition FTDVolume
+    ∷ row 17 intKind 4 0  -- BuyOffsSPosition FTDVolume
+    ∷ row 17 intKind 4 0  -- SellOffsHPosition FTDVolume
+    ∷ row 17 intKind 4 0  -- SellOffsSPosition FTDVolume
+    ∷ row 17 intKind 4 0  -- YdBuyOffsHPosition FTDVolume
+    ∷ row 17 intKind 4 0  -- YdBuyOffsSPosition FTDVolume
+    ∷ row 17 intKind 4 0  -- YdSellOffsHPosition FTDVolume
+    ∷ row 17 intKind 4 0  -- YdSellOffsSPosition FTDVolume
+    ∷ row 17 intKind 4 0  -- LongOpenFrozHPosition FTDVolume
+    ∷ row 17 intKind 4 0  -- LongOpenFrozSPosition FTDVolume
+    ∷ row 17 intKind 4 0  -- ShortOpenFrozHPosition FTDVolume
+    ∷ row 17 intKind 4 0  -- ShortOpenFrozSPosition FTDVolume
+    ∷ row 17 intKind 4 0  -- LongOffsFrozHPosition FTDVolume
+    ∷ row 17 intKind 4 0  -- LongOffsFrozSPosition FTDVolume
+    ∷ row 17 intKind 4 0  -- ShortOffsFrozHPosition FTDVolume
+    ∷ row 17 intKind 4 0  -- ShortOffsFrozSPosition FTDVolume
+    ∷ row 17 intKind 4 0  -- YdLongOffsFrozHPosition FTDVolume
+    ∷ row 17 intKind 4 0  -- YdLongOffsFrozSPosition FTDVolume
+    ∷ row 17 intKind 4 0  -- YdShortOffsFrozHPosition FTDVolume
+    ∷ row 17 intKind 4 0  -- YdShortOffsFrozSPosition FTDVolume
     -- ReqQryClientField, FID 0x0014: 2 rows, 16 bytes
-    ∷ row 20 3 8 0  -- ParticipantId FTDParticipantId
-    ∷ row 20 3 8 0  -- ClientId FTDClientId
+    ∷ row 20 stringKind 8 0  -- ParticipantId FTDParticipantId
+    ∷ row 20 stringKind 8 0  -- ClientId FTDClientId
     -- ReqQryDepositField, FID 0x0015: 1 rows, 8 bytes
-    ∷ row 21 3 8 0  -- ParticipantId FTDParticipantId
+    ∷ row 21 stringKind 8 0  -- ParticipantId FTDParticipantId
     -- ReqQryInstrumentField, FID 0x0016: 2 rows, 20 bytes
-    ∷ row 22 3 10 0  -- MarketId FTDMarketId
-    ∷ row 22 3 10 0  -- InstrumentId FTDInstrumentId
+    ∷ row 22 stringKind 10 0  -- MarketId FTDMarketId
+    ∷ row 22 stringKind 10 0  -- InstrumentId FTDInstrumentId
     -- ReqQryInstrumentStatusField, FID 0x0017: 2 rows, 20 bytes
-    ∷ row 23 3 10 0  -- MarketId FTDMarketId
-    ∷ row 23 3 10 0  -- InstrumentId FTDInstrumentId
+    ∷ row 23 stringKind 10 0  -- MarketId FTDMarketId
+    ∷ row 23 stringKind 10 0  -- InstrumentId FTDInstrumentId
     -- ReqQryMarketField, FID 0x0018: 1 rows, 10 bytes
-    ∷ row 24 3 10 0  -- MarketId FTDMarketId
+    ∷ row 24 stringKind 10 0  -- MarketId FTDMarketId
     -- ReqQryMarketMatchDataField, FID 0x001F: 1 rows, 10 bytes
-    ∷ row 31 3 10 0  -- InstrumentId FTDInstrumentId
+    ∷ row 31 stringKind 10 0  -- InstrumentId FTDInstrumentId
     -- ReqQryMarketOrderDataField, FID 0x001B: 2 rows, 11 bytes
-    ∷ row 27 3 10 0  -- InstrumentId FTDInstrumentId
-    ∷ row 27 8 1 0  -- Direction FTDDirection
+    ∷ row 27 stringKind 10 0  -- InstrumentId FTDInstrumentId
+    ∷ row 27 boolFlagKind 1 0  -- Direction FTDDirection
     -- ReqQryMarketStatusField, FID 0x0019: 1 rows, 10 bytes
-    ∷ row 25 3 10 0  -- MarketId FTDMarketId
+    ∷ row 25 stringKind 10 0  -- MarketId FTDMarketId
     -- ReqQryOrderField, FID 0x001A: 6 rows, 62 bytes
-    ∷ row 26 3 10 0  -- InstrumentId FTDInstrumentId
-    ∷ row 26 9 1 0  -- InstrumentVersion FTDInstrumentVersion
-    ∷ row 26 3 8 0  -- ParticipantId FTDParticipantId
-    ∷ row 26 3 15 0  -- UserId FTDUserId
-    ∷ row 26 3 8 0  -- ClientId FTDClientId
-    ∷ row 26 3 20 0  -- OrderSysId FTDSysOrderId
+    ∷ row 26 stringKind 10 0  -- InstrumentId FTDInstrumentId
+    ∷ row 26 forceExitCodeKind 1 0  -- InstrumentVersion FTDInstrumentVersion
+    ∷ row 26 stringKind 8 0  -- ParticipantId FTDParticipantId
+    ∷ row 26 stringKind 15 0  -- UserId FTDUserId
+    ∷ row 26 stringKind 8 0  -- ClientId FTDClientId
+    ∷ row 26 stringKind 20 0  -- OrderSysId FTDSysOrderId
     -- ReqQryParticipantField, FID 0x001C: 1 rows, 8 bytes
-    ∷ row 28 3 8 0  -- ParticipantId FTDParticipantId
+    ∷ row 28 stringKind 8 0  -- ParticipantId FTDParticipantId
     -- ReqQryPositionField, FID 0x001D: 3 rows, 26 bytes
-    ∷ row 29 3 8 0  -- ParticipantId FTDParticipantId
-    ∷ row 29 3 8 0  -- ClientId FTDClientId
-    ∷ row 29 3 10 0  -- InstrumentId FTDInstrumentId
+    ∷ row 29 stringKind 8 0  -- ParticipantId FTDParticipantId
+    ∷ row 29 stringKind 8 0  -- ClientId FTDClientId
+    ∷ row 29 stringKind 10 0  -- InstrumentId FTDInstrumentId
     -- ReqQryPPositionField, FID 0x001E: 2 rows, 18 bytes
-    ∷ row 30 3 8 0  -- ParticipantId FTDParticipantId
-    ∷ row 30 3 10 0  -- InstrumentId FTDInstrumentId
+    ∷ row 30 stringKind 8 0  -- ParticipantId FTDParticipantId
+    ∷ row 30 stringKind 10 0  -- InstrumentId FTDInstrumentId
     -- ReqQryTradeField, FID 0x0020: 8 rows, 78 bytes
-    ∷ row 32 3 10 0  -- InstrumentId FTDInstrumentId
-    ∷ row 32 9 1 0  -- InstrumentVersion FTDInstrumentVersion
-    ∷ row 32 3 8 0  -- ParticipantId FTDParticipantId
-    ∷ row 32 3 15 0  -- UserId FTDUserId
-    ∷ row 32 3 8 0  -- ClientId FTDClientId
-    ∷ row 32 3 20 0  -- OrderSysId FTDSysOrderId
-    ∷ row 32 3 8 0  -- StartTime FTDTime
-    ∷ row 32 3 8 0  -- ThroughTime FTDTime
+    ∷ row 32 stringKind 10 0  -- InstrumentId FTDInstrumentId
+    ∷ row 32 forceExitCodeKind 1 0  -- InstrumentVersion FTDInstrumentVersion
+    ∷ row 32 stringKind 8 0  -- ParticipantId FTDParticipantId
+    ∷ row 32 stringKind 15 0  -- UserId FTDUserId
+    ∷ row 32 stringKind 8 0  -- ClientId FTDClientId
+    ∷ row 32 stringKind 20 0  -- OrderSysId FTDSysOrderId
+    ∷ row 32 stringKind 8 0  -- StartTime FTDTime
+    ∷ row 32 stringKind 8 0  -- ThroughTime FTDTime
     -- ReqQryUserField, FID 0x0021: 2 rows, 23 bytes
-    ∷ row 33 3 8 0  -- ParticipantId FTDParticipantId
-    ∷ row 33 3 15 0  -- UserId FTDUserId
+    ∷ row 33 stringKind 8 0  -- ParticipantId FTDParticipantId
+    ∷ row 33 stringKind 15 0  -- UserId FTDUserId
     -- ReqQryUserLoginField, FID 0x0022: 2 rows, 23 bytes
-    ∷ row 34 3 8 0  -- ParticipantId FTDParticipantId
-    ∷ row 34 3 15 0  -- UserId FTDUserId
+    ∷ row 34 stringKind 8 0  -- ParticipantId FTDParticipantId
+    ∷ row 34 stringKind 15 0  -- UserId FTDUserId
     -- ReqUserLoginField, FID 0x0023: 9 rows, 120 bytes
-    ∷ row 35 7 1 0  -- DataFlowFlag FTDDataFlowFlag
-    ∷ row 35 3 8 0  -- ParticipantId FTDParticipantId
-    ∷ row 35 3 15 0  -- UserId FTDUserId
-    ∷ row 35 3 40 0  -- Password FTDPassword
-    ∷ row 35 3 5 0  -- ConnectionReference FTDConnectionReference
-    ∷ row 35 3 20 0  -- ServerAppName FTDServerAppName
-    ∷ row 35 3 8 0  -- ProtocolVersion FTDProtocolVersion
-    ∷ row 35 4 3 0  -- TimeOut FTDTimeOut
-    ∷ row 35 3 20 0  -- IpAddr FTDStringType<20>
+    ∷ row 35 actionFlagKind 1 0  -- DataFlowFlag FTDDataFlowFlag
+    ∷ row 35 stringKind 8 0  -- ParticipantId FTDParticipantId
+    ∷ row 35 stringKind 15 0  -- UserId FTDUserId
+    ∷ row 35 stringKind 40 0  -- Password FTDPassword
+    ∷ row 35 stringKind 5 0  -- ConnectionReference FTDConnectionReference
+    ∷ row 35 stringKind 20 0  -- ServerAppName FTDServerAppName
+    ∷ row 35 stringKind 8 0  -- ProtocolVersion FTDProtocolVersion
+    ∷ row 35 numberKind 3 0  -- TimeOut FTDTimeOut
+    ∷ row 35 stringKind 20 0  -- IpAddr FTDStringType<20>
     -- ReqUserLogoutField, FID 0x0024: 3 rows, 24 bytes
-    ∷ row 36 7 1 0  -- DataFlowFlag FTDDataFlowFlag
-    ∷ row 36 3 8 0  -- ParticipantId FTDParticipantId
-    ∷ row 36 3 15 0  -- UserId FTDUserId
+    ∷ row 36 actionFlagKind 1 0  -- DataFlowFlag FTDDataFlowFlag
+    ∷ row 36 stringKind 8 0  -- ParticipantId FTDParticipantId
+    ∷ row 36 stringKind 15 0  -- UserId FTDUserId
     -- ReqUserPasswordUpdateField, FID 0x0025: 4 rows, 103 bytes
-    ∷ row 37 3 8 0  -- ParticipantId FTDParticipantId
-    ∷ row 37 3 15 0  -- UserId FTDUserId
-    ∷ row 37 3 40 0  -- NewPassword FTDPassword
-    ∷ row 37 3 40 0  -- OldPassword FTDPassword
+    ∷ row 37 stringKind 8 0  -- ParticipantId FTDParticipantId
+    ∷ row 37 stringKind 15 0  -- UserId FTDUserId
+    ∷ row 37 stringKind 40 0  -- NewPassword FTDPassword
+    ∷ row 37 stringKind 40 0  -- OldPassword FTDPassword
     -- RspUserLoginField, FID 0x0027: 8 rows, 131 bytes
-    ∷ row 39 7 1 0  -- DataFlowFlag FTDDataFlowFlag
-    ∷ row 39 3 8 0  -- ParticipantId FTDParticipantId
-    ∷ row 39 3 15 0  -- UserId FTDUserId
-    ∷ row 39 3 40 0  -- Password FTDPassword
-    ∷ row 39 3 20 0  -- ExchangeDateTime FTDDateTime
-    ∷ row 39 4 3 0  -- TimeSpan FTDNumberType<3>
-    ∷ row 39 3 20 0  -- IpAddr FTDStringType<20>
-    ∷ row 39 3 24 0  -- MaxOrderLocalId FTDLocalId
+    ∷ row 39 actionFlagKind 1 0  -- DataFlowFlag FTDDataFlowFlag
+    ∷ row 39 stringKind 8 0  -- ParticipantId FTDParticipantId
+    ∷ row 39 stringKind 15 0  -- UserId FTDUserId
+    ∷ row 39 stringKind 40 0  -- Password FTDPassword
+    ∷ row 39 stringKind 20 0  -- ExchangeDateTime FTDDateTime
+    ∷ row 39 numberKind 3 0  -- TimeSpan FTDNumberType<3>
+    ∷ row 39 stringKind 20 0  -- IpAddr FTDStringType<20>
+    ∷ row 39 stringKind 24 0  -- MaxOrderLocalId FTDLocalId
     -- RspUserLogoutField, FID 0x0028: 4 rows, 44 bytes
-    ∷ row 40 7 1 0  -- DataFlowFlag FTDDataFlowFlag
-    ∷ row 40 3 8 0  -- ParticipantId FTDParticipantId
-    ∷ row 40 3 15 0  -- UserId FTDUserId
-    ∷ row 40 3 20 0  -- ExchangeDateTime FTDDateTime
+    ∷ row 40 actionFlagKind 1 0  -- DataFlowFlag FTDDataFlowFlag
+    ∷ row 40 stringKind 8 0  -- ParticipantId FTDParticipantId
+    ∷ row 40 stringKind 15 0  -- UserId FTDUserId
+    ∷ row 40 stringKind 20 0  -- ExchangeDateTime FTDDateTime
     -- RspUserPasswordUpdateField, FID 0x0029: 3 rows, 63 bytes
-    ∷ row 41 3 8 0  -- ParticipantId FTDParticipantId
-    ∷ row 41 3 15 0  -- UserId FTDUserId
-    ∷ row 41 3 40 0  -- NewPassword FTDPassword
+    ∷ row 41 stringKind 8 0  -- ParticipantId FTDParticipantId
+    ∷ row 41 stringKind 15 0  -- UserId FTDUserId
+    ∷ row 41 stringKind 40 0  -- NewPassword FTDPassword
     -- TradeInsertSingleField, FID 0x002A: 19 rows, 166 bytes
-    ∷ row 42 3 10 0  -- InstrumentId FTDInstrumentId
-    ∷ row 42 9 1 0  -- InstrumentVersion FTDInstrumentVersion
-    ∷ row 42 8 1 0  -- CancelFlag FTDBoolFlag
-    ∷ row 42 6 8 0  -- CancelDate FTDDate
-    ∷ row 42 3 8 0  -- CancelTime FTDTime
-    ∷ row 42 3 20 0  -- TradeId FTDTradeId
-    ∷ row 42 6 8 0  -- MatchDate FTDDate
-    ∷ row 42 3 8 0  -- MatchTime FTDTime
-    ∷ row 42 6 8 0  -- ClearDate FTDDate
-    ∷ row 42 5 12 4  -- Price FTDPrice
-    ∷ row 42 2 4 0  -- Volume FTDVolume
-    ∷ row 42 3 20 0  -- OrderSysId FTDSysOrderId
-    ∷ row 42 3 15 0  -- UserId FTDUserId
-    ∷ row 42 8 1 0  -- Direction FTDDirection
-    ∷ row 42 14 1 0  -- OffsetFlag FTDOffsetFlag
-    ∷ row 42 10 1 0  -- HedgeFlag FTDHedgeFlag
-    ∷ row 42 3 8 0  -- ParticipantId FTDParticipantId
-    ∷ row 42 3 8 0  -- ClientId FTDClientId
-    ∷ row 42 3 24 0  -- OrderLocalId FTDLocalId
+    ∷ row 42 stringKind 10 0  -- InstrumentId FTDInstrumentId
+    ∷ row 42 forceExitCodeKind 1 0  -- InstrumentVersion FTDInstrumentVersion
+    ∷ row 42 boolFlagKind 1 0  -- CancelFlag FTDBoolFlag
+    ∷ row 42 dateKind 8 0  -- CancelDate FTDDate
+    ∷ row 42 stringKind 8 0  -- CancelTime FTDTime
+    ∷ row 42 stringKind 20 0  -- TradeId FTDTradeId
+    ∷ row 42 dateKind 8 0  -- MatchDate FTDDate
+    ∷ row 42 stringKind 8 0  -- MatchTime FTDTime
+    ∷ row 42 dateKind 8 0  -- ClearDate FTDDate
+    ∷ row 42 floatKind 12 4  -- Price FTDPrice
+    ∷ row 42 intKind 4 0  -- Volume FTDVolume
+    ∷ row 42 stringKind 20 0  -- OrderSysId FTDSysOrderId
+    ∷ row 42 stringKind 15 0  -- UserId FTDUserId
+    ∷ row 42 boolFlagKind 1 0  -- Direction FTDDirection
+    ∷ row 42 offsetFlagKind 1 0  -- OffsetFlag FTDOffsetFlag
+    ∷ row 42 hedgeFlagKind 1 0  -- HedgeFlag FTDHedgeFlag
+    ∷ row 42 stringKind 8 0  -- ParticipantId FTDParticipantId
+    ∷ row 42 stringKind 8 0  -- ClientId FTDClientId
+    ∷ row 42 stringKind 24 0  -- OrderLocalId FTDLocalId
     -- UserField, FID 0x002B: 6 rows, 46 bytes
-    ∷ row 43 3 15 0  -- UserId FTDUserId
-    ∷ row 43 3 8 0  -- ParticipantId FTDParticipantId
-    ∷ row 43 3 20 0  -- Name FTDStringType<20>
-    ∷ row 43 8 1 0  -- IsLogin FTDBoolFlag
-    ∷ row 43 9 1 0  -- UserStatus FTDUserStatus
-    ∷ row 43 9 1 0  -- UserType FTDUserType
+    ∷ row 43 stringKind 15 0  -- UserId FTDUserId
+    ∷ row 43 stringKind 8 0  -- ParticipantId FTDParticipantId
+    ∷ row 43 stringKind 20 0  -- Name FTDStringType<20>
+    ∷ row 43 boolFlagKind 1 0  -- IsLogin FTDBoolFlag
+    ∷ row 43 forceExitCodeKind 1 0  -- UserStatus FTDUserStatus
+    ∷ row 43 forceExitCodeKind 1 0  -- UserType FTDUserType
     -- UserLoginField, FID 0x002C: 13 rows, 186 bytes
-    ∷ row 44 3 8 0  -- ParticipantId FTDParticipantId
-    ∷ row 44 3 15 0  -- UserId FTDUserId
-    ∷ row 44 3 20 0  -- IpAddr FTDStringType<20>
-    ∷ row 44 8 1 0  -- DialogStreamStatus FTDBoolFlag
-    ∷ row 44 3 20 0  -- DialogLoginTime FTDDateTime
-    ∷ row 44 3 20 0  -- DialogLogoutTime FTDDateTime
-    ∷ row 44 8 1 0  -- PrivateStreamStatus FTDBoolFlag
-    ∷ row 44 3 20 0  -- PrivateLoginTime FTDDateTime
-    ∷ row 44 3 20 0  -- PrivateLogoutTime FTDDateTime
-    ∷ row 44 8 1 0  -- BroadcastStreamStatus FTDBoolFlag
-    ∷ row 44 3 20 0  -- BroadcastLoginTime FTDDateTime
-    ∷ row 44 3 20 0  -- BroadcastLogoutTime FTDDateTime
-    ∷ row 44 3 20 0  -- FrontId FTDStringType<20>
+    ∷ row 44 stringKind 8 0  -- ParticipantId FTDParticipantId
+    ∷ row 44 stringKind 15 0  -- UserId FTDUserId
+    ∷ row 44 stringKind 20 0  -- IpAddr FTDStringType<20>
+    ∷ row 44 boolFlagKind 1 0  -- DialogStreamStatus FTDBoolFlag
+    ∷ row 44 stringKind 20 0  -- DialogLoginTime FTDDateTime
+    ∷ row 44 stringKind 20 0  -- DialogLogoutTime FTDDateTime
+    ∷ row 44 boolFlagKind 1 0  -- PrivateStreamStatus FTDBoolFlag
+    ∷ row 44 stringKind 20 0  -- PrivateLoginTime FTDDateTime
+    ∷ row 44 stringKind 20 0  -- PrivateLogoutTime FTDDateTime
+    ∷ row 44 boolFlagKind 1 0  -- BroadcastStreamStatus FTDBoolFlag
+    ∷ row 44 stringKind 20 0  -- BroadcastLoginTime FTDDateTime
+    ∷ row 44 stringKind 20 0  -- BroadcastLogoutTime FTDDateTime
+    ∷ row 44 stringKind 20 0  -- FrontId FTDStringType<20>
     ∷ []
 
 -- The rows of a field, its width, and whether the FID is known.

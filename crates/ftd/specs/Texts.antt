@@ -5,13 +5,16 @@ use mathlib.Core.Bool.{Bool, cond, _&&_}
 use lib.ListN.{length, replicate}
 use lib.Dec.{leb, eqb}
 use Rattle.ftd.specs.Values.{every, isText, isSpace}
+use Rattle.ftd.specs.declared.texts.Text.{Text}
+use Rattle.ftd.specs.declared.texts.Text.the-variants.{NoValue, Value}
 
 abbrev pub trimmed : List ℕ → List ℕ
 trimmed [] = []
 trimmed (x ∷ xs) = cond (every isSpace (x ∷ xs)) [] (x ∷ trimmed xs)
 
-unfoldable pub textValue : List ℕ → List ℕ
-textValue l = trimmed l
+-- The value is the first of the bytes, as many as stand before trailing spaces; none where a byte is none of a String.
+unfoldable pub textValue : List ℕ → Text
+textValue l = cond (every isText l) (Value (length (trimmed l))) NoValue
 
 unfoldable pub textBytes : ℕ → List ℕ → List ℕ
 textBytes width value = value ++ replicate (width - length value) 0x20

@@ -6,7 +6,7 @@ use mathlib.Core.List.{List, [], _∷_, _++_}
 use mathlib.Core.Bool.{Bool, true, false, cond, not, _&&_, _||_}
 use lib.ListN.{length, getD, take, drop}
 use lib.Dec.{leb, ltb, eqb}
-use Rattle.ftd.specs.Table.{enumerations}
+use Rattle.ftd.specs.Table.{charKind, wordKind, intKind, stringKind, numberKind, floatKind, dateKind, firstListed, lastListed, enumerations}
 
 -- ─── Classes of bytes ───
 
@@ -29,7 +29,7 @@ isZero b = eqb b 0x30
 abbrev pub isSpace : ℕ → Bool
 isSpace b = eqb b 0x20
 
--- ─── Char with an enumeration, kinds 7 to 16 ───
+-- ─── Char with an enumeration ───
 
 abbrev pub among : ℕ → List ℕ → Bool
 among b [] = false
@@ -37,7 +37,7 @@ among b (v ∷ vs) = eqb b v || among b vs
 
 -- Its values, and 0 for unused.
 unfoldable pub isListed : ℕ → ℕ → Bool
-isListed kind b = eqb b 0 || among b (getD enumerations (kind - 7) [])
+isListed kind b = eqb b 0 || among b (getD enumerations (kind - firstListed) [])
 
 -- ─── Number and Float ───
 
@@ -85,12 +85,12 @@ isDate l =
 -- By kind and decimals. A Char without an enumeration, a Word and an Int are any bytes of their width.
 unfoldable pub isValue : ℕ → ℕ → List ℕ → Bool
 isValue kind scale l =
-    cond (eqb kind 0) (eqb (length l) 1)
-    (cond (eqb kind 1) (eqb (length l) 2)
-    (cond (eqb kind 2) (eqb (length l) 4)
-    (cond (eqb kind 3) (every isText l)
-    (cond (eqb kind 4) (isNumber l)
-    (cond (eqb kind 5) (isFloat scale l)
-    (cond (eqb kind 6) (isDate l)
-    (cond (leb kind 16) (eqb (length l) 1 && isListed kind (getD l 0 0))
+    cond (eqb kind charKind) (eqb (length l) 1)
+    (cond (eqb kind wordKind) (eqb (length l) 2)
+    (cond (eqb kind intKind) (eqb (length l) 4)
+    (cond (eqb kind stringKind) (every isText l)
+    (cond (eqb kind numberKind) (isNumber l)
+    (cond (eqb kind floatKind) (isFloat scale l)
+    (cond (eqb kind dateKind) (isDate l)
+    (cond (leb kind lastListed) (eqb (length l) 1 && isListed kind (getD l 0 0))
     false)))))))

@@ -5,13 +5,14 @@ use mathlib.Core.Bool.{Bool, true, false, cond, _&&_}
 use lib.ListN.{length, getD}
 use lib.Dec.{leb, ltb, eqb}
 use Rattle.ftd.specs.Bytes.{be16Of, be32Of}
+use Rattle.ftd.specs.Table.{charKind, firstListed, lastListed}
 use Rattle.ftd.specs.Values.{isListed}
 use Rattle.ftd.specs.declared.whole.Whole.{Whole}
 use Rattle.ftd.specs.declared.whole.Whole.the-variants.{NoValue, Value}
 
--- A byte is a value of a Char: any without an enumeration, kind 0; with one, kinds 7 to 16, those that it lists and 0.
+-- A byte is a value of a Char: any without an enumeration; with one, those that it lists and 0.
 unfoldable pub charFits : ℕ → ℕ → Bool
-charFits kind b = cond (eqb kind 0) true (cond (ltb kind 7) false (cond (leb kind 16) (isListed kind b) false))
+charFits kind b = cond (eqb kind charKind) true (cond (ltb kind firstListed) false (cond (leb kind lastListed) (isListed kind b) false))
 
 unfoldable pub charValue : ℕ → List ℕ → Whole
 charValue kind l = cond (eqb (length l) 1 && charFits kind (getD l 0 0)) (Value (getD l 0 0)) NoValue

@@ -73,21 +73,14 @@ fn date_fits(v: Date) -> bool
     }
 }
 
-// A number of at most four digits as one of sixty-four bits.
-fn wide64(x: u16) -> u64
-    ensures { λ r. ⌜ r ≡ x ⌝ }
-{
-    x as u64
-}
-
 // The bytes of a day.
 fn put_day(out: &mut [u8], year: u16, month: u8, day: u8)
     requires { ⌜ 8 ≤ length (now out) ⌝ }
     ensures { λ _. ⌜ now (out .exit) ≡ put (now (out .entry)) 0 (dateBytes (Date.Day year month day)) ⌝ }
 {
-    put_digits(out, 0, 4, wide64(year));
-    put_digits(out, 4, 2, wide64(wide16(month)));
-    put_digits(out, 6, 2, wide64(wide16(day)));
+    put_digits(out, 0, 4, year as u64);
+    put_digits(out, 4, 2, month as u64);
+    put_digits(out, 6, 2, day as u64);
 }
 
 // The bytes of a value.

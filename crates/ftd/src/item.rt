@@ -1,19 +1,18 @@
 // The value of an item of a field, by FID and item number: read and written.
-ghost use mathlib.Core.Bool.{_&&_};
 ghost use mathlib.Core.Path.{_≡_};
-ghost use lib.Dec.{ltb, eqb};
-ghost use Rattle.ftd.specs.Bytes.{bytes16, bytes32};
 ghost use Rattle.ftd.specs.Write.{writtenAnswer, writtenOutput, fitVerdict};
-ghost use Rattle.ftd.specs.Signed.Write.{numberBytes, numberFits, floatBytes, floatFits};
-ghost use Rattle.ftd.specs.Texts.{textBytes, textFits};
-ghost use Rattle.ftd.specs.Dates.{dateBytes, dateFits};
-ghost use Rattle.ftd.specs.Whole.{charValue, wordValue, intValue};
-ghost use Rattle.ftd.specs.Item.{word, int, char, number, float, wholeAs, signedAs, dateAs, textAs, typedValue, givenAt, itemValueOf, itemFits, itemWritten, ItemLaws};
+ghost use Rattle.ftd.specs.Item.{typedValue, givenAt, itemValueOf, ofKind, itemFits, itemWritten, ItemLaws};
 use crate::bytes::be16;
 use crate::bytes::be32;
 use crate::dates::Date;
 use crate::dates::read_date;
 use crate::dates::write_date;
+use crate::kinds::DATE;
+use crate::kinds::FLOAT;
+use crate::kinds::INT;
+use crate::kinds::NUMBER;
+use crate::kinds::STRING;
+use crate::kinds::WORD;
 use crate::places::ItemPlace;
 use crate::places::item_place;
 use crate::refusal::Refusal;
@@ -22,10 +21,9 @@ use crate::signed::read_float;
 use crate::signed::read_number;
 use crate::signed::write_float;
 use crate::signed::write_number;
-use crate::texts::text_size;
+use crate::texts::Text;
+use crate::texts::read_text;
 use crate::texts::write_text;
-use crate::values::Class;
-use crate::values::all_in;
 use crate::whole::char_fits;
 use crate::whole::write_char;
 use crate::whole::write_int;
@@ -46,90 +44,54 @@ pub enum FieldItem {
     Date(Date),
 }
 
-// By type. Only a text's value depends on where the item starts.
-fn char_item(kind: u8, s: &[u8]) -> FieldItem
-    ensures { λ r. ⌜ r ≡ givenAt 0 (wholeAs char (charValue kind (now (s .entry)))) ⌝ }
-{
-    if s.len() == 1 {
-        if char_fits(kind, s[0]) {
-            return FieldItem::Char(s[0]);
-        }
-        return FieldItem::NoValue;
-    }
-    FieldItem::NoValue
-}
-
-fn word_item(s: &[u8]) -> FieldItem
-    ensures { λ r. ⌜ r ≡ givenAt 0 (wholeAs word (wordValue (now (s .entry)))) ⌝ }
-{
-    if s.len() == 2 {
-        return FieldItem::Word(be16(s, 0));
-    }
-    FieldItem::NoValue
-}
-
-fn int_item(s: &[u8]) -> FieldItem
-    ensures { λ r. ⌜ r ≡ givenAt 0 (wholeAs int (intValue (now (s .entry)))) ⌝ }
-{
-    if s.len() == 4 {
-        return FieldItem::Int(be32(s, 0));
-    }
-    FieldItem::NoValue
-}
-
-fn text_item(s: &[u8], start: usize) -> FieldItem
-    ensures { λ r. ⌜ r ≡ givenAt start (textAs (now (s .entry))) ⌝ }
-{
-    if all_in(Class::Text, s, 0, s.len()) {
-        return FieldItem::Text {
-            start,
-            len: text_size(s),
-        };
-    }
-    FieldItem::NoValue
-}
-
-fn number_item(v: Signed) -> FieldItem
-    ensures { λ r. ⌜ r ≡ givenAt 0 (signedAs number v) ⌝ }
-{
-    match v {
-        Signed::NoValue => FieldItem::NoValue,
-        Signed::Value { negative, units } => FieldItem::Number { negative, units },
-    }
-}
-
-fn float_item(v: Signed) -> FieldItem
-    ensures { λ r. ⌜ r ≡ givenAt 0 (signedAs float v) ⌝ }
-{
-    match v {
-        Signed::NoValue => FieldItem::NoValue,
-        Signed::Value { negative, units } => FieldItem::Float { negative, units },
-    }
-}
-
-fn date_item(v: Date) -> FieldItem
-    ensures { λ r. ⌜ r ≡ givenAt 0 (dateAs v) ⌝ }
-{
-    match v {
-        Date::NoDate => FieldItem::NoValue,
-        Date::Unused => FieldItem::Date(Date::Unused),
-        Date::Day { year, month, day } => FieldItem::Date(Date::Day { year, month, day }),
-    }
-}
-
 // An item's bytes by kind and decimals; the item starts at `start`.
 fn typed_item(kind: u8, scale: u8, s: &[u8], start: usize) -> FieldItem
     ensures { λ r. ⌜ r ≡ givenAt start (typedValue kind scale (now (s .entry))) ⌝ }
 {
-    match kind {
-        1 => word_item(s),
-        2 => int_item(s),
-        3 => text_item(s, start),
-        4 => number_item(read_number(s)),
-        5 => float_item(read_float(scale, s)),
-        6 => date_item(read_date(s)),
-        _ => char_item(kind, s),
+    if kind == WORD {
+        if s.len() == 2 {
+            return FieldItem::Word(be16(s, 0));
+        }
+        return FieldItem::NoValue;
     }
+    if kind == INT {
+        if s.len() == 4 {
+            return FieldItem::Int(be32(s, 0));
+        }
+        return FieldItem::NoValue;
+    }
+    if kind == STRING {
+        return match read_text(s) {
+            Text::NoValue => FieldItem::NoValue,
+            Text::Value { len } => FieldItem::Text { start, len },
+        };
+    }
+    if kind == NUMBER {
+        return match read_number(s) {
+            Signed::NoValue => FieldItem::NoValue,
+            Signed::Value { negative, units } => FieldItem::Number { negative, units },
+        };
+    }
+    if kind == FLOAT {
+        return match read_float(scale, s) {
+            Signed::NoValue => FieldItem::NoValue,
+            Signed::Value { negative, units } => FieldItem::Float { negative, units },
+        };
+    }
+    if kind == DATE {
+        return match read_date(s) {
+            Date::NoDate => FieldItem::NoValue,
+            Date::Unused => FieldItem::Date(Date::Unused),
+            Date::Day { year, month, day } => FieldItem::Date(Date::Day { year, month, day }),
+        };
+    }
+    if s.len() != 1 {
+        return FieldItem::NoValue;
+    }
+    if char_fits(kind, s[0]) {
+        return FieldItem::Char(s[0]);
+    }
+    FieldItem::NoValue
 }
 
 // Item i of a field, counted from 0, in the field's bytes (without FID and length).
@@ -155,72 +117,27 @@ pub fn read_item(fid: u32, i: usize, field: &[u8]) -> FieldItem
     }
 }
 
-// A value written as its type; an item of another type is refused.
-fn word_out(out: &mut [u8], kind: u8, x: u16) -> Written
-    ensures answer { λ r. ⌜ r ≡ writtenAnswer (fitVerdict (eqb kind 1 && ltb x 65536)) (bytes16 x) (now (out .entry)) ⌝ }
-    ensures output { λ _. ⌜ now (out .exit) ≡ writtenOutput (fitVerdict (eqb kind 1 && ltb x 65536)) (bytes16 x) (now (out .entry)) ⌝ }
+// A value is of the item's type. A Char's kind is tested where it is written.
+fn of_kind(kind: u8, value: FieldItem) -> bool
+    ensures { λ r. ⌜ r ≡ ofKind kind value ⌝ }
 {
-    if kind == 1 {
-        return write_word(out, x);
+    match value {
+        FieldItem::NoItem => false,
+        FieldItem::NoValue => false,
+        FieldItem::Char(_) => true,
+        FieldItem::Word(_) => kind == WORD,
+        FieldItem::Int(_) => kind == INT,
+        FieldItem::Text { start: _, len: _ } => kind == STRING,
+        FieldItem::Number {
+            negative: _,
+            units: _,
+        } => kind == NUMBER,
+        FieldItem::Float {
+            negative: _,
+            units: _,
+        } => kind == FLOAT,
+        FieldItem::Date(_) => kind == DATE,
     }
-    Written::Refused(Refusal::Item)
-}
-
-fn int_out(out: &mut [u8], kind: u8, x: u32) -> Written
-    ensures answer { λ r. ⌜ r ≡ writtenAnswer (fitVerdict (eqb kind 2 && ltb x 4294967296)) (bytes32 x) (now (out .entry)) ⌝ }
-    ensures output { λ _. ⌜ now (out .exit) ≡ writtenOutput (fitVerdict (eqb kind 2 && ltb x 4294967296)) (bytes32 x) (now (out .entry)) ⌝ }
-{
-    if kind == 2 {
-        return write_int(out, x);
-    }
-    Written::Refused(Refusal::Item)
-}
-
-fn text_out(out: &mut [u8], kind: u8, width: usize, t: &[u8]) -> Written
-    ensures answer { λ r. ⌜ r ≡ writtenAnswer (fitVerdict (eqb kind 3 && textFits width (now (t .entry)))) (textBytes width (now (t .entry))) (now (out .entry)) ⌝ }
-    ensures output { λ _. ⌜ now (out .exit) ≡ writtenOutput (fitVerdict (eqb kind 3 && textFits width (now (t .entry)))) (textBytes width (now (t .entry))) (now (out .entry)) ⌝ }
-{
-    if kind == 3 {
-        return write_text(out, width, t);
-    }
-    Written::Refused(Refusal::Item)
-}
-
-fn number_out(out: &mut [u8], kind: u8, width: usize, negative: bool, units: u64) -> Written
-    ensures answer { λ r. ⌜ r ≡ writtenAnswer (fitVerdict (eqb kind 4 && numberFits width negative units)) (numberBytes width negative units) (now (out .entry)) ⌝ }
-    ensures output { λ _. ⌜ now (out .exit) ≡ writtenOutput (fitVerdict (eqb kind 4 && numberFits width negative units)) (numberBytes width negative units) (now (out .entry)) ⌝ }
-{
-    if kind == 4 {
-        return write_number(out, width, negative, units);
-    }
-    Written::Refused(Refusal::Item)
-}
-
-fn float_out(
-    out: &mut [u8],
-    kind: u8,
-    scale: u8,
-    width: usize,
-    negative: bool,
-    units: u64,
-) -> Written
-    ensures answer { λ r. ⌜ r ≡ writtenAnswer (fitVerdict (eqb kind 5 && floatFits scale width negative units)) (floatBytes scale width negative units) (now (out .entry)) ⌝ }
-    ensures output { λ _. ⌜ now (out .exit) ≡ writtenOutput (fitVerdict (eqb kind 5 && floatFits scale width negative units)) (floatBytes scale width negative units) (now (out .entry)) ⌝ }
-{
-    if kind == 5 {
-        return write_float(out, scale, width, negative, units);
-    }
-    Written::Refused(Refusal::Item)
-}
-
-fn date_out(out: &mut [u8], kind: u8, v: Date) -> Written
-    ensures answer { λ r. ⌜ r ≡ writtenAnswer (fitVerdict (eqb kind 6 && dateFits v)) (dateBytes v) (now (out .entry)) ⌝ }
-    ensures output { λ _. ⌜ now (out .exit) ≡ writtenOutput (fitVerdict (eqb kind 6 && dateFits v)) (dateBytes v) (now (out .entry)) ⌝ }
-{
-    if kind == 6 {
-        return write_date(out, v);
-    }
-    Written::Refused(Refusal::Item)
 }
 
 // A value as item i of a field, at the start of the output; of a text, the bytes given beside it. What does not fit the item is
@@ -236,24 +153,33 @@ pub fn write_item(fid: u32, i: usize, value: FieldItem, text: &[u8], out: &mut [
             scale,
             start: _,
             width,
-        } => match value {
-            FieldItem::NoItem => Written::Refused(Refusal::Item),
-            FieldItem::NoValue => Written::Refused(Refusal::Item),
-            FieldItem::Char(b) => write_char(out, kind, b),
-            FieldItem::Word(x) => word_out(out, kind, x),
-            FieldItem::Int(x) => int_out(out, kind, x),
-            FieldItem::Text { start: _, len: _ } => text_out(out, kind, width, text),
-            FieldItem::Number { negative, units } => number_out(out, kind, width, negative, units),
-            FieldItem::Float { negative, units } => float_out(
-                out,
-                kind,
-                scale,
-                width,
-                negative,
-                units,
-            ),
-            FieldItem::Date(d) => date_out(out, kind, d),
-        },
+        } => {
+            if of_kind(kind, value) {
+                return match value {
+                    FieldItem::NoItem => Written::Refused(Refusal::Item),
+                    FieldItem::NoValue => Written::Refused(Refusal::Item),
+                    FieldItem::Char(b) => write_char(out, kind, b),
+                    FieldItem::Word(x) => write_word(out, x),
+                    FieldItem::Int(x) => write_int(out, x),
+                    FieldItem::Text { start: _, len: _ } => write_text(out, width, text),
+                    FieldItem::Number { negative, units } => write_number(
+                        out,
+                        width,
+                        negative,
+                        units,
+                    ),
+                    FieldItem::Float { negative, units } => write_float(
+                        out,
+                        scale,
+                        width,
+                        negative,
+                        units,
+                    ),
+                    FieldItem::Date(d) => write_date(out, d),
+                };
+            }
+            Written::Refused(Refusal::Item)
+        }
     }
 }
 

@@ -12,7 +12,7 @@ use crate::table::scale_at;
 use crate::table::start_of;
 use crate::table::width_at;
 
-// Kind and decimals of an item, and where it lies in its field.
+// Kind (src/kinds.rt) and decimals of an item, and where it lies in its field.
 pub enum ItemPlace {
     NoItem,
     Item {

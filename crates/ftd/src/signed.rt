@@ -1,14 +1,13 @@
 // Numbers and Floats: a sign and a whole number of units; read, written, and as a signed integer.
 ghost use mathlib.Core.List.{_++_};
 ghost use mathlib.Core.Path.{_≡_};
-ghost use Prim.Native.Nat.{_+_, _-_, _*_, _≤_, _%_};
-ghost use lib.IntN.{pos, negℤ};
+ghost use Prim.Native.Nat.{_+_, _-_, _*_, _≤_};
+ghost use lib.IntN.{pos};
 ghost use lib.ListN.{length, take, drop};
 ghost use Rattle.ftd.specs.Bytes.{put};
 ghost use Rattle.ftd.specs.Signed.{pow10, digitsOf, signedOf, numberValue, floatValue};
 ghost use Rattle.ftd.specs.Signed.Integer.{integerOf, fromInteger};
 ghost use Rattle.ftd.specs.Signed.Write.{digitsIn, numberBytes, numberFits, floatBytes, floatFits};
-ghost use Rattle.ftd.specs.Values.{digitOf};
 ghost use Rattle.ftd.specs.Values.Laws.{ValueLaws};
 ghost use Rattle.ftd.specs.Write.{writtenAnswer, writtenOutput, fitVerdict};
 use crate::bytes::put8;
@@ -25,13 +24,6 @@ pub enum Signed {
     Value { negative: bool, units: u64 },
 }
 
-// A digit as a number of sixty-four bits.
-fn digit64(b: u8) -> u64
-    ensures { λ r. ⌜ (r ≡ digitOf b) × (r ≤ 9) ⌝ }
-{
-    digit(b) as u64
-}
-
 // The number that the digits of a part make behind those of `start`.
 fn digits(start: u64, s: &[u8], from: usize, to: usize) -> u64
     requires { ⌜ (from ≤ to) × (to ≤ length (now s)) × ((start + 1) * pow10 (to - from) ≤ pow10 18) ⌝ }
@@ -40,7 +32,7 @@ fn digits(start: u64, s: &[u8], from: usize, to: usize) -> u64
     let mut n = start;
     let mut i = from;
     while i < to {
-        n = n * 10 + digit64(s[i]);
+        n = n * 10 + digit(s[i]) as u64;
         i += 1;
     }
     n
@@ -131,13 +123,6 @@ fn power(n: usize) -> u64
     POWER[n]
 }
 
-// The last digit of a number, as a byte.
-fn last_digit(x: u64) -> u8
-    ensures { λ r. ⌜ (r ≡ 0x30 + x % 10) ⌝ }
-{
-    b'0' + (x % 10) as u8
-}
-
 // The last digits of a number, as many as `width`.
 pub(crate) fn put_digits(out: &mut [u8], at: usize, width: usize, units: u64)
     requires { ⌜ at + width ≤ length (now out) ⌝ }
@@ -147,7 +132,7 @@ pub(crate) fn put_digits(out: &mut [u8], at: usize, width: usize, units: u64)
     let mut i = width;
     while 0 < i {
         i -= 1;
-        put8(out, at + i, last_digit(left));
+        put8(out, at + i, 48 + (left % 10) as u8);
         left = left / 10;
     }
 }
@@ -259,14 +244,6 @@ fn above(units: u64) -> i64
     units as i64
 }
 
-// A magnitude below zero.
-fn below(units: u64) -> i64
-    requires { ⌜ units ≤ 999999999999999999 ⌝ }
-    ensures { λ r. ⌜ r ≡ negℤ (pos units) ⌝ }
-{
-    0 - above(units)
-}
-
 // A value that was read, as a plain signed number of units.
 pub fn integer_of(v: Signed) -> Integer
     ensures { λ r. ⌜ r ≡ integerOf v ⌝ }
@@ -278,7 +255,7 @@ pub fn integer_of(v: Signed) -> Integer
                 return Integer::NoInteger;
             }
             if negative {
-                return Integer::Number(below(units));
+                return Integer::Number(0 - above(units));
             }
             Integer::Number(above(units))
         }

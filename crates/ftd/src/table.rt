@@ -10,7 +10,7 @@ use crate::bytes::size16;
 // The last FID of Appendix D.
 pub(crate) const LAST_FID: u32 = 46;
 
-// The kind of each row (specs/Table.antt says which number is which type, and names the rows).
+// The kind of each row (src/kinds.rt has their names; specs/Table.antt names the rows).
 pub(crate) const KIND: [u8; 379] = [
     3,
     8,

@@ -12,8 +12,14 @@ use crate::values::Class;
 use crate::values::all_in;
 use crate::write::Written;
 
-// How many bytes a String's value has, trailing spaces aside.
-pub fn text_size(s: &[u8]) -> usize
+// A String's value is its first `len` bytes; or none, where the bytes are no String.
+pub enum Text {
+    NoValue,
+    Value { len: usize },
+}
+
+// How many bytes there are, trailing spaces aside.
+fn text_size(s: &[u8]) -> usize
     ensures { λ r. ⌜ (r ≡ length (trimmed (now (s .entry)))) × (r ≤ length (now (s .entry))) ⌝ }
 {
     let mut n = s.len();
@@ -27,11 +33,14 @@ pub fn text_size(s: &[u8]) -> usize
     0
 }
 
-// A String's value, a part of the lent bytes.
-pub fn read_text(s: &[u8]) -> &[u8]
-    ensures { λ r. ⌜ now r ≡ textValue (now (s .entry)) ⌝ }
+// The bytes as a String.
+pub fn read_text(s: &[u8]) -> Text
+    ensures { λ r. ⌜ r ≡ textValue (now (s .entry)) ⌝ }
 {
-    &s[..text_size(s)]
+    if all_in(Class::Text, s, 0, s.len()) {
+        return Text::Value { len: text_size(s) };
+    }
+    Text::NoValue
 }
 
 // A value fits a String of a width.

@@ -4,13 +4,24 @@ ghost use mathlib.Core.List.{_++_};
 ghost use mathlib.Core.Path.{_≡_};
 ghost use Prim.Native.Nat.{_+_, _-_, _<_, _≤_};
 ghost use lib.ListN.{length, take, drop};
+ghost use Rattle.ftd.specs.Table.{firstListed, lastListed};
 ghost use Rattle.ftd.specs.Values.{every, isListed, isNumber, isFloat, digitOf, twoDigits, rightDay, isDate, isValue};
 ghost use Rattle.ftd.specs.Values.Helpers.{inClass};
 use crate::bytes::size8;
+use crate::kinds::ACTION_FLAG;
+use crate::kinds::CHAR;
+use crate::kinds::DATE;
+use crate::kinds::FLOAT;
+use crate::kinds::INT;
+use crate::kinds::NUMBER;
+use crate::kinds::ORDER_TYPE;
+use crate::kinds::STRING;
+use crate::kinds::WORD;
 
-// The values of the enumerations of kinds 7 to 16, with 0: eight entries for each, 1 where the value is listed.
+// The values of the enumerations of Appendix B by kind, from the first to the last, with 0: eight entries for each, 1 where
+// the value is listed.
 const LISTED: [u8; 80] = [
-    1, // 7: 0 1 2
+    1, // ACTION_FLAG: 0 1 2
     1,
     1,
     0,
@@ -18,7 +29,7 @@ const LISTED: [u8; 80] = [
     0,
     0,
     0,
-    1, // 8: 0 1
+    1, // BOOL_FLAG: 0 1
     1,
     0,
     0,
@@ -26,7 +37,7 @@ const LISTED: [u8; 80] = [
     0,
     0,
     0,
-    1, // 9: 0
+    1, // FORCE_EXIT_CODE: 0
     0,
     0,
     0,
@@ -34,7 +45,7 @@ const LISTED: [u8; 80] = [
     0,
     0,
     0,
-    1, // 10: 0 1 3
+    1, // HEDGE_FLAG: 0 1 3
     1,
     0,
     1,
@@ -42,7 +53,7 @@ const LISTED: [u8; 80] = [
     0,
     0,
     0,
-    1, // 11: 0 1 2 3 4
+    1, // INSTRUMENT_STATUS: 0 1 2 3 4
     1,
     1,
     1,
@@ -50,7 +61,7 @@ const LISTED: [u8; 80] = [
     0,
     0,
     0,
-    1, // 12: 0 1 2 3 4 5
+    1, // MATCH_CONDITION: 0 1 2 3 4 5
     1,
     1,
     1,
@@ -58,7 +69,7 @@ const LISTED: [u8; 80] = [
     1,
     0,
     0,
-    1, // 13: 0 1 2 3 4 5 6 7
+    1, // MATCH_SESSION: 0 1 2 3 4 5 6 7
     1,
     1,
     1,
@@ -66,23 +77,23 @@ const LISTED: [u8; 80] = [
     1,
     1,
     1,
-    1, // 14: 0 1 2 3
-    1,
-    1,
-    1,
-    0,
-    0,
-    0,
-    0,
-    1, // 15: 0 1 2 3 4 5
-    1,
-    1,
+    1, // OFFSET_FLAG: 0 1 2 3
     1,
     1,
     1,
     0,
     0,
-    1, // 16: 0 1 2 3 4 5 6
+    0,
+    0,
+    1, // ORDER_STATUS: 0 1 2 3 4 5
+    1,
+    1,
+    1,
+    1,
+    1,
+    0,
+    0,
+    1, // ORDER_TYPE: 0 1 2 3 4 5 6
     1,
     1,
     1,
@@ -253,13 +264,13 @@ pub(crate) fn right_day(month: u8, day: u8) -> bool
 
 // A byte is listed by an enumeration, or 0.
 pub(crate) fn is_listed(kind: u8, b: u8) -> bool
-    requires { ⌜ (7 ≤ kind) × (kind ≤ 16) ⌝ }
+    requires { ⌜ (firstListed ≤ kind) × (kind ≤ lastListed) ⌝ }
     ensures { λ r. ⌜ r ≡ isListed kind b ⌝ }
 {
     if 8 <= b {
         return false;
     }
-    LISTED[size8(kind - 7) * 8 + size8(b)] == 1
+    LISTED[size8(kind - ACTION_FLAG) * 8 + size8(b)] == 1
 }
 
 // The bytes are a value of a type, by kind and decimals.
@@ -267,14 +278,14 @@ pub fn is_value(kind: u8, scale: u8, s: &[u8]) -> bool
     ensures { λ r. ⌜ r ≡ isValue kind scale (now (s .entry)) ⌝ }
 {
     match kind {
-        0 => s.len() == 1,
-        1 => s.len() == 2,
-        2 => s.len() == 4,
-        3 => all_in(Class::Text, s, 0, s.len()),
-        4 => is_number(s),
-        5 => is_float(scale, s),
-        6 => is_date(s),
-        7..=16 => {
+        CHAR => s.len() == 1,
+        WORD => s.len() == 2,
+        INT => s.len() == 4,
+        STRING => all_in(Class::Text, s, 0, s.len()),
+        NUMBER => is_number(s),
+        FLOAT => is_float(scale, s),
+        DATE => is_date(s),
+        ACTION_FLAG..=ORDER_TYPE => {
             if s.len() == 1 {
                 return is_listed(kind, s[0]);
             }

@@ -7,10 +7,14 @@ ghost use Rattle.ftd.specs.Write.{writtenAnswer, writtenOutput, fitVerdi
 ghost use Rattle.ftd.specs.Whole.{charFits, charValue, wordValue, intValue};
 use crate::bytes::be16;
 use crate::bytes::be32;
+use crate::bytes::number16;
 use crate::bytes::put8;
 use crate::bytes::put16;
 use crate::bytes::put32;
 use crate::bytes::wide32;
+use crate::kinds::ACTION_FLAG;
+use crate::kinds::CHAR;
+use crate::kinds::ORDER_TYPE;
 use crate::refusal::Refusal;
 use crate::values::is_listed;
 use crate::write::Written;
@@ -25,13 +29,13 @@ pub enum Whole {
 pub fn char_fits(kind: u8, b: u8) -> bool
     ensures { λ r. ⌜ r ≡ charFits kind b ⌝ }
 {
-    if kind == 0 {
+    if kind == CHAR {
         return true;
     }
-    if kind < 7 {
+    if kind < ACTION_FLAG {
         return false;
     }
-    if kind <= 16 {
+    if kind <= ORDER_TYPE {
         return is_listed(kind, b);
     }
     false
@@ -50,19 +54,12 @@ pub fn read_char(kind: u8, s: &[u8]) -> Whole
     Whole::NoValue
 }
 
-// A two-byte number as one of four.
-fn wide(x: u16) -> u32
-    ensures { λ r. ⌜ r ≡ x ⌝ }
-{
-    x as u32
-}
-
 // The bytes as a Word.
 pub fn read_word(s: &[u8]) -> Whole
     ensures { λ r. ⌜ r ≡ wordValue (now (s .entry)) ⌝ }
 {
     if s.len() == 2 {
-        return Whole::Value(wide(be16(s, 0)));
+        return Whole::Value(number16(be16(s, 0)));
     }
     Whole::NoValue
 }

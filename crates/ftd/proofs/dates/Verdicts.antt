@@ -85,9 +85,9 @@ module _ (v : Date) where
       go Unused h = refl
       go (Day y m d) h = refl
 
-pub put-three : (out : List ℕ) → 8 ≤ length out → (y m d y2 m2 d2 m3 d3 : ℕ) → y2 ≡ y → m2 ≡ m → m3 ≡ m2 → d2 ≡ d → d3 ≡ d2 → (a b c : List ℕ)
-    → a ≡ put out 0 (digitsIn 4 y2) → b ≡ put a 4 (digitsIn 2 m3) → c ≡ put b 6 (digitsIn 2 d3) → c ≡ put out 0 (dateBytes (Day y m d))
+pub put-three : (out : List ℕ) → 8 ≤ length out → (y m d : ℕ) (a b c : List ℕ)
+    → a ≡ put out 0 (digitsIn 4 y) → b ≡ put a 4 (digitsIn 2 m) → c ≡ put b 6 (digitsIn 2 d) → c ≡ put out 0 (dateBytes (Day y m d))
 unfolding dateBytes
-put-three out h y m d y2 m2 d2 m3 d3 i j k n o a b c p q r =
-    r ∙ rw (q, p, i, k, j, o, n) (ap (λ (l : List ℕ). put l 6 (digitsIn 2 d)) (put-put out 0 (digitsIn 4 y) (digitsIn 2 m) (omega arith))
+put-three out h y m d a b c p q r =
+    r ∙ rw (q, p) (ap (λ (l : List ℕ). put l 6 (digitsIn 2 d)) (put-put out 0 (digitsIn 4 y) (digitsIn 2 m) (omega arith))
     ∙ put-put out 0 (digitsIn 4 y ++ digitsIn 2 m) (digitsIn 2 d) (omega arith))

@@ -80,12 +80,12 @@ field-bytes fid bytes f n b (suc (suc (suc (suc (suc (suc i)))))) = b i
 
 -- ─── Written again ───
 
-left-bytes : (l r : List ℕ) → Bytes (l ++ r) → Bytes l
+pub left-bytes : (l r : List ℕ) → Bytes (l ++ r) → Bytes l
 left-bytes [] r b i = omega arith
 left-bytes (x ∷ l) r b zero = b zero
 left-bytes (x ∷ l) r b (suc i) = left-bytes l r (λ k. b (suc k)) i
 
-right-bytes : (l r : List ℕ) → Bytes (l ++ r) → Bytes r
+pub right-bytes : (l r : List ℕ) → Bytes (l ++ r) → Bytes r
 right-bytes [] r b = b
 right-bytes (x ∷ l) r b = right-bytes l r (λ k. b (suc k))
 

@@ -11,15 +11,15 @@ use lib.ListN.{length, getD, take, drop, length-take}
 use lib.Seq.{getD-take, getD-drop, take-take}
 use lib.Dec.{leb, ltb, eqb}
 use Rattle.ftd.specs.Bytes.{part, Bytes}
-use Rattle.ftd.specs.Table.{Row, row, table, rowsOf}
+use Rattle.ftd.specs.Table.{charKind, wordKind, intKind, stringKind, numberKind, floatKind, dateKind, firstListed, lastListed, Row, row, table, rowsOf}
 use Rattle.ftd.specs.Table.Rule.{rowsPlace, rowAt, rightForm}
 use Rattle.ftd.specs.Values.{every, isText, isNumber, isFloat, isSpace, isDate, isValue}
 use Rattle.ftd.specs.Whole.{charFits, charValue, wordValue, intValue}
 use Rattle.ftd.specs.Signed.{signedOf, numberValue, floatValue}
-use Rattle.ftd.specs.Texts.{trimmed, textValue, textFits}
+use Rattle.ftd.specs.Texts.{textValue, textFits}
 use Rattle.ftd.specs.Dates.{dateValue, dateFits}
 use Rattle.ftd.specs.Signed.Write.{numberFits, floatFits}
-use Rattle.ftd.specs.Item.{ItemValue, char, word, int, text, number, float, date, wholeAs, signedAs, dateAs, typedValue, valueOf, valueBytes, fits, givenAt, itemValueOf, RowLaws, ItemLaws}
+use Rattle.ftd.specs.Item.{ItemValue, char, word, int, text, number, float, date, wholeAs, signedAs, dateAs, textAs, typedValue, valueOf, valueBytes, fits, givenAt, itemValueOf, RowLaws, ItemLaws}
 use Rattle.ftd.specs.Places.{itemIn, itemOf}
 use Rattle.ftd.specs.declared.places.ItemPlace.the-variants.{Item as Place}
 use Rattle.ftd.specs.declared.item.FieldItem.the-variants.{NoItem, Text}
@@ -27,17 +27,19 @@ use Rattle.ftd.specs.declared.whole.Whole.{Whole}
 use Rattle.ftd.specs.declared.whole.Whole.the-variants.{NoValue, Value}
 use Rattle.ftd.specs.declared.signed.Signed.{Signed}
 use Rattle.ftd.specs.declared.signed.Signed.the-variants.{NoValue as NoSigned, Value as SignedValue}
+use Rattle.ftd.specs.declared.texts.Text.{Text as StringValue}
+use Rattle.ftd.specs.declared.texts.Text.the-variants.{NoValue as NoText, Value as TextValue}
 use Rattle.ftd.specs.declared.dates.Date.{Date}
 use Rattle.ftd.specs.declared.dates.Date.the-variants.{NoDate, Unused, Day}
 use Rattle.ftd.proofs.table.Rule.{row-count, table-rule, rows-length}
 use Rattle.ftd.proofs.signed.Stores.{fits-some, number-length, float-fits, float-length}
-use Rattle.ftd.proofs.texts.Laws.{trim-part, text-parts, text-length}
+use Rattle.ftd.proofs.texts.Laws.{text-inside, text-parts, text-length}
 use Rattle.ftd.proofs.dates.Verdicts.{date-wide}
 use Rattle.ftd.proofs.values.Laws.{value-laws}
 
 -- ─── Tests ───
 
-two : (a b : Bool) → (a && b) ≡ true → (a ≡ true) × (b ≡ true)
+pub two : (a b : Bool) → (a && b) ≡ true → (a ≡ true) × (b ≡ true)
 two true b e = (refl, e)
 two false b e = absurd (false≢true e)
 
@@ -60,6 +62,11 @@ signed-some : (make : Bool → ℕ → ItemValue) (o : Signed) (v : ItemValue) �
     → (n : Bool) × (x : ℕ) × (o ≡ SignedValue n x) × (v ≡ make n x)
 signed-some make NoSigned v e = let z : _≡_ {A = ℕ} 0 1 = cc in absurd (omega arith)
 signed-some make (SignedValue n x) v e = (n, x, refl, cc)
+
+text-some : (l : List ℕ) (o : StringValue) (v : ItemValue) → textAs l o ≡ some v
+    → (x : ℕ) × (o ≡ TextValue x) × (v ≡ text (take x l))
+text-some l NoText v e = let z : _≡_ {A = ℕ} 0 1 = cc in absurd (omega arith)
+text-some l (TextValue x) v e = (x, refl, cc)
 
 whole-there : (make : ℕ → ItemValue) (b : Bool) (x : ℕ) → b ≡ there (wholeAs make (cond b (Value x) NoValue))
 whole-there make true x = refl
@@ -104,31 +111,31 @@ abbrev Shows : ℕ → ℕ → ℕ → Type 0
 Shows kind scale width = (l : List ℕ) → length l ≡ width → isValue kind scale l ≡ there (typedValue kind scale l)
 
 module _ (s : ℕ) where
-  word-shows : (w : ℕ) → Shows 1 s w
+  word-shows : (w : ℕ) → Shows wordKind s w
   unfolding isValue typedValue wordValue
   word-shows w l n = whole-there word (eqb (length l) 2) _
 
-  int-shows : (w : ℕ) → Shows 2 s w
+  int-shows : (w : ℕ) → Shows intKind s w
   unfolding isValue typedValue intValue
   int-shows w l n = whole-there int (eqb (length l) 4) _
 
-  text-shows : (w : ℕ) → Shows 3 s w
-  unfolding isValue typedValue
-  text-shows w l n = go (every isText l)
+  text-shows : (w : ℕ) → Shows stringKind s w
+  unfolding isValue typedValue textValue
+  text-shows w l n = go (every isText l) _
     where
-      go : (b : Bool) → b ≡ there (cond b (some (text (textValue l))) none)
-      go true = refl
-      go false = refl
+      go : (b : Bool) (m : ℕ) → b ≡ there (textAs l (cond b (TextValue m) NoText))
+      go true m = refl
+      go false m = refl
 
-  number-shows : (w : ℕ) → w ≤ 18 → Shows 4 s w
+  number-shows : (w : ℕ) → w ≤ 18 → Shows numberKind s w
   unfolding isValue typedValue numberValue
   number-shows w h l n = rw (n, le-leb w 18 h) (signed-there number (isNumber l) l)
 
-  float-shows : (w : ℕ) → w ≤ 18 → Shows 5 s w
+  float-shows : (w : ℕ) → w ≤ 18 → Shows floatKind s w
   unfolding isValue typedValue floatValue
   float-shows w h l n = rw (n, le-leb w 18 h) (signed-there float (isFloat s l) _)
 
-  date-shows : (w : ℕ) → Shows 6 s w
+  date-shows : (w : ℕ) → Shows dateKind s w
   unfolding isValue typedValue dateValue
   date-shows w l n = date-there (isDate l) (every isSpace l) _ _ _
 
@@ -141,7 +148,7 @@ record CharRow (kind scale width : ℕ) : Type 0 where
   pub read : (l : List ℕ) → typedValue kind scale l ≡ wholeAs char (charValue kind l)
 
 module _ (f w s : ℕ) where
-  any-row : rightForm (row f 0 w s) ≡ true → CharRow 0 s w
+  any-row : rightForm (row f charKind w s) ≡ true → CharRow charKind s w
   unfolding isValue typedValue charFits
   any-row h = record { one = eqb-true w 1 (two (eqb w 1) (eqb s 0) h .0); check = λ l. go (eqb (length l) 1); read = λ l. refl }
     where
@@ -149,21 +156,21 @@ module _ (f w s : ℕ) where
       go true = refl
       go false = refl
 
-  listed-row : (k : ℕ) → 7 ≤ k → rightForm (row f k w s) ≡ true → CharRow k s w
+  listed-row : (k : ℕ) → firstListed ≤ k → rightForm (row f k w s) ≡ true → CharRow k s w
   unfolding isValue typedValue charFits
   listed-row k low h =
-      let n0 = ne-eqb k 0 (λ e. omega arith) in
-      let n1 = ne-eqb k 1 (λ e. omega arith) in
-      let n2 = ne-eqb k 2 (λ e. omega arith) in
-      let n3 = ne-eqb k 3 (λ e. omega arith) in
-      let n4 = ne-eqb k 4 (λ e. omega arith) in
-      let n5 = ne-eqb k 5 (λ e. omega arith) in
-      let n6 = ne-eqb k 6 (λ e. omega arith) in
-      let g : (leb k 16 && (eqb w 1 && eqb s 0)) ≡ true = rw (n1, n2, n3, n4, n5, n6) at h in
-      let t = two (leb k 16) _ g in
+      let n0 = ne-eqb k charKind (λ e. omega arith) in
+      let n1 = ne-eqb k wordKind (λ e. omega arith) in
+      let n2 = ne-eqb k intKind (λ e. omega arith) in
+      let n3 = ne-eqb k stringKind (λ e. omega arith) in
+      let n4 = ne-eqb k numberKind (λ e. omega arith) in
+      let n5 = ne-eqb k floatKind (λ e. omega arith) in
+      let n6 = ne-eqb k dateKind (λ e. omega arith) in
+      let g : (leb k lastListed && (eqb w 1 && eqb s 0)) ≡ true = rw (n1, n2, n3, n4, n5, n6) at h in
+      let t = two (leb k lastListed) _ g in
       record {
         one = eqb-true w 1 (two (eqb w 1) (eqb s 0) (t .1) .0);
-        check = λ l. rw (n0, n1, n2, n3, n4, n5, n6, le-ltb k 7 low, t .0);
+        check = λ l. rw (n0, n1, n2, n3, n4, n5, n6, le-ltb k firstListed low, t .0);
         read = λ l. rw (n1, n2, n3, n4, n5, n6);
       }
 
@@ -190,44 +197,39 @@ Again r = (l : List ℕ) → Bytes l → length l ≡ r .width → (v : ItemValu
     → (fits r v ≡ true) × (valueBytes r v ≡ l)
 
 module _ (f w s : ℕ) where
-  word-again : Again (row f 1 w s)
+  word-again : Again (row f wordKind w s)
   unfolding typedValue fits valueBytes
   word-again l b n v e =
       let t = whole-some word (wordValue l) v e in
       let p = value-laws .wordAgain l b (t .0) (t .1) in
       rw (t .2) (lt-ltb (t .0) 65536 (p .0), p .1)
 
-  int-again : Again (row f 2 w s)
+  int-again : Again (row f intKind w s)
   unfolding typedValue fits valueBytes
   int-again l b n v e =
       let t = whole-some int (intValue l) v e in
       let p = value-laws .intAgain l b (t .0) (t .1) in
       rw (t .2) (lt-ltb (t .0) 4294967296 (p .0), p .1)
 
-  text-again : Again (row f 3 w s)
+  text-again : Again (row f stringKind w s)
   unfolding typedValue fits valueBytes
-  text-again l b n v e = go (every isText l) refl e
-    where
-      go : (a : Bool) → every isText l ≡ a → cond a (some (text (textValue l))) none ≡ some v
-          → (fits (row f 3 w s) v ≡ true) × (valueBytes (row f 3 w s) v ≡ l)
-      go true p e =
-          let q : v ≡ text (textValue l) = cc in
-          rw (q, ← n) (value-laws .textAgain l p)
-      go false p e = let z : _≡_ {A = ℕ} 0 1 = cc in absurd (omega arith)
+  text-again l b n v e =
+      let t = text-some l (textValue l) v e in
+      rw (t .2, ← n) (value-laws .textAgain l (t .0) (t .1))
 
-  number-again : Again (row f 4 w s)
+  number-again : Again (row f numberKind w s)
   unfolding typedValue fits valueBytes
   number-again l b n v e =
       let t = signed-some number (numberValue l) v e in
       rw (t .3, ← n) (value-laws .numberAgain l (t .0) (t .1) (t .2))
 
-  float-again : Again (row f 5 w s)
+  float-again : Again (row f floatKind w s)
   unfolding typedValue fits valueBytes
   float-again l b n v e =
       let t = signed-some float (floatValue s l) v e in
       rw (t .3, ← n) (value-laws .floatAgain s l (t .0) (t .1) (t .2))
 
-  date-again : Again (row f 6 w s)
+  date-again : Again (row f dateKind w s)
   unfolding typedValue fits valueBytes
   date-again l b n v e =
       let t = date-some (dateValue l) v e in
@@ -253,29 +255,29 @@ module _ (f k w s : ℕ) (form : rightForm (row f k w s) ≡ true) where
       let c = is-char f k w s form b (t .1) in
       (sym (c .one), c .read (b ∷ []) ∙ ap (wholeAs char) (value-laws .charBack k b (t .1)))
   back (word x) e =
-      let q : k ≡ 1 = eqb-true k 1 (two (eqb k 1) (ltb x 65536) e .0) in
+      let q : k ≡ wordKind = eqb-true k wordKind (two (eqb k wordKind) (ltb x 65536) e .0) in
       let h : (eqb w 2 && eqb s 0) ≡ true = rw q at form in
       (sym (eqb-true w 2 (two (eqb w 2) (eqb s 0) h .0)), rw q (ap (wholeAs word) (value-laws .wordBack x)))
   back (int x) e =
-      let q : k ≡ 2 = eqb-true k 2 (two (eqb k 2) (ltb x 4294967296) e .0) in
+      let q : k ≡ intKind = eqb-true k intKind (two (eqb k intKind) (ltb x 4294967296) e .0) in
       let h : (eqb w 4 && eqb s 0) ≡ true = rw q at form in
       (sym (eqb-true w 4 (two (eqb w 4) (eqb s 0) h .0)), rw q (ap (wholeAs int) (value-laws .intBack x)))
   back (text l) e =
-      let t = two (eqb k 3) (textFits w l) e in
-      let q : k ≡ 3 = eqb-true k 3 (t .0) in
+      let t = two (eqb k stringKind) (textFits w l) e in
+      let q : k ≡ stringKind = eqb-true k stringKind (t .0) in
       let p = value-laws .textBack w l (t .1) in
       (text-length w l (text-parts w l (t .1) .0), rw (q, p .0, p .1))
   back (number n x) e =
-      let t = two (eqb k 4) (numberFits w n x) e in
-      let q : k ≡ 4 = eqb-true k 4 (t .0) in
+      let t = two (eqb k numberKind) (numberFits w n x) e in
+      let q : k ≡ numberKind = eqb-true k numberKind (t .0) in
       (number-length w n x (fits-some w n x (t .1) .0), rw q (ap (signedAs number) (value-laws .numberBack w n x (t .1))))
   back (float n x) e =
-      let t = two (eqb k 5) (floatFits s w n x) e in
-      let q : k ≡ 5 = eqb-true k 5 (t .0) in
+      let t = two (eqb k floatKind) (floatFits s w n x) e in
+      let q : k ≡ floatKind = eqb-true k floatKind (t .0) in
       (float-length s w n x (float-fits s w n x (t .1) .0), rw q (ap (signedAs float) (value-laws .floatBack s w n x (t .1))))
   back (date d) e =
-      let t = two (eqb k 6) (dateFits d) e in
-      let q : k ≡ 6 = eqb-true k 6 (t .0) in
+      let t = two (eqb k dateKind) (dateFits d) e in
+      let q : k ≡ dateKind = eqb-true k dateKind (t .0) in
       let h : (eqb w 8 && eqb s 0) ≡ true = rw q at form in
       (date-wide d true (sym (t .1)) refl ∙ sym (eqb-true w 8 (two (eqb w 8) (eqb s 0) h .0)), rw q (ap dateAs (value-laws .dateBack d (t .1)) ∙ date-as d (t .1)))
 
@@ -287,7 +289,7 @@ module _ (r : Row) (l : List ℕ) where
   unfolding valueOf
   wide-value n = rw (eq-eqb (length l) (r .width) n)
 
-  value-wide : (v : ItemValue) → valueOf r l ≡ some v → length l ≡ r .width
+  pub value-wide : (v : ItemValue) → valueOf r l ≡ some v → length l ≡ r .width
   unfolding valueOf
   value-wide v e = go (eqb (length l) (r .width)) refl e
     where
@@ -314,15 +316,15 @@ char-laws f k w s h c = typed-laws f k w s h (char-shows k s w c) (char-again f 
 
 -- By the number of its kind.
 row-laws : (f k w s : ℕ) → rightForm (row f k w s) ≡ true → RowLaws (row f k w s)
-row-laws f zero w s h = char-laws f 0 w s h (any-row f w s h)
-row-laws f (suc zero) w s h = typed-laws f 1 w s h (word-shows s w) (word-again f w s)
-row-laws f (suc (suc zero)) w s h = typed-laws f 2 w s h (int-shows s w) (int-again f w s)
-row-laws f (suc (suc (suc zero))) w s h = typed-laws f 3 w s h (text-shows s w) (text-again f w s)
+row-laws f zero w s h = char-laws f charKind w s h (any-row f w s h)
+row-laws f (suc zero) w s h = typed-laws f wordKind w s h (word-shows s w) (word-again f w s)
+row-laws f (suc (suc zero)) w s h = typed-laws f intKind w s h (int-shows s w) (int-again f w s)
+row-laws f (suc (suc (suc zero))) w s h = typed-laws f stringKind w s h (text-shows s w) (text-again f w s)
 row-laws f (suc (suc (suc (suc zero)))) w s h =
-    typed-laws f 4 w s h (number-shows s w (leb-true w 18 (two (leb w 18) (eqb s 0) (two (leb 1 w) _ h .1) .0))) (number-again f w s)
+    typed-laws f numberKind w s h (number-shows s w (leb-true w 18 (two (leb w 18) (eqb s 0) (two (leb 1 w) _ h .1) .0))) (number-again f w s)
 row-laws f (suc (suc (suc (suc (suc zero))))) w s h =
-    typed-laws f 5 w s h (float-shows s w (leb-true w 18 (two (leb (s + 2) w) (leb w 18) (two (leb 1 s) _ h .1) .1))) (float-again f w s)
-row-laws f (suc (suc (suc (suc (suc (suc zero)))))) w s h = typed-laws f 6 w s h (date-shows s w) (date-again f w s)
+    typed-laws f floatKind w s h (float-shows s w (leb-true w 18 (two (leb (s + 2) w) (leb w 18) (two (leb 1 s) _ h .1) .1))) (float-again f w s)
+row-laws f (suc (suc (suc (suc (suc (suc zero)))))) w s h = typed-laws f dateKind w s h (date-shows s w) (date-again f w s)
 row-laws f (suc (suc (suc (suc (suc (suc (suc k))))))) w s h = char-laws f _ w s h (listed-row f w s _ (omega arith) h)
 
 -- ─── The items of a field ───
@@ -336,17 +338,25 @@ row-found (r ∷ rs) at (suc i) kind scale start width e =
     let t = row-found rs (at + r .width) i kind scale start width e in
     (omega arith, t .1, t .2, t .3)
 
+-- Row i of a field stands in the table.
+pub field-row : (fid i : ℕ) → i < length (rowsOf fid)
+    → (k : ℕ) × (k < 379) × (getD (rowsOf fid) i (row 0 0 0 0) ≡ rowAt k)
+field-row fid i h =
+    let p = rowsPlace fid in
+    let low : i < p .count = rw (rows-length fid) at h in
+    let inside : p .start + p .count ≤ 379 = table-rule .field fid .inside in (
+      p .start + i,
+      omega arith,
+      rw (table-rule .field fid .rows, getD-take (p .count) (drop (p .start) table) i (row 0 0 0 0) low, getD-drop),
+    )
+
 module _ (fid i kind scale start width : ℕ) (e : itemOf fid i ≡ Place kind scale start width) where
   found-form : rightForm (row fid kind width scale) ≡ true
   unfolding itemOf
   found-form =
       let t = row-found (rowsOf fid) 0 i kind scale start width e in
-      let p = rowsPlace fid in
-      let low : i < p .count = rw (rows-length fid) at (t .0) in
-      let inside : p .start + p .count ≤ 379 = table-rule .field fid .inside in
-      let q : getD (rowsOf fid) i (row 0 0 0 0) ≡ rowAt (p .start + i) =
-      rw (table-rule .field fid .rows, getD-take (p .count) (drop (p .start) table) i (row 0 0 0 0) low, getD-drop) in
-      let form : rightForm (rowAt (p .start + i)) ≡ true = table-rule .each (p .start + i) (omega arith) .form in
+      let (k, h, q) = field-row fid i (t .0) in
+      let form : rightForm (rowAt k) ≡ true = table-rule .each k h .form in
       rw (t .1, t .2, t .3, q) form
 
   found-laws : RowLaws (row fid kind width scale)
@@ -365,9 +375,10 @@ given-text start (some (float n x)) at len e = let z : _≡_ {A = ℕ} 0 1 = cc 
 given-text start (some (date d)) at len e = let z : _≡_ {A = ℕ} 0 1 = cc in absurd (omega arith)
 
 -- A text comes from a String alone, and is its value.
-typed-text : (kind scale : ℕ) (l t : List ℕ) → typedValue kind scale l ≡ some (text t) → textValue l ≡ t
+typed-text : (kind scale : ℕ) (l t : List ℕ) → typedValue kind scale l ≡ some (text t)
+    → (n : ℕ) × (textValue l ≡ TextValue n) × (take n l ≡ t)
 unfolding typedValue
-typed-text kind scale l t e = go (eqb kind 1) (eqb kind 2) (eqb kind 3) (every isText l) (eqb kind 4) (eqb kind 5) (eqb kind 6) e
+typed-text kind scale l t e = go (eqb kind wordKind) (eqb kind intKind) (eqb kind stringKind) (eqb kind numberKind) (eqb kind floatKind) (eqb kind dateKind) e
   where
     whole : (make : ℕ → ItemValue) → ((x : ℕ) → make x ≡ text t → ⊥) → (o : Whole) → wholeAs make o ≡ some (text t) → ⊥
     whole make n o e = let s = whole-some make o (text t) e in n (s .0) (sym (s .2))
@@ -375,29 +386,30 @@ typed-text kind scale l t e = go (eqb kind 1) (eqb kind 2) (eqb kind 3) (every i
     signed : (make : Bool → ℕ → ItemValue) → ((b : Bool) (x : ℕ) → make b x ≡ text t → ⊥) → (o : Signed) → signedAs make o ≡ some (text t) → ⊥
     signed make n o e = let s = signed-some make o (text t) e in n (s .0) (s .1) (sym (s .3))
 
-    go : (a b c x d f g : Bool)
-        → cond a (wholeAs word (wordValue l)) (cond b (wholeAs int (intValue l)) (cond c (cond x (some (text (textValue l))) none)
+    go : (a b c d f g : Bool)
+        → cond a (wholeAs word (wordValue l)) (cond b (wholeAs int (intValue l)) (cond c (textAs l (textValue l))
         (cond d (signedAs number (numberValue l)) (cond f (signedAs float (floatValue scale l)) (cond g (dateAs (dateValue l)) (wholeAs char (charValue kind l)))))))
-        ≡ some (text t) → textValue l ≡ t
-    go true b c x d f g e = absurd (whole word (λ y q. let z : _≡_ {A = ℕ} 0 1 = cc in omega arith) (wordValue l) e)
-    go false true c x d f g e = absurd (whole int (λ y q. let z : _≡_ {A = ℕ} 0 1 = cc in omega arith) (intValue l) e)
-    go false false true true d f g e = cc
-    go false false true false d f g e = let z : _≡_ {A = ℕ} 0 1 = cc in absurd (omega arith)
-    go false false false x true f g e = absurd (signed number (λ n y q. let z : _≡_ {A = ℕ} 0 1 = cc in omega arith) (numberValue l) e)
-    go false false false x false true g e = absurd (signed float (λ n y q. let z : _≡_ {A = ℕ} 0 1 = cc in omega arith) (floatValue scale l) e)
-    go false false false x false false true e =
+        ≡ some (text t) → (n : ℕ) × (textValue l ≡ TextValue n) × (take n l ≡ t)
+    go true b c d f g e = absurd (whole word (λ y q. let z : _≡_ {A = ℕ} 0 1 = cc in omega arith) (wordValue l) e)
+    go false true c d f g e = absurd (whole int (λ y q. let z : _≡_ {A = ℕ} 0 1 = cc in omega arith) (intValue l) e)
+    go false false true d f g e =
+        let s = text-some l (textValue l) (text t) e in
+        (s .0, s .1, cc (s .2))
+    go false false false true f g e = absurd (signed number (λ n y q. let z : _≡_ {A = ℕ} 0 1 = cc in omega arith) (numberValue l) e)
+    go false false false false true g e = absurd (signed float (λ n y q. let z : _≡_ {A = ℕ} 0 1 = cc in omega arith) (floatValue scale l) e)
+    go false false false false false true e =
         let s = date-some (dateValue l) (text t) e in
         let z : _≡_ {A = ℕ} 0 1 = cc (s .1) in
         absurd (omega arith)
-    go false false false x false false false e = absurd (whole char (λ y q. let z : _≡_ {A = ℕ} 0 1 = cc in omega arith) (charValue kind l) e)
+    go false false false false false false e = absurd (whole char (λ y q. let z : _≡_ {A = ℕ} 0 1 = cc in omega arith) (charValue kind l) e)
 
 -- It stands at the front of its item.
 text-front : (r : Row) (l t : List ℕ) → valueOf r l ≡ some (text t) → take (length t) l ≡ t
-unfolding textValue
 text-front r l t e =
     let n : length l ≡ r .width = value-wide r l (text t) e in
-    let q : trimmed l ≡ t = typed-text (r .kind) (r .scale) l t (sym (wide-value r l n) ∙ e) in
-    trim-part l (length t) (ap length (sym q)) ∙ q
+    let (x, q, p) = typed-text (r .kind) (r .scale) l t (sym (wide-value r l n) ∙ e) in
+    let m : length t ≡ x = ap length (sym p) ∙ text-inside l x q in
+    rw m p
 
 front-part : (bytes : List ℕ) (start width at len : ℕ) (t : List ℕ) → start ≡ at → length t ≡ len → take (length t) (part bytes start width) ≡ t
     → t ≡ part bytes at len

@@ -50,9 +50,9 @@ module _ (v : Signed) where
     integer-over h = rw (e, lt-leb units 999999999999999999 h)
 
     module _ (h : units ≤ 999999999999999999) (r : ℤ) where
-      pub integer-below : negative ≡ true → r ≡ negℤ (pos units) → Number (toZ w64 (ofZ w64 r)) ≡ integerOf v
+      pub integer-below : negative ≡ true → r ≡ pos units → Number (toZ w64 (ofZ w64 (pos 0 -ℤ toZ w64 (ofZ w64 r)))) ≡ integerOf v
       unfolding integerOf
-      integer-below n q = rw (e, n, le-leb units 999999999999999999 h, q, toZ-ofZ w64 (negℤ (pos units)) (fits-below units h))
+      integer-below n q = rw (e, n, le-leb units 999999999999999999 h, below-again units h r q)
 
       pub integer-above : negative ≡ false → r ≡ pos units → Number (toZ w64 (ofZ w64 r)) ≡ integerOf v
       unfolding integerOf

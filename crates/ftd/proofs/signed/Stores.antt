@@ -60,10 +60,13 @@ unfolding put
 put-none l at = rw (append-nil, add-zero) (take-append-drop at l)
 
 module _ (out : List ℕ) (at i left : ℕ) (t : List ℕ) (inv : put out at (digitsIn i left) ≡ t) where
-  pub digits-more : 0 < i → at + i ≤ length out → (d : ℕ) → d ≡ 48 + left % 10 → (next : List ℕ) → next ≡ put out (at + (i - 1)) (d ∷ [])
+  pub digits-more : 0 < i → at + i ≤ length out → (next : List ℕ) → next ≡ put out (at + (i - 1)) ((48 + left % 10) ∷ [])
       → put next at (digitsIn (i - 1) (left / 10)) ≡ t
-  digits-more h f d e next q = rw q (go i h f inv)
+  digits-more h f next q = rw q (go i h f inv)
     where
+      d : ℕ
+      d = 48 + left % 10
+
       go : (i : ℕ) → 0 < i → at + i ≤ length out → put out at (digitsIn i left) ≡ t
           → put (put out (at + (i - 1)) (d ∷ [])) at (digitsIn (i - 1) (left / 10)) ≡ t
       go zero h f p = absurd (omega arith)
@@ -72,7 +75,7 @@ module _ (out : List ℕ) (at i left : ℕ) (t : List ℕ) (inv : put out at (di
           let n : length (digitsIn j (left / 10)) ≡ j = digits-length j (left / 10) in
           let w : put (put out (at + length (digitsIn j (left / 10))) (d ∷ [])) at (digitsIn j (left / 10)) ≡ put out at (digitsIn j (left / 10) ++ (d ∷ [])) =
           put-front out at (digitsIn j (left / 10)) (d ∷ []) (rw n (omega arith)) in
-          rw s (rw n at w) ∙ (rw (← e) at p)
+          rw s (rw n at w) ∙ p
 
   pub digits-done : i ≤ 0 → out ≡ t
   digits-done h =

@@ -14,6 +14,7 @@ use Rattle.ftd.specs.Values.{every, isText, isSpace}
 use Rattle.ftd.specs.Values.Helpers.{inClass}
 use Rattle.ftd.specs.Texts.{trimmed, textValue, textBytes, textFits}
 use Rattle.ftd.specs.declared.values.Class.the-variants.{Text}
+use Rattle.ftd.specs.declared.texts.Text.the-variants.{NoValue, Value}
 use Rattle.ftd.proofs.bytes.Put.{put-put}
 use Rattle.ftd.proofs.values.Checks.{every-append}
 use Rattle.ftd.proofs.signed.Stores.{put-none}
@@ -102,10 +103,34 @@ trim-padded (x ∷ xs) = go (every isSpace (x ∷ xs)) refl (trim-padded xs)
         let s : suc (length xs) - suc (length (trimmed xs)) ≡ length xs - length (trimmed xs) = omega arith in
         rw s (ap (λ (r : List ℕ). x ∷ r) ih)
 
-pub trim-part : (l : List ℕ) (n : ℕ) → n ≡ length (trimmed l) → take n l ≡ textValue l
-unfolding textValue
+pub trim-part : (l : List ℕ) (n : ℕ) → n ≡ length (trimmed l) → take n l ≡ trimmed l
 trim-part l n e =
     ap (take n) (sym (trim-padded l)) ∙ take-at (trimmed l) (replicate (length l - length (trimmed l)) 32) n (sym e)
+
+-- ─── Read ───
+
+module _ (s : List ℕ) (a : Bool) (q : a ≡ every (inClass Text) (drop 0 (take (length s) s))) where
+  pub text-none : a ≡ false → NoValue ≡ textValue s
+  unfolding textValue
+  text-none e = rw (← (rw take-length at q), e)
+
+  pub text-read : a ≡ true → (n : ℕ) → n ≡ length (trimmed s) → Value n ≡ textValue s
+  unfolding textValue
+  text-read e n p = rw (← (rw take-length at q), e, p)
+
+-- A value that is told is there, and is as long as that.
+text-told : (l : List ℕ) (n : ℕ) → textValue l ≡ Value n → (every isText l ≡ true) × (length (trimmed l) ≡ n)
+unfolding textValue
+text-told l n e = go (every isText l) e
+  where
+    go : (b : Bool) → cond b (Value (length (trimmed l))) NoValue ≡ Value n → (b ≡ true) × (length (trimmed l) ≡ n)
+    go true e = (refl, cc)
+    go false e = let z : _≡_ {A = ℕ} 0 1 = cc in absurd (omega arith)
+
+pub text-inside : (l : List ℕ) (n : ℕ) → textValue l ≡ Value n → length (take n l) ≡ n
+text-inside l n e =
+    let t = text-told l n e in
+    ap length (trim-part l n (sym (t .1))) ∙ t .1
 
 -- ─── Whether it fits ───
 
@@ -204,18 +229,25 @@ spaces-text zero = refl
 spaces-text (suc n) = spaces-text n
 
 pub text-back : (width : ℕ) (v : List ℕ) → textFits width v ≡ true
-    → (every isText (textBytes width v) ≡ true) × (textValue (textBytes width v) ≡ v)
+    → (textValue (textBytes width v) ≡ Value (length v)) × (take (length v) (textBytes width v) ≡ v)
 unfolding textBytes textValue
 text-back width v e =
-    let p = text-parts width v e in (
-      rw (every-append isText v (replicate (width - length v) 32), p .1, spaces-text (width - length v)),
-      trim-behind v (replicate (width - length v) 32) (all-spaces (width - length v)) ∙ trim-full v (p .2),
-    )
+    let p = text-parts width v e in
+    let s : List ℕ = replicate (width - length v) 32 in
+    let t : trimmed (v ++ s) ≡ v = trim-behind v s (all-spaces (width - length v)) ∙ trim-full v (p .2) in
+    (rw (every-append isText v s, p .1, spaces-text (width - length v), t), take-at v s (length v) refl)
 
-pub text-again : (l : List ℕ) → every isText l ≡ true → (textFits (length l) (textValue l) ≡ true) × (textBytes (length l) (textValue l) ≡ l)
-unfolding textBytes textValue textFits
-text-again l h =
+again : (l : List ℕ) → every isText l ≡ true
+    → (textFits (length l) (trimmed l) ≡ true) × (textBytes (length l) (trimmed l) ≡ l)
+unfolding textBytes textFits
+again l h =
     let s : List ℕ = replicate (length l - length (trimmed l)) 32 in
     let t : trimmed (trimmed l) ≡ trimmed l =
     sym (trim-behind (trimmed l) s (all-spaces (length l - length (trimmed l)))) ∙ ap trimmed (trim-padded l) in
     (rw (le-leb (length (trimmed l)) (length l) (trim-least l), trim-text l h, t, eq-eqb (length (trimmed l)) (length (trimmed l)) refl), trim-padded l)
+
+pub text-again : (l : List ℕ) (n : ℕ) → textValue l ≡ Value n
+    → (textFits (length l) (take n l) ≡ true) × (textBytes (length l) (take n l) ≡ l)
+text-again l n e =
+    let t = text-told l n e in
+    rw (trim-part l n (sym (t .1))) (again l (t .0))

@@ -10,7 +10,7 @@ use borrow.Author.Tests.{lt-ltb, le-leb, lt-leb, eq-eqb, ne-eqb}
 use lib.ListN.{length, getD, take, drop, length-append, length-take, drop-of-length-le, List·getD-append}
 use lib.Seq.{drop-cons, getD-take, take-length, drop-append-le}
 use lib.Dec.{leb, ltb, eqb, T, ltb→lt}
-use Rattle.ftd.specs.Table.{enumerations}
+use Rattle.ftd.specs.Table.{charKind, wordKind, intKind, stringKind, numberKind, floatKind, dateKind, firstListed, lastListed, enumerations}
 use Rattle.ftd.specs.Table.Helpers.{allBelow}
 use Rattle.ftd.specs.Values.{every, among, isListed, isNumber, withoutPoint, isFloat, monthOf, dayDigits, rightDay, isDate, isValue}
 use Rattle.ftd.specs.Values.Helpers.{inClass}
@@ -217,19 +217,19 @@ among-over b h (v ∷ vs) t =
     let w : v < 8 = ltb→lt v 8 (both-left (ltb v 8) (every (λ x. ltb x 8) vs) t) in
     rw (ne-eqb b v (λ e. omega arith)) (among-over b h vs (both-right (ltb v 8) (every (λ x. ltb x 8) vs) t))
 
-module _ (kind : ℕ) (low : 7 ≤ kind) (high : kind ≤ 16) (b : ℕ) where
+module _ (kind : ℕ) (low : firstListed ≤ kind) (high : kind ≤ lastListed) (b : ℕ) where
   pub listed-over : 8 ≤ b → false ≡ isListed kind b
   unfolding isListed
   listed-over h =
-      let k : kind - 7 < 10 = omega arith in
-      rw (ne-eqb b 0 (λ e. omega arith), among-over b h (getD enumerations (kind - 7) []) (below-at (λ k. every (λ v. ltb v 8) (getD enumerations k [])) 10 small (kind - 7) k))
+      let k : kind - firstListed < 10 = omega arith in
+      rw (ne-eqb b 0 (λ e. omega arith), among-over b h (getD enumerations (kind - firstListed) []) (below-at (λ k. every (λ v. ltb v 8) (getD enumerations k [])) 10 small (kind - firstListed) k))
 
-  pub listed-entry : b < 8 → (m n : ℕ) → m ≡ kind - 7 → n ≡ b → eqb (getD listed (m * 8 + n) 0) 1 ≡ isListed kind b
+  pub listed-entry : b < 8 → (m n : ℕ) → m ≡ kind - firstListed → n ≡ b → eqb (getD listed (m * 8 + n) 0) 1 ≡ isListed kind b
   listed-entry h m n x y =
-      let k : kind - 7 < 10 = omega arith in
-      let e : kind - 7 + 7 ≡ kind = omega arith in
-      let t : T (listedRight (kind - 7) b) = below-at (listedRight (kind - 7)) 8 (below-at (λ k. allBelow (listedRight k) 8) 10 entries (kind - 7) k) b h in
-      let g : eqb (getD listed ((kind - 7) * 8 + b) 0) 1 ≡ isListed (kind - 7 + 7) b = same-bool _ _ t in
+      let k : kind - firstListed < 10 = omega arith in
+      let e : kind - firstListed + 7 ≡ kind = omega arith in
+      let t : T (listedRight (kind - firstListed) b) = below-at (listedRight (kind - firstListed)) 8 (below-at (λ k. allBelow (listedRight k) 8) 10 entries (kind - firstListed) k) b h in
+      let g : eqb (getD listed ((kind - firstListed) * 8 + b) 0) 1 ≡ isListed (kind - firstListed + 7) b = same-bool _ _ t in
       rw (x, y) (rw e at g)
 
 -- ─── A value, by kind ───
@@ -238,69 +238,73 @@ after : (k n : ℕ) → n ≤ k → (k ≡ n → ⊥) → suc n ≤ k
 after k n h e = omega arith
 
 module _ (kind scale : ℕ) (s : List ℕ) where
-  pub char-value : kind ≡ 0 → eqb (length s) 1 ≡ isValue kind scale s
+  pub char-value : kind ≡ charKind → eqb (length s) 1 ≡ isValue kind scale s
   unfolding isValue
   char-value e = rw e
 
-  pub word-value : kind ≡ 1 → eqb (length s) 2 ≡ isValue kind scale s
+  pub word-value : kind ≡ wordKind → eqb (length s) 2 ≡ isValue kind scale s
   unfolding isValue
   word-value e = rw e
 
-  pub int-value : kind ≡ 2 → eqb (length s) 4 ≡ isValue kind scale s
+  pub int-value : kind ≡ intKind → eqb (length s) 4 ≡ isValue kind scale s
   unfolding isValue
   int-value e = rw e
 
-  pub text-value : kind ≡ 3 → (r : Bool) → r ≡ every (inClass Text) (drop 0 (take (length s) s)) → r ≡ isValue kind scale s
+  pub text-value : kind ≡ stringKind → (r : Bool) → r ≡ every (inClass Text) (drop 0 (take (length s) s)) → r ≡ isValue kind scale s
   unfolding isValue
   text-value e r q = rw e (rw take-length at q)
 
-  pub number-value : kind ≡ 4 → (r : Bool) → r ≡ isNumber s → r ≡ isValue kind scale s
+  pub number-value : kind ≡ numberKind → (r : Bool) → r ≡ isNumber s → r ≡ isValue kind scale s
   unfolding isValue
   number-value e r q = rw e q
 
-  pub float-value : kind ≡ 5 → (r : Bool) → r ≡ isFloat scale s → r ≡ isValue kind scale s
+  pub float-value : kind ≡ floatKind → (r : Bool) → r ≡ isFloat scale s → r ≡ isValue kind scale s
   unfolding isValue
   float-value e r q = rw e q
 
-  pub date-value : kind ≡ 6 → (r : Bool) → r ≡ isDate s → r ≡ isValue kind scale s
+  pub date-value : kind ≡ dateKind → (r : Bool) → r ≡ isDate s → r ≡ isValue kind scale s
   unfolding isValue
   date-value e r q = rw e q
 
-  not-below : 7 ≤ kind → (n : ℕ) → n < 7 → eqb kind n ≡ false
+  not-below : firstListed ≤ kind → (n : ℕ) → n < firstListed → eqb kind n ≡ false
   not-below h n k = ne-eqb kind n (λ e. omega arith)
 
-  -- None of the kinds 0 to 6, as a `match` says it.
+  -- None of the kinds without an enumeration, as a `match` says it.
+  abbrev Not : ℕ → Type 0
+  Not n = kind ≡ n → ⊥
+
   abbrev pub Other : Type 0
   Other =
-      (((((((Unit {0} × (kind ≡ 0 → ⊥)) × (kind ≡ 1 → ⊥)) × (kind ≡ 2 → ⊥)) × (kind ≡ 3 → ⊥)) × (kind ≡ 4 → ⊥)) × (kind ≡ 5 → ⊥)) × (kind ≡ 6 → ⊥))
+      (((((((Unit {0} × Not charKind) × Not wordKind) × Not intKind) × Not stringKind) × Not numberKind) × Not floatKind) × Not dateKind)
 
-  pub above : Other → 7 ≤ kind
+  pub above : Other → firstListed ≤ kind
   above o =
-      after kind 6 (after kind 5 (after kind 4 (after kind 3 (after kind 2 (after kind 1 (after kind 0 (omega arith)
+      after kind dateKind (after kind floatKind (after kind numberKind (after kind stringKind (after kind intKind
+      (after kind wordKind (after kind charKind (omega arith)
       (o .0 .0 .0 .0 .0 .0 .1)) (o .0 .0 .0 .0 .0 .1)) (o .0 .0 .0 .0 .1)) (o .0 .0 .0 .1)) (o .0 .0 .1)) (o .0 .1)) (o .1)
 
   module _ (other : Other) where
-    low : 7 ≤ kind
+    low : firstListed ≤ kind
     low = above other
 
-    passed : isValue kind scale s ≡ cond (leb kind 16) (eqb (length s) 1 && isListed kind (getD s 0 0)) false
+    passed : isValue kind scale s ≡ cond (leb kind lastListed) (eqb (length s) 1 && isListed kind (getD s 0 0)) false
     unfolding isValue
     passed =
         rw (
-          not-below low 0 (omega arith),
-          not-below low 1 (omega arith),
-          not-below low 2 (omega arith),
-          not-below low 3 (omega arith),
-          not-below low 4 (omega arith),
-          not-below low 5 (omega arith),
-          not-below low 6 (omega arith),
+          not-below low charKind (omega arith),
+          not-below low wordKind (omega arith),
+          not-below low intKind (omega arith),
+          not-below low stringKind (omega arith),
+          not-below low numberKind (omega arith),
+          not-below low floatKind (omega arith),
+          not-below low dateKind (omega arith),
         )
 
     pub listed-value : kind < 17 → length s ≡ 1 → (r : Bool) → r ≡ isListed kind (getD s 0 0) → r ≡ isValue kind scale s
-    listed-value h e r q = rw (passed, le-leb kind 16 (omega arith), eq-eqb _ _ e) q
+    listed-value h e r q = rw (passed, le-leb kind lastListed (omega arith), eq-eqb _ _ e) q
 
     pub listed-wide : kind < 17 → (length s ≡ 1 → ⊥) → false ≡ isValue kind scale s
-    listed-wide h e = rw (passed, le-leb kind 16 (omega arith), ne-eqb _ _ e)
+    listed-wide h e = rw (passed, le-leb kind lastListed (omega arith), ne-eqb _ _ e)
 
     pub no-kind : 17 ≤ kind → false ≡ isValue kind scale s
-    no-kind h = rw (passed, lt-leb kind 16 (omega arith))
+    no-kind h = rw (passed, lt-leb kind lastListed (omega arith))

@@ -9,6 +9,7 @@ use lib.ListN.{length, getD, take}
 use lib.Seq.{take-length}
 use lib.Dec.{eqb}
 use Rattle.ftd.specs.Bytes.{Bytes, be16Of, be32Of, bytes16, bytes32}
+use Rattle.ftd.specs.Table.{charKind, firstListed, lastListed}
 use Rattle.ftd.specs.Values.{isListed}
 use Rattle.ftd.specs.Whole.{charFits, charValue, wordValue, intValue}
 use Rattle.ftd.specs.declared.whole.Whole.the-variants.{NoValue, Value}
@@ -16,22 +17,22 @@ use Rattle.ftd.proofs.Lists.{be16-width, be32-width}
 use Rattle.ftd.proofs.bytes.Numbers.{back16, back32, two-bytes, four-bytes}
 
 module _ (kind b : ℕ) where
-  pub char-any : kind ≡ 0 → true ≡ charFits kind b
+  pub char-any : kind ≡ charKind → true ≡ charFits kind b
   unfolding charFits
   char-any e = rw e
 
-  module _ (n : kind ≡ 0 → ⊥) where
-    pub char-none : kind < 7 → false ≡ charFits kind b
+  module _ (n : kind ≡ charKind → ⊥) where
+    pub char-none : kind < firstListed → false ≡ charFits kind b
     unfolding charFits
-    char-none h = rw (ne-eqb kind 0 n, lt-ltb kind 7 h)
+    char-none h = rw (ne-eqb kind charKind n, lt-ltb kind firstListed h)
 
-    pub char-listed : 7 ≤ kind → kind ≤ 16 → (r : Bool) → r ≡ isListed kind b → r ≡ charFits kind b
+    pub char-listed : firstListed ≤ kind → kind ≤ lastListed → (r : Bool) → r ≡ isListed kind b → r ≡ charFits kind b
     unfolding charFits
-    char-listed h k r q = rw (ne-eqb kind 0 n, le-ltb kind 7 h, le-leb kind 16 k) q
+    char-listed h k r q = rw (ne-eqb kind charKind n, le-ltb kind firstListed h, le-leb kind lastListed k) q
 
-    pub char-over : 7 ≤ kind → 16 < kind → false ≡ charFits kind b
+    pub char-over : firstListed ≤ kind → lastListed < kind → false ≡ charFits kind b
     unfolding charFits
-    char-over h k = rw (ne-eqb kind 0 n, le-ltb kind 7 h, lt-leb kind 16 k)
+    char-over h k = rw (ne-eqb kind charKind n, le-ltb kind firstListed h, lt-leb kind lastListed k)
 
 module _ (kind : ℕ) (s : List ℕ) where
   pub char-wide : (length s ≡ 1 → ⊥) → NoValue ≡ charValue kind s

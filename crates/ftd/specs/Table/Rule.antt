@@ -6,7 +6,7 @@ use mathlib.Core.List.{List, [], _∷_}
 use mathlib.Core.Bool.{Bool, true, cond, _&&_}
 use lib.ListN.{getD, take, drop}
 use lib.Dec.{leb, eqb}
-use Rattle.ftd.specs.Table.{Row, row, table, total, rowsOf}
+use Rattle.ftd.specs.Table.{wordKind, intKind, stringKind, numberKind, floatKind, dateKind, lastListed, Row, row, table, total, rowsOf}
 
 -- ─── Where the rows of each field stand ───
 
@@ -83,13 +83,13 @@ rowAt i = getD table i (row 0 0 0 0)
 -- A row has a kind, and the width and decimals that are right for it. A number has at most 18 bytes.
 abbrev pub rightForm : Row → Bool
 rightForm r =
-    cond (eqb (r .kind) 1) (eqb (r .width) 2 && eqb (r .scale) 0)
-    (cond (eqb (r .kind) 2) (eqb (r .width) 4 && eqb (r .scale) 0)
-    (cond (eqb (r .kind) 3) (leb 1 (r .width) && eqb (r .scale) 0)
-    (cond (eqb (r .kind) 4) (leb 1 (r .width) && (leb (r .width) 18 && eqb (r .scale) 0))
-    (cond (eqb (r .kind) 5) (leb 1 (r .scale) && (leb (r .scale + 2) (r .width) && leb (r .width) 18))
-    (cond (eqb (r .kind) 6) (eqb (r .width) 8 && eqb (r .scale) 0)
-    (leb (r .kind) 16 && (eqb (r .width) 1 && eqb (r .scale) 0)))))))
+    cond (eqb (r .kind) wordKind) (eqb (r .width) 2 && eqb (r .scale) 0)
+    (cond (eqb (r .kind) intKind) (eqb (r .width) 4 && eqb (r .scale) 0)
+    (cond (eqb (r .kind) stringKind) (leb 1 (r .width) && eqb (r .scale) 0)
+    (cond (eqb (r .kind) numberKind) (leb 1 (r .width) && (leb (r .width) 18 && eqb (r .scale) 0))
+    (cond (eqb (r .kind) floatKind) (leb 1 (r .scale) && (leb (r .scale + 2) (r .width) && leb (r .width) 18))
+    (cond (eqb (r .kind) dateKind) (eqb (r .width) 8 && eqb (r .scale) 0)
+    (leb (r .kind) lastListed && (eqb (r .width) 1 && eqb (r .scale) 0)))))))
 
 -- ─── The rule ───
 

@@ -3,10 +3,10 @@ use Prim.Native.Nat.{ℕ, _<_}
 use mathlib.Core.Path.{_≡_}
 use mathlib.Core.List.{List, [], _∷_}
 use mathlib.Core.Bool.{Bool, true}
-use lib.ListN.{length}
+use lib.ListN.{length, take}
 use lib.IntN.{ℤ}
 use Rattle.ftd.specs.Bytes.{Bytes, bytes16, bytes32}
-use Rattle.ftd.specs.Values.{every, isText, isDate}
+use Rattle.ftd.specs.Values.{isDate}
 use Rattle.ftd.specs.Texts.{textValue, textBytes, textFits}
 use Rattle.ftd.specs.Signed.{numberValue, floatValue}
 use Rattle.ftd.specs.Whole.{charFits, charValue, wordValue, intValue}
@@ -16,6 +16,7 @@ use Rattle.ftd.specs.Signed.Integer.{integerOf, fromInteger}
 use Rattle.ftd.specs.declared.signed.Integer.the-variants.{Number}
 use Rattle.ftd.specs.declared.dates.Date.{Date}
 use Rattle.ftd.specs.declared.whole.Whole.the-variants.{Value as WholeValue}
+use Rattle.ftd.specs.declared.texts.Text.the-variants.{Value as TextValue}
 use Rattle.ftd.specs.declared.signed.Signed.the-variants.{Value}
 
 pub record ValueLaws : Type 0 where
@@ -34,9 +35,10 @@ pub record ValueLaws : Type 0 where
   pub floatAgain : (scale : ℕ) (l : List ℕ) (negative : Bool) (units : ℕ) → floatValue scale l ≡ Value negative units
       → (floatFits scale (length l) negative units ≡ true) × (floatBytes scale (length l) negative units ≡ l)
   pub textBack : (width : ℕ) (value : List ℕ) → textFits width value ≡ true
-      → (every isText (textBytes width value) ≡ true) × (textValue (textBytes width value) ≡ value)
-  pub textAgain : (l : List ℕ) → every isText l ≡ true
-      → (textFits (length l) (textValue l) ≡ true) × (textBytes (length l) (textValue l) ≡ l)
+      → (textValue (textBytes width value) ≡ TextValue (length value))
+      × (take (length value) (textBytes width value) ≡ value)
+  pub textAgain : (l : List ℕ) (len : ℕ) → textValue l ≡ TextValue len
+      → (textFits (length l) (take len l) ≡ true) × (textBytes (length l) (take len l) ≡ l)
   pub dateBack : (v : Date) → dateFits v ≡ true → dateValue (dateBytes v) ≡ v
   pub dateAgain : (l : List ℕ) → isDate l ≡ true → (dateFits (dateValue l) ≡ true) × (dateBytes (dateValue l) ≡ l)
   -- Sign and magnitude, and the plain signed number: either gives the other, minus zero aside.

@@ -24,15 +24,18 @@ mul-n c =
     let h : c .before .loop .n * 10 + 0 < 1000000000000000000 = search (needs, bound-digit) in
     omega arith
 
-shared-slice-read-digit64 : tie.Need-shared-slice-read-digit64 Inv-loop μ-loop
-shared-slice-read-digit64 c = search needs
+shared-slice-read-digit : tie.Need-shared-slice-read-digit Inv-loop μ-loop
+shared-slice-read-digit c = search needs
 
-digit64-requires : tie.Need-digit64-requires Inv-loop μ-loop
-digit64-requires c κs = search needs
+digit-requires : tie.Need-digit-requires Inv-loop μ-loop
+digit-requires c κs = search needs
+
+cast-n : tie.Need-cast-n Inv-loop μ-loop
+cast-n c = search needs
 
 add-n : tie.Need-add-n Inv-loop μ-loop
 add-n c =
-    let h : c .before .before .before .loop .n * 10 + c .digit64 .result < 1000000000000000000 = search (needs, bound-digit) in
+    let h : c .before .before .before .loop .n * 10 + c .digit .result < 1000000000000000000 = search (needs, bound-digit) in
     omega arith
 
 add-i : tie.Need-add-i Inv-loop μ-loop
@@ -55,8 +58,9 @@ digits-spec =
     μ-loop
     loop-holds
     mul-n
-    shared-slice-read-digit64
-    digit64-requires
+    shared-slice-read-digit
+    digit-requires
+    cast-n
     add-n
     add-i
     loop-less

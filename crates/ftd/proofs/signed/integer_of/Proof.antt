@@ -1,6 +1,6 @@
 -- `plain::integer_of` meets its contract. Assumes nothing.
 use borrow.Author.Needs.{needs}
-use Rattle.ftd.proofs.signed.Integers.{integer-none, integer-over, integer-below, integer-above}
+use Rattle.ftd.proofs.signed.Integers.{below-fits, integer-none, integer-over, integer-below, integer-above}
 use Rattle.ftd.proofs.signed.integer_of.Statement.{statement}
 use Rattle.ftd.proofs.signed.integer_of.Tie as tie
 
@@ -13,14 +13,17 @@ enum-known-v c = search needs
 returns : tie.Need-returns
 returns c = search (needs, integer-over)
 
-below-requires : tie.Need-below-requires
-below-requires c κs = search needs
+above-requires : tie.Need-above-requires
+above-requires c κs = search needs
+
+sub-t7 : tie.Need-sub-t7
+sub-t7 c = search (needs, below-fits)
 
 returns-2 : tie.Need-returns-2
 returns-2 c = search (needs, integer-below)
 
-above-requires : tie.Need-above-requires
-above-requires c κs = search needs
+above-requires-2 : tie.Need-above-requires-2
+above-requires-2 c κs = search needs
 
 returns-3 : tie.Need-returns-3
 returns-3 c = search (needs, integer-none)
@@ -35,8 +38,9 @@ integer-of-spec =
     enum-told
     enum-known-v
     returns
-    below-requires
-    returns-2
     above-requires
+    sub-t7
+    returns-2
+    above-requires-2
     returns-3
     returns-4)

@@ -24,8 +24,11 @@ sub-i c = search needs
 add-put8 : tie.Need-add-put8 Inv-loop μ-loop
 add-put8 c = search needs
 
-last-digit-requires : tie.Need-last-digit-requires Inv-loop μ-loop
-last-digit-requires c κs = search needs
+cast-put8 : tie.Need-cast-put8 Inv-loop μ-loop
+cast-put8 c = search needs
+
+add-put8-2 : tie.Need-add-put8-2 Inv-loop μ-loop
+add-put8-2 c = search needs
 
 put8-requires : tie.Need-put8-requires Inv-loop μ-loop
 put8-requires c κs = search needs
@@ -51,7 +54,8 @@ put-digits-spec =
     loop-holds
     sub-i
     add-put8
-    last-digit-requires
+    cast-put8
+    add-put8-2
     put8-requires
     loop-less
     loop-again

@@ -1,19 +1,20 @@
 -- `texts::read_text` meets its contract. Assumes nothing.
-use mathlib.Core.Path.{sym}
 use borrow.Author.Needs.{needs}
-use lib.Seq.{length-take-le}
-use Rattle.ftd.proofs.texts.Laws.{trim-part}
+use Rattle.ftd.proofs.texts.Laws.{text-none, text-read}
 use Rattle.ftd.proofs.texts.read_text.Statement.{statement}
 use Rattle.ftd.proofs.texts.read_text.Tie as tie
+
+all-in-requires : tie.Need-all-in-requires
+all-in-requires c κs = search needs
 
 text-size-requires : tie.Need-text-size-requires
 text-size-requires c κs = search needs
 
-slice-aggregate-result : tie.Need-slice-aggregate-result
-slice-aggregate-result c = sym (length-take-le _ _ (c .before .text-size .ensures .1))
-
 returns : tie.Need-returns
-returns c = search (needs, trim-part)
+returns c = search (needs, text-read)
+
+returns-2 : tie.Need-returns-2
+returns-2 c = search (needs, text-none)
 
 pub read-text-spec : {M : Type 1} → statement M
-read-text-spec = tie.close (tie.spec text-size-requires slice-aggregate-result returns)
+read-text-spec = tie.close (tie.spec all-in-requires text-size-requires returns returns-2)
