@@ -18,7 +18,7 @@ use Rattle.ftd.specs.Values.{isValue}
 use Rattle.ftd.specs.Items.{wrongWidth, itemGood, itemsGood, isRefused, walkOf, wrongItem}
 use Rattle.ftd.specs.Places.{itemIn, itemOf}
 use Rattle.ftd.specs.Item.{ItemValue, char, valueOf, valueBytes, fits, givenAt, itemValueOf, RowLaws}
-use Rattle.ftd.specs.Item.Fields.{before, valuesIn, valuesOf, bytesIn, fieldBytesOf, fitsIn, fieldFits, Accepted, KnownLaws}
+use Rattle.ftd.specs.Item.Fields.{ahead, valuesIn, valuesOf, bytesIn, fieldBytesOf, fitsIn, fieldFits, Accepted, KnownLaws}
 use Rattle.ftd.specs.declared.places.ItemPlace.the-variants.{Item as Place}
 use Rattle.ftd.specs.declared.refusal.Refusal.the-variants.{Item}
 use Rattle.ftd.specs.declared.items.Checked.the-variants.{Passed, Refused}
@@ -38,7 +38,7 @@ first-row : (r : Row) (rs : List Row) → EachRow (r ∷ rs) → RowLaws r
 first-row r rs e = e 0 (omega arith)
 
 -- What a list of values comes from.
-before-some : (a : Option ItemValue) (b : Option (List ItemValue)) (vs : List ItemValue) → before a b ≡ some vs
+before-some : (a : Option ItemValue) (b : Option (List ItemValue)) (vs : List ItemValue) → ahead a b ≡ some vs
     → (v : ItemValue) × (ws : List ItemValue) × (a ≡ some v) × (b ≡ some ws) × (vs ≡ v ∷ ws)
 before-some none b vs e = let z : _≡_ {A = ℕ} 0 1 = cc in absurd (omega arith)
 before-some (some v) none vs e = let z : _≡_ {A = ℕ} 0 1 = cc in absurd (omega arith)

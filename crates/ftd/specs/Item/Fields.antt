@@ -18,17 +18,17 @@ use Rattle.ftd.specs.declared.places.ItemPlace.the-variants.{Item as Pla
 -- ─── Read ───
 
 -- A value before others; none where either is none.
-abbrev pub before : Option ItemValue → Option (List ItemValue) → Option (List ItemValue)
-before none o = none
-before (some v) none = none
-before (some v) (some vs) = some (v ∷ vs)
+abbrev pub ahead : Option ItemValue → Option (List ItemValue) → Option (List ItemValue)
+ahead none o = none
+ahead (some v) none = none
+ahead (some v) (some vs) = some (v ∷ vs)
 
 -- Items one behind the other, by their rows; none where one has no value, or the bytes are not exactly the rows' widths
 -- together.
 abbrev pub valuesIn : List Row → List ℕ → Option (List ItemValue)
 valuesIn [] [] = some []
 valuesIn [] (b ∷ l) = none
-valuesIn (r ∷ rs) l = before (valueOf r (take (r .width) l)) (valuesIn rs (drop (r .width) l))
+valuesIn (r ∷ rs) l = ahead (valueOf r (take (r .width) l)) (valuesIn rs (drop (r .width) l))
 
 -- Of a FID and its field's bytes (without FID and length).
 unfoldable pub valuesOf : ℕ → List ℕ → Option (List ItemValue)
