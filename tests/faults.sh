@@ -58,6 +58,18 @@ expect "a packet is cut one byte early" "$root/target/staticlib"
 fresh_reader
 change "$work/tests/reader/src/items.rs" '(b == 0x7F)' '(b == 0x7E)'
 expect "0x7F is text, and 0x7E isn't" "$root/target/staticlib"
+fresh_reader
+change "$work/tests/reader/src/items.rs" 'map_or(0, |last| last + 1)' 'map_or(0, |last| last)'
+expect "a text is read without its last byte" "$root/target/staticlib"
+fresh_reader
+change "$work/tests/reader/src/given.rs" 'saturating_sub(sign.len() + point)' 'saturating_sub(point)'
+expect "a negative number is written a digit too wide" "$root/target/staticlib"
+fresh_reader
+change "$work/tests/reader/src/plain.rs" 'MESSAGE_HEADER..=MESSAGE_HEADER + MOST_CONTENT' 'MESSAGE_HEADER..MESSAGE_HEADER + MOST_CONTENT'
+expect "type 0x01 with a body of 4,096 is refused with 3, not as a message packet" "$root/target/staticlib"
+fresh_reader
+change "$work/tests/reader/src/start.rs" 'START_FIELD: u32 = 0x0004' 'START_FIELD: u32 = 0x0005'
+expect "the start field has another FID" "$root/target/staticlib"
 
 # A copy of the repository's library with one thing changed in code and definition, proved and built.
 fresh_library() {

@@ -1,7 +1,7 @@
 -- What `ftd` answers, as the numbers that C and Rust get (tests/include/ftd.h).
 use Prim.Native.Nat.{ℕ, _-_}
 use mathlib.Core.List.{List}
-use mathlib.Core.Bool.{cond}
+use mathlib.Core.Bool.{Bool, true, false, cond}
 use lib.ListN.{drop}
 use lib.Dec.{eqb}
 use Rattle.ftd.specs.Bytes.{be32Of}
@@ -35,7 +35,17 @@ use Rattle.exports.specs.declared.FtdField.{FtdField}
 use Rattle.exports.specs.declared.FtdStep.{FtdStep}
 use Rattle.exports.specs.declared.FtdMessage.{FtdMessage}
 use Rattle.exports.specs.declared.FtdSize.{FtdSize}
-use Rattle.exports.specs.declared.FtdWritten.{FtdWritten}
+use Rattle.ftd.specs.declared.resume.Resume.{Resume}
+use Rattle.ftd.specs.declared.resume.Resume.the-variants.{Absent, Next, Misshapen, Several}
+use Rattle.exports.specs.declared.tags.FtdDate.{FtdDate}
+use Rattle.exports.specs.declared.resume.FtdResume.{FtdResume}
+use Rattle.exports.specs.declared.written.FtdWritten.{FtdWritten}
+
+-- ─── A Bool: 1 or 0 ───
+
+abbrev pub flag : Bool → ℕ
+flag false = 0
+flag true = 1
 
 -- ─── The trade date: 1 and its value, or 0 and 0 ───
 
@@ -46,6 +56,9 @@ datedFlag (At d) = 1
 abbrev pub dateOf : TradeDate → ℕ
 dateOf None = 0
 dateOf (At d) = d
+
+abbrev pub markNumbers : TradeDate → FtdDate
+markNumbers d = record { date = dateOf d; dated = datedFlag d }
 
 -- ─── A packet: 0 short, 1 link, 2 skipped, 3 message, 4 refused; what an answer does not have is 0 ───
 
@@ -177,3 +190,11 @@ writtenNumbers (Bytes n) = record { bytes = n; refusal = 0 }
 writtenNumbers (NotWritten r) = record { bytes = 0; refusal = numberOf r }
 writtenNumbers NotPlain = record { bytes = 0; refusal = 255 }
 writtenNumbers NoPacket = record { bytes = 0; refusal = 255 }
+
+-- ─── The start field: 0 none, 1 and its values, 2 of another width, 3 more than one ───
+
+abbrev pub resumeNumbers : Resume → FtdResume
+resumeNumbers Absent = record { number = 0; series = 0; answer = 0 }
+resumeNumbers (Next series number) = record { number = number; series = series; answer = 1 }
+resumeNumbers Misshapen = record { number = 0; series = 0; answer = 2 }
+resumeNumbers Several = record { number = 0; series = 0; answer = 3 }

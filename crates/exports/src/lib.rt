@@ -1,12 +1,16 @@
-// The library for C and Rust: a handful of functions on numbers and byte slices. Each calls `ftd` and gives its answer as numbers.
-// tests/include/ftd.h says what the numbers mean.
+// The library for C and Rust: functions on numbers and byte slices. Each calls `ftd` and gives its answer as numbers;
+// tests/include/ftd.h says what they mean. Here: packets, fields and messages.
 ghost use mathlib.Core.Path.{_≡_};
 ghost use Rattle.ftd.specs.Bytes.{joined};
-ghost use Rattle.ftd.specs.Packet.{datedOf, fieldOf};
+ghost use Rattle.ftd.specs.Packet.{datedOf, fieldOf, saidIn};
 ghost use Rattle.ftd.specs.Content.{contentCheck};
-ghost use Rattle.ftd.specs.Write.{writtenAnswer, writtenOutput};
+ghost use Rattle.ftd.specs.Write.{writtenAnswer, writtenOutput, packetBytes, plainVerdict};
 ghost use Rattle.ftd.specs.Chain.{packetsOf, sizeAnswer, chainVerdict};
-ghost use Rattle.exports.specs.Numbers.{datedFlag, dateOf, plainNumbers, linkNumbers, skippedNumbers, messageNumbers, packetNumbers, datedNumbers, fieldNumbers, stepOf, directionFor, verdictNumber, dateFor, messageFor, sizeNumbers, writtenNumbers};
+ghost use Rattle.exports.specs.Numbers.{plainNumbers, linkNumbers, skippedNumbers, messageNumbers, packetNumbers, datedNumbers, fieldNumbers, stepOf, directionFor, verdictNumber, dateFor, messageFor, sizeNumbers, writtenNumbers};
+use crate::tags::date;
+use crate::tags::dated;
+use crate::written::FtdWritten;
+use crate::written::written;
 use ftd::bytes::be32;
 use ftd::chain::ChainSize;
 use ftd::chain::Message;
@@ -23,9 +27,15 @@ use ftd::packet::Span;
 use ftd::packet::find_field;
 use ftd::packet::letter;
 use ftd::packet::read_dated;
+use ftd::packet::said_length;
 use ftd::refusal::number;
 use ftd::tags::TradeDate;
-use ftd::write::Written;
+use ftd::write::write_plain;
+
+pub mod tags; // what the tags of an extension say
+pub mod written; // what the writers answer
+pub mod items; // items of fields, and modes
+pub mod resume; // the start field
 
 // What some bytes are: places, header values, the trade date, which answer it is, and the number of the refusal.
 #[repr(C)]
@@ -79,33 +89,6 @@ pub struct FtdSize {
     pub packets: usize,
     pub bytes: usize,
     pub refusal: u8,
-}
-
-// How many bytes were written.
-#[repr(C)]
-pub struct FtdWritten {
-    pub bytes: usize,
-    pub refusal: u8,
-}
-
-// 1 where there is a trade date.
-fn dated(d: TradeDate) -> u8
-    ensures { λ r. ⌜ r ≡ datedFlag d ⌝ }
-{
-    match d {
-        TradeDate::None => 0,
-        TradeDate::At(_) => 1,
-    }
-}
-
-// The trade date; 0 where there is none.
-fn date(d: TradeDate) -> u32
-    ensures { λ r. ⌜ r ≡ dateOf d ⌝ }
-{
-    match d {
-        TradeDate::None => 0,
-        TradeDate::At(x) => x,
-    }
 }
 
 // An answer with no packet: short, or refused.
@@ -229,6 +212,14 @@ pub extern "C" fn ftd_read(p: &[u8]) -> FtdPacket
     numbers(found, date)
 }
 
+// As many bytes as the first four say; 0 where they are not there.
+#[no_mangle]
+pub extern "C" fn ftd_said_length(p: &[u8]) -> usize
+    ensures { λ r. ⌜ r ≡ saidIn (now (p .entry)) ⌝ }
+{
+    said_length(p)
+}
+
 // Field i of a message packet, counted from 0.
 #[no_mangle]
 pub extern "C" fn ftd_field(p: &[u8], i: usize) -> FtdField
@@ -338,22 +329,18 @@ pub extern "C" fn ftd_write(m: FtdMessage, content: &[u8], out: &mut [u8]) -> Ft
     ensures answer { λ r. ⌜ r ≡ writtenNumbers (writtenAnswer (chainVerdict (now (content .entry))) (joined (packetsOf (messageFor m) (now (content .entry)))) (now (out .entry))) ⌝ }
     ensures output { λ _. ⌜ now (out .exit) ≡ writtenOutput (chainVerdict (now (content .entry))) (joined (packetsOf (messageFor m) (now (content .entry)))) (now (out .entry)) ⌝ }
 {
-    match write_chain(message_for(m), content, out) {
-        Written::Bytes(n) => FtdWritten {
-            bytes: n,
-            refusal: 0,
-        },
-        Written::Refused(r) => FtdWritten {
-            bytes: 0,
-            refusal: number(r),
-        },
-        Written::NotPlain => FtdWritten {
-            bytes: 0,
-            refusal: 255,
-        },
-        Written::NoPacket => FtdWritten {
-            bytes: 0,
-            refusal: 255,
-        },
-    }
+    written(write_chain(message_for(m), content, out))
+}
+
+// A link packet or a skipped one; refused, the output is as it was.
+#[no_mangle]
+pub extern "C" fn ftd_write_plain(
+    kind: u8,
+    extension: &[u8],
+    body: &[u8],
+    out: &mut [u8],
+) -> FtdWritten
+    ensures { λ r. ⌜ (r ≡ writtenNumbers (writtenAnswer (plainVerdict kind (now (extension .entry)) (now (body .entry))) (packetBytes kind (now (extension .entry)) (now (body .entry))) (now (out .entry)))) × (now (out .exit) ≡ writtenOutput (plainVerdict kind (now (extension .entry)) (now (body .entry))) (packetBytes kind (now (extension .entry)) (now (body .entry))) (now (out .entry))) ⌝ }
+{
+    written(write_plain(kind, extension, body, out))
 }

@@ -1,10 +1,13 @@
 //! Both sides on one input. Each function gives the first difference as text, with both answers.
 
-use crate::{field, field_at, read, size, write, Field, Packet, Size, Written, LINK, MESSAGE, REFUSED, SKIPPED};
+use crate::{field, field_at, read, size, write, Date, Field, Packet, Resume, Size, Written};
+use crate::{LINK, MESSAGE, NOT_PLAIN, NO_START, REFUSED, SEVERAL_START, SKIPPED, START, WRONG_START};
 use reader::cut::{write_message, Header};
 use reader::generate::Random;
-use reader::makeup::{self, Direction};
+use reader::makeup::{self, Direction, Mode};
 use reader::packet::{self, FIELD_HEADER};
+use reader::plain::{plain_packet, NotWritten};
+use reader::start::{start_field, start_field_bytes, Start};
 use std::fmt::Debug;
 
 /// The limits of row 7: a whole message, a packet, a packet that has to take a start field too.
@@ -119,28 +122,27 @@ pub fn checks(asked: &mut Asked, tid: u32, content: &[u8]) -> Result<(), String>
     Ok(())
 }
 
-/// A message cut and written: into an output with room to spare, one that just fits, and one that is too small. Behind what is
-/// written, and where nothing is, the output stays as it was.
-pub fn message(asked: &mut Asked, r: &mut Random, header: &Header, content: &[u8]) -> Result<(), String> {
-    let mut right = Vec::new();
-    let packets = write_message(&mut right, header, content);
-    let takes = match packets {
-        Some(packets) => Size { packets, bytes: right.len(), refusal: 0 },
-        None => Size { refusal: 7, ..Size::default() },
-    };
-    asked.same("size", size(header, content), takes)?;
+/// What is written, or its refusal: into an output with room to spare, one that just fits, and ones that are too small.
+/// Behind what is written, and where nothing is, the output stays as it was.
+pub fn output(
+    asked: &mut Asked,
+    r: &mut Random,
+    right: Result<&[u8], u8>,
+    write: impl Fn(&mut [u8]) -> Written,
+) -> Result<(), String> {
+    let takes = right.map_or(40, <[u8]>::len);
     let pattern = r.byte();
-    for room in [right.len() + r.below(40), right.len(), right.len().saturating_sub(1), r.below(right.len() + 1)] {
+    for room in [takes + r.below(40), takes, takes.saturating_sub(1), r.below(takes + 1)] {
         let mut out = vec![pattern; room];
-        let written = write(header, content, &mut out);
+        let written = write(&mut out);
         let mut left = vec![pattern; room];
-        let answer = if packets.is_none() {
-            Written { bytes: 0, refusal: 7 }
-        } else if room < right.len() {
-            Written { bytes: 0, refusal: 18 }
-        } else {
-            left[..right.len()].copy_from_slice(&right);
-            Written { bytes: right.len(), refusal: 0 }
+        let answer = match right {
+            Err(refusal) => Written { bytes: 0, refusal },
+            Ok(bytes) if room < bytes.len() => Written { bytes: 0, refusal: 18 },
+            Ok(bytes) => {
+                left[..bytes.len()].copy_from_slice(bytes);
+                Written { bytes: bytes.len(), refusal: 0 }
+            }
         };
         asked.same(&format!("written with room for {room}"), written, answer)?;
         asked.0 += 1;
@@ -154,6 +156,75 @@ pub fn message(asked: &mut Asked, r: &mut Random, header: &Header, content: &[u8
         }
     }
     Ok(())
+}
+
+/// A message cut and written.
+pub fn message(asked: &mut Asked, r: &mut Random, header: &Header, content: &[u8]) -> Result<(), String> {
+    let mut right = Vec::new();
+    let packets = write_message(&mut right, header, content);
+    let takes = match packets {
+        Some(packets) => Size { packets, bytes: right.len(), refusal: 0 },
+        None => Size { refusal: 7, ..Size::default() },
+    };
+    asked.same("size", size(header, content), takes)?;
+    output(asked, r, packets.map(|_| &right[..]).ok_or(7), |out| write(header, content, out))
+}
+
+/// The length that the first four bytes say, and what the tags behind them say: those of the extension, as far as it is
+/// there.
+pub fn head(asked: &mut Asked, bytes: &[u8]) -> Result<(), String> {
+    asked.same("length said", crate::said_length(bytes), packet::said_length(bytes).unwrap_or(0))?;
+    let behind = bytes.get(4..).unwrap_or(&[]);
+    let extent = bytes.get(1).map_or(0, |&n| usize::from(n));
+    tags(asked, behind.get(..extent).unwrap_or(behind))
+}
+
+/// What the tags of any bytes say.
+pub fn tags(asked: &mut Asked, extension: &[u8]) -> Result<(), String> {
+    let mark = packet::mark(extension);
+    let date = Date { date: mark.unwrap_or(0), dated: mark.is_some().into() };
+    asked.same("trade date", crate::trade_date(extension), date)?;
+    asked.same("keep-alive", crate::keep_alive(extension), packet::keeps_alive(extension).into())
+}
+
+/// A link or skipped packet written; gives the refusal, 0 for none.
+pub fn plain(asked: &mut Asked, r: &mut Random, kind: u8, extension: &[u8], body: &[u8]) -> Result<u8, String> {
+    let right = plain_packet(kind, extension, body).map_err(|refused| match refused {
+        NotWritten::Refused(row) => row,
+        NotWritten::NotPlain => NOT_PLAIN,
+    });
+    output(asked, r, right.as_deref().map_err(|row| *row), |out| crate::write_plain(kind, extension, body, out))?;
+    Ok(right.err().unwrap_or(0))
+}
+
+/// The start field of any content; gives which answer it is.
+pub fn start(asked: &mut Asked, content: &[u8]) -> Result<u8, String> {
+    let right = match start_field(content) {
+        Start::Absent => Resume { answer: NO_START, ..Resume::default() },
+        Start::Next { series, number } => Resume { answer: START, series, number },
+        Start::Misshapen => Resume { answer: WRONG_START, ..Resume::default() },
+        Start::Several => Resume { answer: SEVERAL_START, ..Resume::default() },
+    };
+    asked.same("start field", crate::find_resume(content), right)?;
+    Ok(right.answer)
+}
+
+/// A start field written.
+pub fn start_written(asked: &mut Asked, r: &mut Random, series: u16, number: u32) -> Result<(), String> {
+    output(asked, r, Ok(&start_field_bytes(series, number)), |out| crate::write_resume(series, number, out))
+}
+
+/// The mode of a message.
+pub fn mode(asked: &mut Asked, tid: u32) -> Result<u8, String> {
+    let right = match makeup::mode(tid) {
+        None => 0,
+        Some(Mode::Private) => 1,
+        Some(Mode::Broadcast) => 2,
+        Some(Mode::Management) => 3,
+        Some(Mode::Dialog) => 4,
+    };
+    asked.same(&format!("mode of {tid:#06x}"), crate::mode(tid), right)?;
+    Ok(right)
 }
 
 /// Bytes as text, all of them.

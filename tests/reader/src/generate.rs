@@ -136,7 +136,7 @@ fn digits(r: &mut Random, width: usize, point: Option<usize>, out: &mut Vec<u8>)
 }
 
 /// Changes an item to one that isn't a value, if its type has any.
-fn spoil(r: &mut Random, kind: Kind, item: &mut [u8]) -> bool {
+pub(crate) fn spoil(r: &mut Random, kind: Kind, item: &mut [u8]) -> bool {
     let at = r.below(item.len());
     match kind {
         Kind::Char([]) | Kind::Word | Kind::Int => return false,
@@ -191,6 +191,37 @@ pub fn known_field_bytes(r: &mut Random, field: &Field) -> Vec<u8> {
         item(r, row.kind, &mut value);
     }
     raw_field(field.fid, &value)
+}
+
+/// The bytes of a field of Appendix D, item `i` of them in the given form: a value, spoiled, cut, or any bytes.
+pub fn item_input(r: &mut Random, field: &Field, i: usize, form: Form) -> Vec<u8> {
+    let row = &field.items[i];
+    let mut bytes = known_field_bytes(r, field)[FIELD_HEADER..].to_vec();
+    let place = row.at..row.at + row.width;
+    match form {
+        Form::Valid => {}
+        Form::Damaged => {
+            spoil(r, row.kind, &mut bytes[place]);
+        }
+        // It ends within the item, or just before or behind it.
+        Form::Cut => bytes.truncate(r.within(row.at, row.at + row.width)),
+        Form::Random => {
+            let any = r.bytes(row.width);
+            bytes[place].copy_from_slice(&any);
+        }
+        Form::Mutated => {
+            for _ in 0..r.within(1, 3) {
+                bytes[row.at + r.below(row.width)] = r.pick(b" 0129-.+/:\0\x01\x1F\x7F\x80\xFF");
+            }
+        }
+        Form::Extreme => {
+            let byte = r.pick(b" 09-.\0\xFF");
+            bytes[place].fill(byte);
+            let more = r.below(20);
+            bytes.extend(r.bytes(more));
+        }
+    }
+    bytes
 }
 
 /// A FID outside Appendix D.

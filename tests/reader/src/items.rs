@@ -152,3 +152,10 @@ pub fn values(fid: u32, bytes: &[u8]) -> Option<Vec<Value<'_>>> {
     let field = known_field(fid).filter(|field| field.width == bytes.len())?;
     field.items.iter().map(|item| item.kind.value(&bytes[item.at..item.at + item.width])).collect()
 }
+
+/// Item `i` of a field, counted from 0: none where there is no such item or its bytes aren't all there; then its value, none
+/// where the bytes aren't one. Nothing else of the field is looked at.
+pub fn item(fid: u32, i: usize, bytes: &[u8]) -> Option<Option<Value<'_>>> {
+    let row = known_field(fid)?.items.get(i)?;
+    bytes.get(row.at..row.at + row.width).map(|bytes| row.kind.value(bytes))
+}

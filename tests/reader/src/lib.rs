@@ -3,9 +3,12 @@
 
 pub mod cut;
 pub mod generate;
+pub mod given;
 pub mod items;
 pub mod lister;
 pub mod makeup;
 pub mod packet;
+pub mod plain;
+pub mod start;
 #[rustfmt::skip]
 pub mod tables;

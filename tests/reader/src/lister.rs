@@ -1,6 +1,6 @@
 //! The lister's lines.
 
-use crate::packet::{read, tags, Packet, KEEP_ALIVE};
+use crate::packet::{keeps_alive, read, Packet};
 use std::fmt::Write;
 
 /// The most bytes that the lister takes.
@@ -34,7 +34,7 @@ pub fn lines(input: &[u8]) -> String {
                 length
             }
             Packet::Link { kind, extension, length, .. } => {
-                let heart = kind == 0 && tags(extension).flatten().any(|(tag, _)| tag == KEEP_ALIVE);
+                let heart = kind == 0 && keeps_alive(extension);
                 writeln!(text, "{at}\t{}", if heart { "heart" } else { "link" }).unwrap();
                 length
             }

@@ -114,6 +114,12 @@ pub fn read(bytes: &[u8]) -> Packet<'_> {
     }
 }
 
+/// As many bytes as the first four say; none where they aren't there.
+pub fn said_length(bytes: &[u8]) -> Option<usize> {
+    let head = bytes.get(..4)?;
+    Some(4 + usize::from(head[1]) + usize::from(u16_at(head, 2)))
+}
+
 /// The length that Table 2 gives the tag, if it knows it.
 pub fn known_tag(kind: u8) -> Option<usize> {
     match kind {
@@ -163,6 +169,17 @@ pub fn trade_date(extension: &[u8]) -> Result<Option<u32>, ()> {
         }
     }
     Ok(mark)
+}
+
+/// The mark of any bytes: the first tag 0x05 of those that are whole, if it has four bytes of data.
+pub fn mark(extension: &[u8]) -> Option<u32> {
+    let (_, data) = tags(extension).map_while(Result::ok).find(|(kind, _)| *kind == TRADE_DATE)?;
+    Some(u32::from_be_bytes(data.try_into().ok()?))
+}
+
+/// Is there a tag 0x04 among those that are whole?
+pub fn keeps_alive(extension: &[u8]) -> bool {
+    tags(extension).map_while(Result::ok).any(|(kind, _)| kind == KEEP_ALIVE)
 }
 
 /// A data field (Table 5).

@@ -1,14 +1,20 @@
-//! The differential test: `differ [INPUTS [SEED [LISTER]]]`. Both sides on generated inputs, then on a generated capture of some
-//! megabytes; LISTER is the program that lists captures. Each difference is printed with its bytes; any makes the run fail.
+//! The differential test: `differ [INPUTS [SEED [LISTER]]]`. Both sides on generated inputs, on each row of the table
+//! of items, on link and skipped packets, start fields and modes, then on a generated capture of some megabytes;
+//! LISTER is the program that lists captures. Each difference is printed with its bytes; any makes the run fail.
 
 use outside::compare::{self, hex, Asked};
-use outside::{Packet, LINK, MESSAGE, SKIPPED};
+use outside::{items, Packet, LINK, MESSAGE, SKIPPED, UNUSED};
 use reader::generate::{
-    capture, capture_input, content_input, header, message_content, packet_input, Form, Random, FORMS,
+    capture, capture_input, content_input, header, item_input, message_content, packet_input, unknown_fid, Form,
+    Random, FORMS,
 };
+use reader::given::{given, Given};
 use reader::lister;
 use reader::makeup::Direction;
-use reader::tables::TIDS;
+use reader::packet::fields;
+use reader::plain::plain_input;
+use reader::start::start_input;
+use reader::tables::{FIELDS, TIDS};
 use std::collections::{BTreeMap, BTreeSet};
 use std::io::Write;
 use std::process::{Command, Stdio};
@@ -16,6 +22,10 @@ use std::time::Instant;
 
 /// More differences than these aren't printed.
 const MOST: usize = 10;
+
+/// The kinds of an item's value, by number.
+const ITEMS: [&str; 10] =
+    ["none", "no value", "Char", "Word", "Int", "String", "Number", "Float", "Date", "Date, unused"];
 
 #[derive(Default)]
 struct Run {
@@ -49,7 +59,7 @@ impl Run {
         let found = compare::packet(&mut self.asked, bytes);
         let packet = *found.as_ref().unwrap_or(&Packet::default());
         self.count("read", if packet.refusal == 0 { 100 + packet.answer } else { packet.refusal });
-        let mut rest = found.map(|_| ());
+        let mut rest = found.and_then(|_| compare::head(&mut self.asked, bytes));
         if rest.is_ok() && packet.answer == MESSAGE {
             let content = &bytes[packet.start..packet.start + packet.len];
             for direction in [Direction::Up, Direction::Down] {
@@ -75,7 +85,9 @@ impl Run {
                 let at = r.below(input.content.len() + 3);
                 let all = given
                     .and_then(|_| compare::checks(&mut self.asked, input.tid, &input.content))
-                    .and_then(|()| compare::place(&mut self.asked, &input.content, at));
+                    .and_then(|()| compare::place(&mut self.asked, &input.content, at))
+                    .and_then(|()| compare::start(&mut self.asked, &input.content))
+                    .and_then(|_| self.first_items(&input.content));
                 self.note(
                     &format!("a content ({form:?}), {:#06x} {:?}", input.tid, input.direction),
                     &input.content,
@@ -92,6 +104,119 @@ impl Run {
                 let found = compare::message(&mut self.asked, r, &header, &content);
                 self.note(&format!("a message, {header:?}"), &content, found);
             }
+        }
+    }
+
+    /// The items of a content's first fields, of whatever FID and width they are.
+    fn first_items(&mut self, content: &[u8]) -> Result<(), String> {
+        let mut whole = fields(content).map_while(Result::ok).take(2);
+        whole.try_for_each(|field| items::read_all(&mut self.asked, field.fid, field.value))
+    }
+
+    /// Each row of the table: so many items read, in each form, and as many values of and around its type written; each
+    /// byte; and each number that is no kind.
+    fn rows(&mut self, r: &mut Random, rounds: usize) {
+        for field in &FIELDS {
+            for i in 0..field.items.len() {
+                let what = format!("{} of {}", field.items[i].name, field.name);
+                for round in 0..rounds {
+                    let bytes = item_input(r, field, i, FORMS[round % FORMS.len()]);
+                    let kind = items::read(&mut self.asked, field.fid, i, &bytes);
+                    self.count("item read", 100 + kind.as_ref().unwrap_or(&100));
+                    self.note(&what, &bytes, kind.map(|_| ()));
+                    let value = given(r, field.items[i].kind);
+                    let fits = items::written(&mut self.asked, r, field.fid, i, &value);
+                    self.count("item written", if fits == Ok(true) { 0 } else { 9 });
+                    self.note(&format!("{what}, {value:?}"), &[], fits.map(|_| ()));
+                }
+                for x in 0..=256u16 {
+                    let mut bytes = vec![x as u8; field.items[i].at];
+                    bytes.push(x as u8);
+                    let found = items::read(&mut self.asked, field.fid, i, &bytes)
+                        .and_then(|_| items::written(&mut self.asked, r, field.fid, i, &Given::Char(x.into())));
+                    self.note(&format!("{what}, byte {x}"), &bytes, found.map(|_| ()));
+                }
+                for kind in [0, 1].into_iter().chain(UNUSED + 1..=255) {
+                    let found = items::not_written(&mut self.asked, r, field.fid, i, kind);
+                    self.note(&format!("{what}, kind {kind}"), &[], found);
+                }
+            }
+        }
+        // Items that there are not.
+        for round in 0..20 * rounds {
+            let field = &FIELDS[round % FIELDS.len()];
+            let (fid, i) = match r.below(3) {
+                0 => (unknown_fid(r), r.below(3)),
+                1 => (field.fid, field.items.len() + r.below(3)),
+                _ => (field.fid, r.pick(&[1 << 16, 1 << 32, usize::MAX - 1, usize::MAX])),
+            };
+            let bytes = item_input(r, field, 0, Form::Valid);
+            let value = given(r, field.items[0].kind);
+            let found = items::read(&mut self.asked, fid, i, &bytes)
+                .and_then(|_| items::written(&mut self.asked, r, fid, i, &value));
+            self.note(&format!("item {i} of {fid:#06x}, {value:?}"), &bytes, found.map(|_| ()));
+        }
+    }
+
+    /// Link and skipped packets written, start fields read and written, modes.
+    fn others(&mut self, r: &mut Random, rounds: u64) {
+        for _ in 0..rounds {
+            let (kind, extension, body) = plain_input(r);
+            let found = compare::plain(&mut self.asked, r, kind, &extension, &body);
+            self.count("plain packet", *found.as_ref().unwrap_or(&254));
+            let found = found.and_then(|_| compare::tags(&mut self.asked, &extension));
+            self.note(&format!("a packet of type {kind} with a body of {}", body.len()), &extension, found);
+
+            let content = start_input(r);
+            let (series, number) = (r.number(0xFFFF) as u16, r.number(u32::MAX));
+            let found = compare::start(&mut self.asked, &content);
+            self.count("start field", 100 + found.as_ref().unwrap_or(&100));
+            let found = found.and_then(|_| compare::start_written(&mut self.asked, r, series, number));
+            self.note(&format!("a start field, {series} {number}"), &content, found);
+
+            let tid = r.number(u32::MAX);
+            let found = compare::mode(&mut self.asked, tid).map(|_| ());
+            self.note("a mode", &[], found);
+        }
+        for tid in (0..0x1_0000).chain(TIDS.iter().flat_map(|row| [row.number | 0x1_0000, row.number << 16])) {
+            let mode = compare::mode(&mut self.asked, tid);
+            self.count("mode", 100 + mode.as_ref().unwrap_or(&100));
+            self.note("a mode", &[], mode.map(|_| ()));
+        }
+    }
+
+    /// A part of the test, with its figures.
+    fn part(&mut self, what: &str, test: impl FnOnce(&mut Self)) {
+        let start = Instant::now();
+        let before = (self.inputs, self.asked.0);
+        test(self);
+        println!(
+            "{what}: {} inputs, {} answers compared, {:.1} s",
+            self.inputs - before.0,
+            self.asked.0 - before.1,
+            start.elapsed().as_secs_f64()
+        );
+        self.tell();
+    }
+
+    /// How often each answer was given, by what was asked; then they are counted anew.
+    fn tell(&mut self) {
+        for ((what, answer), n) in std::mem::take(&mut self.answers) {
+            // An answer by its name, where it isn't a refusal; 200, 254 and 255 stand for a difference.
+            let names: &[&str] = match what {
+                "read" => &["short", "link", "skipped", "message"],
+                "item read" => &ITEMS,
+                "start field" => &["none", "one", "of another width", "several"],
+                "mode" => &["unknown", "private", "broadcast", "management", "dialog"],
+                _ => &[],
+            };
+            let name = match (what, answer) {
+                (_, 100..) if usize::from(answer) < 100 + names.len() => names[usize::from(answer - 100)].to_string(),
+                ("plain packet", outside::NOT_PLAIN) => "not plain".to_string(),
+                (_, 0) => "passed".to_string(),
+                (_, n) => format!("refused {n}"),
+            };
+            println!("  {what}: {name} {n}");
         }
     }
 
@@ -168,17 +293,11 @@ fn main() {
         run.bytes as f64 / 1e6,
         run.asked.0
     );
-    for ((what, answer), n) in &run.answers {
-        let name = match (*what, *answer) {
-            ("read", 100) => "short".to_string(),
-            ("read", 101) => "link".to_string(),
-            ("read", 102) => "skipped".to_string(),
-            ("read", 103) => "message".to_string(),
-            (_, 0) => "passed".to_string(),
-            (_, n) => format!("refused {n}"),
-        };
-        println!("  {what}: {name} {n}");
-    }
+    run.tell();
+
+    let rounds = (inputs / 1000) as usize;
+    run.part("each row of the table of items", |run| run.rows(&mut Random::new(seed), rounds));
+    run.part("plain packets, start fields and modes", |run| run.others(&mut Random::new(seed), inputs / 10));
 
     let start = Instant::now();
     let before = (run.inputs, run.asked.0);

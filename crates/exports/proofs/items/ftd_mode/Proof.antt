@@ -1,0 +1,53 @@
+-- `items::ftd_mode` meets its contract, case by case. Assumes nothing.
+use borrow.Author.Needs.{needs}
+use Rattle.exports.proofs.items.ftd_mode.Statement.{statement}
+use Rattle.exports.proofs.items.ftd_mode.Tie as tie
+
+mode-of-requires : tie.Need-mode-of-requires
+mode-of-requires c κs = search needs
+
+enum-told : tie.Need-enum-told
+enum-told c = search needs
+
+enum-told-2 : tie.Need-enum-told-2
+enum-told-2 c = search needs
+
+enum-told-3 : tie.Need-enum-told-3
+enum-told-3 c = search needs
+
+enum-told-4 : tie.Need-enum-told-4
+enum-told-4 c = search needs
+
+enum-told-5 : tie.Need-enum-told-5
+enum-told-5 c = search needs
+
+returns : tie.Need-returns
+returns c = rw (← (c .before .before .mode-of .ensures), c .enum-told .given .1)
+
+returns-2 : tie.Need-returns-2
+returns-2 c = rw (← (c .before .before .mode-of .ensures), c .enum-told2 .given .1)
+
+returns-3 : tie.Need-returns-3
+returns-3 c = rw (← (c .before .before .mode-of .ensures), c .enum-told3 .given .1)
+
+returns-4 : tie.Need-returns-4
+returns-4 c = rw (← (c .before .before .mode-of .ensures), c .enum-told4 .given .1)
+
+returns-5 : tie.Need-returns-5
+returns-5 c = rw (← (c .before .before .mode-of .ensures), c .enum-told5 .given .1)
+
+pub ftd-mode-spec : {M : Type 1} → statement M
+ftd-mode-spec =
+    tie.close
+    (tie.spec
+    mode-of-requires
+    enum-told
+    enum-told-2
+    enum-told-3
+    enum-told-4
+    enum-told-5
+    returns
+    returns-2
+    returns-3
+    returns-4
+    returns-5)
