@@ -98,7 +98,7 @@ expect "a message's number is its TID, and so says its definition" "$work/librar
 if [ "${1:-}" = --long ]; then
     fresh_library
     change "$work/library/crates/ftd/src/tags.rt" '= [0, 4, 1, 1, 0, 4, 2];' '= [0, 4, 1, 1, 0, 4, 3];'
-    change "$work/library/crates/ftd/specs/Tags.antt" 'known 6 2 ∷ []' 'known 6 3 ∷ []'
+    change "$work/library/crates/ftd/specs/Tags.antt" 'knownTag 0x06 2 ∷ []' 'knownTag 0x06 3 ∷ []'
     prove
     expect "tag 0x06 has three bytes, and so says its definition" "$work/library/target/staticlib"
 fi

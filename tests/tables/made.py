@@ -3,8 +3,8 @@
 
     made.py STANDARD.txt              compares rows, places, enumerations, TIDs and columns with the standard
     made.py STANDARD.txt --rows       the rows of Appendix D, as specs/Table.antt has them
-    made.py STANDARD.txt --places     first row, number of rows and width of each field, as specs/TableRule.antt has them
-    made.py STANDARD.txt --tids       the TIDs of Appendix A, as specs/Modes.antt has them
+    made.py STANDARD.txt --places     first row, number of rows and width of each field, as specs/Table/Rule.antt has them
+    made.py STANDARD.txt --tids       the TIDs of Appendix A, as specs/Mode.antt has them
     made.py STANDARD.txt --columns    the columns of src/table.rt
 
 The text of the standard is not in the repository. appendices.py reads it, recount.py reads it a second time with no code
@@ -60,24 +60,29 @@ def compare(std):
 
     spec = text("specs", "Table.antt")
     kinds = kind_names()
-    found = re.findall(r"row (\d+) (\w+) (\d+) (\d+) +-- (\S+) (\S+)", spec)
+    found = re.findall(r"row 0x([0-9A-F]{4}) (\w+) (\d+) (\d+) +-- (\S+) (\S+)", spec)
     same("rows of Appendix D, with item and type", rows,
-         [(int(r[0]), kinds.index(r[1]), int(r[2]), int(r[3])) + r[4:] for r in found])
+         [(int(r[0], 16), kinds.index(r[1]), int(r[2]), int(r[3])) + r[4:] for r in found])
     heads = re.findall(r"-- (\w+), FID 0x([0-9A-F]{4}): (\d+) rows, (\d+) bytes", spec)
     same("fields, with name, rows and width", [(f["name"], f["fid"], len(f["rows"]), f["width"]) for f in std["fields"]],
          [(h[0], int(h[1], 16), int(h[2]), int(h[3])) for h in heads])
     listed = spec[spec.index("enumerations ="):spec.index("-- ", spec.index("enumerations ="))]
     same("enumerations", [sorted(v) for v, _ in appendices.enumerations(std)],
          [[int(x) for x in re.findall(r"\d+", m)] for m in re.findall(r"\(([^()]*)\)", listed)])
-    found = re.findall(r"place (\d+) (\d+) (\d+) +--", text("specs", "TableRule.antt"))
+    found = re.findall(r"place (\d+) (\d+) (\d+) +--", text("specs", os.path.join("Table", "Rule.antt")))
     same("places, by FID", places, [tuple(map(int, p)) for p in found])
-    found = re.findall(r"(\d+) +-- 0x([0-9A-F]{4}) (\w+)", text("specs", "Modes.antt"))
-    same("TIDs of Appendix A, with name", [(t["tid"], t["tid"], t["name"]) for t in std["tids"]],
-         [(int(t[0]), int(t[1], 16), t[2]) for t in found])
+    found = re.findall(r"0x([0-9A-F]{4}) +-- (TID_\w+)", text("specs", "Mode.antt"))
+    same("TIDs of Appendix A, with name", [(t["tid"], t["name"]) for t in std["tids"]],
+         [(int(t[0], 16), t[1]) for t in found])
     code = text("src", "table.rt")
+    names = {n: int(v) for n, v in re.findall(r"pub const (\w+): u8 = (\d+);", text("src", "kinds.rt"))}
     for name, column in columns(rows, places).items():
         found = re.search(r"const %s: \[\w+; (\d+)\] = \[([^\]]*)\]" % name, code)
-        same("column " + name, column, [int(x) for x in re.findall(r"\d+", found.group(2))])
+        entries = re.findall(r"^\s*(\w+),(?: // (\w+) (\S+): (\S+))?$", found.group(2), re.M)
+        same("column " + name, column, [names[e[0]] if e[0] in names else int(e[0]) for e in entries])
+        if name == "KIND":
+            fields = {f["fid"]: f["name"] for f in std["fields"]}
+            same("its comments: field, item and type", [(fields[r[0]], r[4], r[5]) for r in rows], [e[1:] for e in entries])
     print("%d fields, %d rows, %d bytes; %d differ" % (len(std["fields"]), len(rows), sum(r[2] for r in rows), fails))
     return 1 if fails else 0
 
@@ -97,7 +102,7 @@ def main(args):
             if fid != last:
                 f = names[fid]
                 print("    -- %s, FID 0x%04X: %d rows, %d bytes" % (f["name"], fid, len(f["rows"]), f["width"]))
-            print("%srow %d %s %d %d  -- %s %s" % (head, fid, kinds[kind], width, scale, item, kind_name))
+            print("%srow 0x%04X %s %d %d  -- %s %s" % (head, fid, kinds[kind], width, scale, item, kind_name))
             head, last = "    ∷ ", fid
         print("    ∷ []")
     elif args[1:] == ["--places"]:
@@ -107,7 +112,7 @@ def main(args):
         print("    ∷ []")
     elif args[1:] == ["--tids"]:
         for n, t in enumerate(std["tids"]):
-            print("    %s%d  -- 0x%04X %s" % ("∷ " if n else "", t["tid"], t["tid"], t["name"]))
+            print("    %s0x%04X  -- %s" % ("∷ " if n else "", t["tid"], t["name"]))
         print("    ∷ []")
     elif args[1:] == ["--columns"]:
         for name, column in columns(rows, places).items():

@@ -17,8 +17,8 @@ def lines(std):
 
 def main():
     want = lines(appendices.read_standard(sys.argv[1]))
-    listed = re.findall(r"^ +(?:∷ )?listed (\d+) (Up|Down) (\d+) (\d+) (\d+)", made.text("specs", "Composition.antt"), re.M)
-    have = [(int(t), 0 if d == "Up" else 1, int(f), int(lo), int(hi)) for t, d, f, lo, hi in listed]
+    listed = re.findall(r"^ +(?:∷ )?listed 0x([0-9A-F]{4}) (Up|Down) 0x([0-9A-F]{4}) (\d+) (\d+)", made.text("specs", "Composition.antt"), re.M)
+    have = [(int(t, 16), 0 if d == "Up" else 1, int(f, 16), int(lo), int(hi)) for t, d, f, lo, hi in listed]
     code = made.text("src", "composition.rt")
     names = ("TID", "DIRECTION", "FID", "LEAST", "MOST")
     body = [re.search(r"const %s: \[\w+; \d+\] = \[(.*?)\];" % n, code, re.S).group(1) for n in names]
