@@ -9,88 +9,88 @@ use crate::fields::count_field;
 
 // The lines of Appendix E in columns, in the paper's order: TID, direction (0 up, 1 down), FID, least and most count (0: unlimited).
 const TID: [u16; 82] = [
-    1,
-    1,
-    1,
-    4101,
-    8199,
-    8199,
-    8198,
-    8198,
-    8195,
-    8196,
-    8196,
-    8194,
-    8194,
-    8193,
-    8193,
-    8197,
-    8197,
-    4099,
-    4099,
-    4098,
-    4,
-    3,
-    12,
-    8,
-    5,
-    14,
-    11,
-    2,
-    18,
-    13,
-    6,
-    19,
-    10,
-    9,
-    7,
-    20,
-    21,
-    22,
-    22,
-    23,
-    24,
-    4,
-    4,
-    3,
-    3,
-    12,
-    12,
-    8,
-    8,
-    5,
-    5,
-    14,
-    14,
-    11,
-    11,
-    2,
-    2,
-    18,
-    18,
-    13,
-    13,
-    6,
-    6,
-    19,
-    19,
-    10,
-    10,
-    9,
-    9,
-    7,
-    7,
-    20,
-    20,
-    21,
-    21,
-    22,
-    22,
-    23,
-    23,
-    24,
-    24,
-    4097,
+    0x0001, // Error down
+    0x0001, // Error down
+    0x0001, // Error down
+    0x1005, // ForceExit down
+    0x2007, // InstrumentChangeNotify down
+    0x2007, // InstrumentChangeNotify down
+    0x2006, // InstrumentStatusChangeNotify down
+    0x2006, // InstrumentStatusChangeNotify down
+    0x2003, // MarketBulletin down
+    0x2004, // MarketMatchData down
+    0x2004, // MarketMatchData down
+    0x2002, // MarketMatchIncData down
+    0x2002, // MarketMatchIncData down
+    0x2001, // MarketOrderIncData down
+    0x2001, // MarketOrderIncData down
+    0x2005, // MarketStatusChangeNotify down
+    0x2005, // MarketStatusChangeNotify down
+    0x1003, // OrderConfirmation down
+    0x1003, // OrderConfirmation down
+    0x1002, // ParticipantBulletin down
+    0x0004, // ReqOrderAction up
+    0x0003, // ReqOrderInsert up
+    0x000C, // ReqQryClient up
+    0x0008, // ReqQryDeposit up
+    0x0005, // ReqQryInstrument up
+    0x000E, // ReqQryInstrumentStatus up
+    0x000B, // ReqQryMarket up
+    0x0002, // ReqQryMarketMatchData up
+    0x0012, // ReqQryMarketOrderData up
+    0x000D, // ReqQryMarketStatus up
+    0x0006, // ReqQryOrder up
+    0x0013, // ReqQryParticipant up
+    0x000A, // ReqQryPosition up
+    0x0009, // ReqQryPPosition up
+    0x0007, // ReqQryTrade up
+    0x0014, // ReqQryUser up
+    0x0015, // ReqQryUserLogin up
+    0x0016, // ReqUserLogin up
+    0x0016, // ReqUserLogin up
+    0x0017, // ReqUserLogout up
+    0x0018, // ReqUserPasswordUpdate up
+    0x0004, // RspOrderAction down
+    0x0004, // RspOrderAction down
+    0x0003, // RspOrderInsert down
+    0x0003, // RspOrderInsert down
+    0x000C, // RspQryClient down
+    0x000C, // RspQryClient down
+    0x0008, // RspQryDeposit down
+    0x0008, // RspQryDeposit down
+    0x0005, // RspQryInstrument down
+    0x0005, // RspQryInstrument down
+    0x000E, // RspQryInstrumentStatus down
+    0x000E, // RspQryInstrumentStatus down
+    0x000B, // RspQryMarket down
+    0x000B, // RspQryMarket down
+    0x0002, // RspQryMarketMatchData down
+    0x0002, // RspQryMarketMatchData down
+    0x0012, // RspQryMarketOrderData down
+    0x0012, // RspQryMarketOrderData down
+    0x000D, // RspQryMarketStatus down
+    0x000D, // RspQryMarketStatus down
+    0x0006, // RspQryOrder down
+    0x0006, // RspQryOrder down
+    0x0013, // RspQryParticipant down
+    0x0013, // RspQryParticipant down
+    0x000A, // RspQryPosition down
+    0x000A, // RspQryPosition down
+    0x0009, // RspQryPPosition down
+    0x0009, // RspQryPPosition down
+    0x0007, // RspQryTrade down
+    0x0007, // RspQryTrade down
+    0x0014, // RspQryUser down
+    0x0014, // RspQryUser down
+    0x0015, // RspQryUserLogin down
+    0x0015, // RspQryUserLogin down
+    0x0016, // RspUserLogin down
+    0x0016, // RspUserLogin down
+    0x0017, // RspUserLogout down
+    0x0017, // RspUserLogout down
+    0x0018, // RspUserPasswordUpdate down
+    0x0018, // RspUserPasswordUpdate down
+    0x1001, // TradeInsertSingle down
 ];
 
 const DIRECTION: [u8; 82] = [
@@ -179,88 +179,88 @@ const DIRECTION: [u8; 82] = [
 ];
 
 const FID: [u16; 82] = [
-    5,
-    46,
-    45,
-    6,
-    7,
-    5,
-    8,
-    5,
-    1,
-    19,
-    18,
-    10,
-    5,
-    13,
-    5,
-    9,
-    5,
-    14,
-    5,
-    1,
-    11,
-    12,
-    20,
-    21,
-    22,
-    23,
-    24,
-    31,
-    27,
-    25,
-    26,
-    28,
-    29,
-    30,
-    32,
-    33,
-    34,
-    35,
-    4,
-    36,
-    37,
-    11,
-    5,
-    12,
-    5,
-    2,
-    5,
-    3,
-    5,
-    7,
-    5,
-    8,
-    5,
-    38,
-    5,
-    19,
-    5,
-    13,
-    5,
-    9,
-    5,
-    14,
-    5,
-    15,
-    5,
-    16,
-    5,
-    17,
-    5,
-    42,
-    5,
-    43,
-    5,
-    44,
-    5,
-    39,
-    5,
-    40,
-    5,
-    41,
-    5,
-    42,
+    0x0005, // ErrorField
+    0x002E, // ErrorTargetSequenceField
+    0x002D, // ErrorTargetOrderField
+    0x0006, // ForceExitField
+    0x0007, // InstrumentField
+    0x0005, // ErrorField
+    0x0008, // InstrumentStatusField
+    0x0005, // ErrorField
+    0x0001, // BulletinField
+    0x0013, // MarketMatchDataField
+    0x0012, // MarketMatchDataChgField
+    0x000A, // MarketMatchIncDataField
+    0x0005, // ErrorField
+    0x000D, // MarketOrderDataField
+    0x0005, // ErrorField
+    0x0009, // MarketStatusField
+    0x0005, // ErrorField
+    0x000E, // OrderStatusField
+    0x0005, // ErrorField
+    0x0001, // BulletinField
+    0x000B, // OrderActionField
+    0x000C, // OrderInsertField
+    0x0014, // ReqQryClientField
+    0x0015, // ReqQryDepositField
+    0x0016, // ReqQryInstrumentField
+    0x0017, // ReqQryInstrumentStatusField
+    0x0018, // ReqQryMarketField
+    0x001F, // ReqQryMarketMatchDataField
+    0x001B, // ReqQryMarketOrderDataField
+    0x0019, // ReqQryMarketStatusField
+    0x001A, // ReqQryOrderField
+    0x001C, // ReqQryParticipantField
+    0x001D, // ReqQryPositionField
+    0x001E, // ReqQryPPositionField
+    0x0020, // ReqQryTradeField
+    0x0021, // ReqQryUserField
+    0x0022, // ReqQryUserLoginField
+    0x0023, // ReqUserLoginField
+    0x0004, // DisseminationstartField
+    0x0024, // ReqUserLogoutField
+    0x0025, // ReqUserPasswordUpdateField
+    0x000B, // OrderActionField
+    0x0005, // ErrorField
+    0x000C, // OrderInsertField
+    0x0005, // ErrorField
+    0x0002, // ClientField
+    0x0005, // ErrorField
+    0x0003, // DepositField
+    0x0005, // ErrorField
+    0x0007, // InstrumentField
+    0x0005, // ErrorField
+    0x0008, // InstrumentStatusField
+    0x0005, // ErrorField
+    0x0026, // MarketField
+    0x0005, // ErrorField
+    0x0013, // MarketMatchDataField
+    0x0005, // ErrorField
+    0x000D, // MarketOrderDataField
+    0x0005, // ErrorField
+    0x0009, // MarketStatusField
+    0x0005, // ErrorField
+    0x000E, // OrderStatusField
+    0x0005, // ErrorField
+    0x000F, // ParticipantField
+    0x0005, // ErrorField
+    0x0010, // PositionField
+    0x0005, // ErrorField
+    0x0011, // PPositionField
+    0x0005, // ErrorField
+    0x002A, // TradeInsertSingleField
+    0x0005, // ErrorField
+    0x002B, // UserField
+    0x0005, // ErrorField
+    0x002C, // UserLoginField
+    0x0005, // ErrorField
+    0x0027, // RspUserLoginField
+    0x0005, // ErrorField
+    0x0028, // RspUserLogoutField
+    0x0005, // ErrorField
+    0x0029, // RspUserPasswordUpdateField
+    0x0005, // ErrorField
+    0x002A, // TradeInsertSingleField
 ];
 
 const LEAST: [u8; 82] = [
