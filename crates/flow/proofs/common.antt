@@ -5,3 +5,4 @@ pub mod Extends
 pub mod Days
 pub mod Lists
 pub mod Histories
+pub mod Contents

@@ -8,3 +8,4 @@ pub mod World
 pub mod Agreement
 pub mod Bench
 pub mod Examples
+pub mod Helpers

@@ -4,6 +4,9 @@ ghost use Rattle.flow.specs.Bench.{Bench};
 ghost use Rattle.flow.specs.Examples.{Examples};
 
 pub mod limits; // the limits of both
+pub mod series; // series in a list
+mod days; // trade dates compared
+mod log; // the log of the serving end
 pub mod sender; // the serving end
 pub mod receiver; // the receiving end
 

@@ -1,7 +1,23 @@
 // The serving end (01, "The serving end"): its state by value, and what its calls answer.
 ghost use mathlib.Core.Path.{_≡_};
-ghost use Rattle.flow.specs.Ends.{freshSender, senderLimits};
+ghost use mathlib.Core.List.{map};
+ghost use Prim.Native.Nat.{_≤_};
+ghost use lib.ListN.{length};
+ghost use Rattle.ftd.specs.Content.{contentCheck};
+ghost use Rattle.ftd.specs.declared.composition.Direction.the-variants.{Down};
+ghost use Rattle.ftd.specs.declared.items.Checked.the-variants.{Passed};
+ghost use Rattle.flow.specs.declared.series.SeriesPlace.the-variants.{At};
+ghost use Rattle.flow.specs.Ends.{freshSender, senderLimits, filled, newSeries};
+ghost use Rattle.flow.specs.Helpers.{Finds, unpublished};
+ghost use Rattle.flow.specs.Promises.{OpensDay, Publishes};
+use crate::days::is_up_to;
 use crate::limits::Limits;
+use crate::log::put_entry;
+use crate::series::SeriesPlace;
+use crate::series::wrong_series;
+use ftd::composition::Direction;
+use ftd::content::check_content;
+use ftd::items::Checked;
 use ftd::refusal::Refusal;
 use ftd::tags::TradeDate;
 
@@ -82,6 +98,26 @@ pub struct SendStep {
     pub answer: Sent,
 }
 
+// The day's places: the series of an opening, with no message published; the others empty.
+fn new_places(series: &[u16]) -> [DaySeries; 8]
+    requires { ⌜ length (now series) ≤ 8 ⌝ }
+    ensures { λ r. ⌜ r ≡ filled (newSeries 0) (map newSeries (now (series .entry))) ⌝ }
+{
+    let mut all = [DaySeries {
+        series: 0,
+        published: 0,
+    }; 8];
+    let mut i: usize = 0;
+    while i < series.len() {
+        all[i] = DaySeries {
+            series: series[i],
+            published: 0,
+        };
+        i += 1;
+    }
+    all
+}
+
 impl Sender {
     // At most so many series are open.
     pub const MOST_SERIES: usize = 8;
@@ -124,6 +160,129 @@ impl Sender {
                     next: 0,
                 }; 8],
             },
+        }
+    }
+
+    // Where a series stands among the open ones: its first place.
+    pub(crate) fn find(self, series: u16) -> SeriesPlace
+        ensures { λ r. ⌜ Finds self series r ⌝ }
+    {
+        let day = self.day;
+        let mut i: usize = 0;
+        while i < 8 {
+            if i >= day.count {
+                return SeriesPlace::Unknown;
+            }
+            let one = day.series[i];
+            if one.series == series {
+                return SeriesPlace::At(i);
+            }
+            i += 1;
+        }
+        SeriesPlace::Unknown
+    }
+
+    // Opening: a trade date above the present one, if any, and the series; 11. It empties log and logins.
+    pub fn open(self, date: u32, series: &[u16]) -> OpenStep
+        ensures { λ r. ⌜ OpensDay self date (now (series .entry)) r ⌝ }
+    {
+        let day = self.day;
+        if wrong_series(series) {
+            return OpenStep {
+                end: self,
+                answer: Opened::Refused(Refusal::Opening),
+            };
+        }
+        let date = day.date;
+        if is_up_to(date, date) {
+            return OpenStep {
+                end: self,
+                answer: Opened::Refused(Refusal::Opening),
+            };
+        }
+        OpenStep {
+            end: Sender {
+                day: Day {
+                    date: TradeDate::At(date),
+                    count: series.len(),
+                    series: new_places(series),
+                    used: 0,
+                },
+                seat: Seat {
+                    places: [Place {
+                        login: false,
+                        next: 0,
+                    }; 8],
+                },
+            },
+            answer: Opened::Done,
+        }
+    }
+
+    // A refused Publish leaves the end.
+    fn not_published(self, refusal: Refusal) -> PublishStep
+        ensures { λ r. ⌜ r ≡ unpublished self refusal ⌝ }
+    {
+        PublishStep {
+            end: self,
+            answer: Published::Refused(refusal),
+        }
+    }
+
+    // Publish in a series found, of content that passed: 20, 18 and 21, then the entry behind the used part of the log.
+    fn publish_at(
+        self,
+        at: usize,
+        series: u16,
+        tid: u32,
+        content: &[u8],
+        log: &mut [u8],
+    ) -> PublishStep
+        requires { ⌜ (contentCheck tid Down (now content) 32768 ≡ Passed) × Finds self series (At at) ⌝ }
+        ensures { λ r. ⌜ Publishes self series tid (now (content .entry)) (now (log .entry)) r (now (log .exit)) ⌝ }
+    {
+        let mut day = self.day;
+        let seat = self.seat;
+        let one = day.series[at];
+        let size = 16 + content.len();
+        if log.len() < day.used {
+            return self.not_published(Refusal::DamagedLog);
+        }
+        if log.len() - day.used < size {
+            return self.not_published(Refusal::TooSmall);
+        }
+        if one.published >= Sender::MOST_MESSAGES {
+            return self.not_published(Refusal::DayFull);
+        }
+        let number = one.published + 1;
+        put_entry(log, day.used, series, tid, number, content);
+        day.series[at] = DaySeries {
+            series: series,
+            published: number,
+        };
+        day.used = day.used + size;
+        PublishStep {
+            end: Sender {
+                day: day,
+                seat: seat,
+            },
+            answer: Published::Number(number),
+        }
+    }
+
+    // Publish: series, TID and content; 7 to 10, 13, 20, 18 and 21. It writes the message's entry into the log.
+    pub fn publish(self, series: u16, tid: u32, content: &[u8], log: &mut [u8]) -> PublishStep
+        ensures { λ r. ⌜ Publishes self series tid (now (content .entry)) (now (log .entry)) r (now (log .exit)) ⌝ }
+    {
+        match check_content(tid, Direction::Down, content, Sender::MOST_CONTENT) {
+            Checked::Refused(r) => {
+                return self.not_published(r);
+            }
+            Checked::Passed => {}
+        }
+        match self.find(series) {
+            SeriesPlace::Unknown => self.not_published(Refusal::UnknownSeries),
+            SeriesPlace::At(at) => self.publish_at(at, series, tid, content, log),
         }
     }
 }

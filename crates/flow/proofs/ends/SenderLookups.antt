@@ -16,7 +16,8 @@ pub record Eight (e : Sender) : Type 0 where
   pub series : length (e .day .series) ≡ 8
   pub places : length (e .seat .places) ≡ 8
 
-abbrev numberIn : DaySeries → ℕ
+-- The number of a place of the day's array.
+abbrev pub numberIn : DaySeries → ℕ
 numberIn x = x .series
 
 module _ (e : Sender) (t : ℕ) (h : isServed e t ≡ true) where

@@ -1,0 +1,2 @@
+-- The log's entries, written.
+pub mod Entries

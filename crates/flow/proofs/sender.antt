@@ -1,0 +1,4 @@
+-- The serving end's calls: the laws that their proofs share.
+pub mod Lookups
+pub mod Opening
+pub mod Publishing
