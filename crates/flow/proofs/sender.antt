@@ -2,3 +2,4 @@
 pub mod Lookups
 pub mod Opening
 pub mod Publishing
+pub mod Sends

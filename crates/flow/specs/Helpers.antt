@@ -1,14 +1,28 @@
 -- Definitions of private contracts: what the calls' helpers promise each other. No call's promise names them.
-use Prim.Native.Nat.{ℕ, _<_}
+use Prim.Native.Nat.{ℕ, suc, _+_, _<_, _≤_}
 use mathlib.Core.Path.{_≡_}
-use mathlib.Core.Bool.{true, false}
+use mathlib.Core.List.{List}
+use mathlib.Core.Bool.{true, false, not}
+use mathlib.Core.Option.{Option, none, some}
+use lib.ListN.{length, getD, drop}
+use lib.Dec.{eqb}
+use Rattle.ftd.specs.Bytes.{part}
+use Rattle.ftd.specs.Fields.{shaped}
+use Rattle.ftd.specs.declared.refusal.Refusal.{Refusal}
 use Rattle.flow.specs.declared.series.SeriesPlace.{SeriesPlace}
 use Rattle.flow.specs.declared.series.SeriesPlace.the-variants.{Unknown, At}
-use Rattle.ftd.specs.declared.refusal.Refusal.{Refusal}
 use Rattle.flow.specs.declared.sender.Sender.{Sender}
 use Rattle.flow.specs.declared.sender.Published.the-variants.{Refused}
 use Rattle.flow.specs.declared.sender.PublishStep.{PublishStep}
-use Rattle.flow.specs.Ends.{indexOf, daySeries, isServed}
+use Rattle.flow.specs.declared.sender.Sent.{Sent}
+use Rattle.flow.specs.declared.sender.SendStep.{SendStep}
+use Rattle.flow.specs.declared.log.EntryPlace.{EntryPlace}
+use Rattle.flow.specs.declared.log.EntryPlace.the-variants.{Damaged}
+use Rattle.flow.specs.declared.log.EntryPlace.the-variants.{At as Lies}
+use Rattle.flow.specs.declared.log.EntryStep.{EntryStep}
+use Rattle.flow.specs.declared.log.EntryStep.the-variants.{Wrong, Wanted, Passed}
+use Rattle.flow.specs.Ends.{_when_else_, Wrote, mostContent, indexOf, daySeries, isServed}
+use Rattle.flow.specs.Log.{entrySeries, entryNumber, strangeSeries, nonzero, misshapen, isWanted}
 
 -- Where a series stands among the open ones.
 abbrev pub Finds : Sender → ℕ → SeriesPlace → Type 0
@@ -18,3 +32,35 @@ Finds e s (At i) = (isServed e s ≡ true) × (i ≡ indexOf s (daySeries e)) ×
 -- A refused Publish leaves the end.
 abbrev pub unpublished : Sender → Refusal → PublishStep
 unpublished e r = record { end = e; answer = Refused r }
+
+-- ─── The walk over the log ───
+
+-- An entry, with the last number of each place so far: a turn of `walk` (Log), which counts the series of the entries
+-- before it.
+unfoldable pub checked : Sender → List ℕ → ℕ → ℕ → List ℕ → EntryStep
+checked e last s k x =
+    Wrong when strangeSeries e x else
+    Wrong when nonzero x else
+    Wrong when not (eqb (entryNumber x) (suc (getD last (indexOf (entrySeries x) (daySeries e)) 0))) else
+    Wrong when misshapen x else
+    Wanted when isWanted s k x else
+    Passed (indexOf (entrySeries x) (daySeries e)) (entryNumber x)
+
+-- A place is one of the 8.
+abbrev pub PlaceInside : EntryStep → Type 0
+PlaceInside Wrong = Unit {0}
+PlaceInside Wanted = Unit {0}
+PlaceInside (Passed place number) = place < 8
+
+-- An entry that is looked for among the bytes, and where it lies, with content that 7 lets pass.
+abbrev pub EntryIn : Option (List ℕ) → List ℕ → EntryPlace → Type 0
+EntryIn o l Damaged = o ≡ none
+EntryIn o l (Lies start size) =
+    (o ≡ some (part l start size)) × (16 ≤ size) × (start + size ≤ length l)
+    × (shaped (drop 16 (part l start size)) mostContent ≡ true)
+
+-- ─── Send ───
+
+-- The end, the answer and the output are those that are meant.
+abbrev pub SendsAs : Wrote Sender Sent → SendStep → List ℕ → Type 0
+SendsAs meant r after = (r .end ≡ meant .end) × (r .answer ≡ meant .answer) × (after ≡ meant .bytes)

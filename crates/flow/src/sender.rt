@@ -1,25 +1,35 @@
 // The serving end (01, "The serving end"): its state by value, and what its calls answer.
-ghost use mathlib.Core.Path.{_≡_};
+ghost use mathlib.Core.Bool.{true};
 ghost use mathlib.Core.List.{map};
-ghost use Prim.Native.Nat.{_≤_};
-ghost use lib.ListN.{length};
+ghost use mathlib.Core.Option.{some};
+ghost use mathlib.Core.Path.{_≡_};
+ghost use Prim.Native.Nat.{_≤_, _<_};
+ghost use lib.ListN.{length, drop, set};
 ghost use Rattle.ftd.specs.Content.{contentCheck};
 ghost use Rattle.ftd.specs.declared.composition.Direction.the-variants.{Down};
 ghost use Rattle.ftd.specs.declared.items.Checked.the-variants.{Passed};
+ghost use Rattle.ftd.specs.Fields.{shaped};
 ghost use Rattle.flow.specs.declared.series.SeriesPlace.the-variants.{At};
-ghost use Rattle.flow.specs.Ends.{freshSender, senderLimits, filled, newSeries};
-ghost use Rattle.flow.specs.Helpers.{Finds, unpublished};
-ghost use Rattle.flow.specs.Promises.{OpensDay, Publishes};
+ghost use Rattle.flow.specs.Ends.{freshSender, senderLimits, filled, newSeries, mostContent, indexOf, sender, daySeries, isServed, placeOf};
+ghost use Rattle.flow.specs.Helpers.{Finds, unpublished, SendsAs};
+ghost use Rattle.flow.specs.Promises.{OpensDay, Publishes, Sends};
+ghost use Rattle.flow.specs.Serving.{sendEntry};
 use crate::days::is_up_to;
 use crate::limits::Limits;
+use crate::log::EntryPlace;
+use crate::log::find_entry;
 use crate::log::put_entry;
 use crate::series::SeriesPlace;
 use crate::series::wrong_series;
+use ftd::bytes::be32;
+use ftd::chain::Message;
+use ftd::chain::write_chain;
 use ftd::composition::Direction;
 use ftd::content::check_content;
 use ftd::items::Checked;
 use ftd::refusal::Refusal;
 use ftd::tags::TradeDate;
+use ftd::write::Written;
 
 // A series of the day, and how many messages were published in it.
 pub struct DaySeries {
@@ -193,8 +203,8 @@ impl Sender {
                 answer: Opened::Refused(Refusal::Opening),
             };
         }
-        let date = day.date;
-        if is_up_to(date, date) {
+        let present = day.date;
+        if is_up_to(date, present) {
             return OpenStep {
                 end: self,
                 answer: Opened::Refused(Refusal::Opening),
@@ -283,6 +293,102 @@ impl Sender {
         match self.find(series) {
             SeriesPlace::Unknown => self.not_published(Refusal::UnknownSeries),
             SeriesPlace::At(at) => self.publish_at(at, series, tid, content, log),
+        }
+    }
+
+    // Logged in at a place, with a number next.
+    fn with_next(self, i: usize, next: u64) -> Sender
+        requires { ⌜ i < 8 ⌝ }
+        ensures { λ r. ⌜ r ≡ sender (self .day .date) (self .day .count) (self .day .series) (self .day .used) (set (self .seat .places) i (record { login = true; next = next })) ⌝ }
+    {
+        let day = self.day;
+        let mut seat = self.seat;
+        seat.places[i] = Place {
+            login: true,
+            next: next,
+        };
+        Sender {
+            day: day,
+            seat: seat,
+        }
+    }
+
+    // An entry of the log, written as packets; the next one is next. 18 where the output lacks the bytes needed.
+    fn send_entry(self, i: usize, series: u16, number: u32, x: &[u8], out: &mut [u8]) -> SendStep
+        requires { ⌜ (i ≡ indexOf series (daySeries self)) × (i < 8) × (number ≡ placeOf self series .next) × (16 ≤ length (now x)) × (shaped (drop 16 (now x)) mostContent ≡ true) ⌝ }
+        ensures { λ r. ⌜ SendsAs (sendEntry self series (now (out .entry)) (some (now (x .entry)))) r (now (out .exit)) ⌝ }
+    {
+        let day = self.day;
+        let date = day.date;
+        let m = Message {
+            date: date,
+            tid: be32(x, 4),
+            series: series,
+            number: number,
+        };
+        match write_chain(m, &x[16..], out) {
+            Written::Bytes(n) => {
+                let next = (number as u64) + 1;
+                SendStep {
+                    end: self.with_next(i, next),
+                    answer: Sent::Wrote {
+                        number: number,
+                        len: n,
+                    },
+                }
+            }
+            _ => SendStep {
+                end: self,
+                answer: Sent::Refused(Refusal::TooSmall),
+            },
+        }
+    }
+
+    // Send in an open series: 14, none left, 20, and then the entry.
+    fn send_at(self, i: usize, series: u16, log: &[u8], out: &mut [u8]) -> SendStep
+        requires { ⌜ (isServed self series ≡ true) × (i ≡ indexOf series (daySeries self)) × (i < 8) ⌝ }
+        ensures { λ r. ⌜ Sends self series (now (log .entry)) (now (out .entry)) r (now (out .exit)) ⌝ }
+    {
+        let day = self.day;
+        let seat = self.seat;
+        let place = seat.places[i];
+        let one = day.series[i];
+        if place.login {
+            if (one.published as u64) < place.next {
+                return SendStep {
+                    end: self,
+                    answer: Sent::Drained,
+                };
+            }
+            let number = (place.next % 4294967296) as u32;
+            match find_entry(self, log, series, number) {
+                EntryPlace::Damaged => {
+                    return SendStep {
+                        end: self,
+                        answer: Sent::Refused(Refusal::DamagedLog),
+                    };
+                }
+                EntryPlace::At { start, size } => {
+                    return self.send_entry(i, series, number, &log[start..start + size], out);
+                }
+            }
+        }
+        SendStep {
+            end: self,
+            answer: Sent::Refused(Refusal::NotLoggedIn),
+        }
+    }
+
+    // Send: the next message of a series as packets, read off the log.
+    pub fn send(self, series: u16, log: &[u8], out: &mut [u8]) -> SendStep
+        ensures { λ r. ⌜ Sends self series (now (log .entry)) (now (out .entry)) r (now (out .exit)) ⌝ }
+    {
+        match self.find(series) {
+            SeriesPlace::Unknown => SendStep {
+                end: self,
+                answer: Sent::Refused(Refusal::UnknownSeries),
+            },
+            SeriesPlace::At(i) => self.send_at(i, series, log, out),
         }
     }
 }

@@ -21,14 +21,14 @@ abbrev pub numberIn : DaySeries → ℕ
 numberIn x = x .series
 
 module _ (e : Sender) (t : ℕ) (h : isServed e t ≡ true) where
-  served-index : indexOf t (daySeries e) < length (e .day .series)
+  pub served-index : indexOf t (daySeries e) < length (e .day .series)
   unfolding isServed daySeries
   served-index =
       let a = index-inside t (daySeries e) h in
       let b = numbers-few numberIn (e .day .count) (e .day .series) in
       omega arith
 
-  served-apart : (s : ℕ) → (s ≡ t → ⊥) → indexOf s (daySeries e) ≡ indexOf t (daySeries e) → ⊥
+  pub served-apart : (s : ℕ) → (s ≡ t → ⊥) → indexOf s (daySeries e) ≡ indexOf t (daySeries e) → ⊥
   unfolding isServed
   served-apart s n = index-differs s t (daySeries e) h n
 
