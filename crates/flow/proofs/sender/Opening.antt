@@ -27,9 +27,11 @@ module _ (e : Sender) (date : ℕ) (ss : List ℕ) (wrong : Bool) (w : wrong ≡
     pub opening-few : length ss ≤ 8
     unfolding wrongSeries
     opening-few =
-        let a = or-neither ((eqb (length ss) 0 || ltb 8 (length ss)) || member 0 ss) (not (differing ss)) (sym w ∙ right) in
-        let b = or-neither (eqb (length ss) 0 || ltb 8 (length ss)) (member 0 ss) (a .0) in
-        ltb-false 8 (length ss) (or-neither (eqb (length ss) 0) (ltb 8 (length ss)) (b .0) .1)
+        let none = eqb (length ss) 0 in
+        let many = ltb 8 (length ss) in
+        let a = or-neither ((none || many) || member 0 ss) (not (differing ss)) (sym w ∙ right) in
+        let b = or-neither (none || many) (member 0 ss) (a .0) in
+        ltb-false 8 (length ss) (or-neither none many (b .0) .1)
 
     module _ (late : Bool) (u : late ≡ upTo date (e .day .date)) where
       pub opening-late : late ≡ true → OpensDay e date ss (record { end = e; answer = Refused Opening })
@@ -37,6 +39,7 @@ module _ (e : Sender) (date : ℕ) (ss : List ℕ) (wrong : Bool) (w : wrong ≡
       opening-late t = rw (← w, right, ← u, t) (refl, (refl, refl))
 
       pub opening-done : late ≡ false → (all : List DaySeries) → all ≡ filled (newSeries 0) (map newSeries ss)
-          → OpensDay e date ss (record { end = sender (At date) (length ss) all 0 (replicate 8 noPlace); answer = Done })
+          → OpensDay e date ss
+          (record { end = sender (At date) (length ss) all 0 (replicate 8 noPlace); answer = Done })
       unfolding openDayOf
       opening-done t all f = rw (← w, right, ← u, t, f) (refl, (refl, refl))

@@ -54,8 +54,8 @@ module _ (e : Sender) (s tid : ℕ) (content log : List ℕ) where
   meets x q = rw q (refl, (refl, refl), refl)
 
   -- The content check refused.
-  pub publish-content : (r : Checked) (x : Refusal) (p : PublishStep) → r ≡ contentCheck tid Down content 32768 → r ≡ Refused x
-      → p ≡ unpublished e x → Publishes e s tid content log p log
+  pub publish-content : (r : Checked) (x : Refusal) (p : PublishStep) → r ≡ contentCheck tid Down content 32768
+      → r ≡ Refused x → p ≡ unpublished e x → Publishes e s tid content log p log
   publish-content r x p w h q = rw q (meets (refused x) (by-check ∙ ap (onCheck refused entered) (sym w ∙ h)))
 
   -- The content passed.
@@ -63,8 +63,8 @@ module _ (e : Sender) (s tid : ℕ) (content log : List ℕ) where
     passed : publishOf e s tid content log ≡ entered
     passed = by-check ∙ ap (onCheck refused entered) h
 
-    pub publish-unknown : (f : SeriesPlace) (p : PublishStep) → Finds e s f → f ≡ Unknown → p ≡ unpublished e UnknownSeries
-        → Publishes e s tid content log p log
+    pub publish-unknown : (f : SeriesPlace) (p : PublishStep) → Finds e s f → f ≡ Unknown
+        → p ≡ unpublished e UnknownSeries → Publishes e s tid content log p log
     publish-unknown f p g u q =
         let n : isServed e s ≡ false = rw u at g in
         rw q (meets (refused UnknownSeries) (passed ∙ rw n))
@@ -83,7 +83,8 @@ module _ (e : Sender) (s tid : ℕ) (content log : List ℕ) where
       pub publish-damaged : (p : PublishStep) → length log < e .day .used → p ≡ unpublished e DamagedLog
           → Publishes e s tid content log p log
       unfolding logShort
-      publish-damaged p a q = rw q (meets (refused DamagedLog) (passed ∙ rw (g .0, lt-ltb (length log) (e .day .used) a)))
+      publish-damaged p a q =
+          rw q (meets (refused DamagedLog) (passed ∙ rw (g .0, lt-ltb (length log) (e .day .used) a)))
 
       -- The log is not shorter than its used part.
       module _ (a : e .day .used ≤ length log) where
@@ -93,16 +94,20 @@ module _ (e : Sender) (s tid : ℕ) (content log : List ℕ) where
         pub publish-small : (p : PublishStep) → left < 16 + length content → p ≡ unpublished e TooSmall
             → Publishes e s tid content log p log
         unfolding logShort entryFits
-        publish-small p b q = rw q (meets (refused TooSmall) (passed ∙ rw (g .0, whole, lt-ltb left (16 + length content) b)))
+        publish-small p b q =
+            rw q (meets (refused TooSmall) (passed ∙ rw (g .0, whole, lt-ltb left (16 + length content) b)))
 
         -- The entry fits.
         module _ (b : 16 + length content ≤ left) where
           fits : ltb left (16 + length content) ≡ false
           fits = le-ltb left (16 + length content) b
 
-          pub publish-full : (p : PublishStep) → 1000000 ≤ published → p ≡ unpublished e DayFull → Publishes e s tid content log p log
+          pub publish-full : (p : PublishStep) → 1000000 ≤ published → p ≡ unpublished e DayFull
+              → Publishes e s tid content log p log
           unfolding logShort entryFits
-          publish-full p n q = rw q (meets (refused DayFull) (passed ∙ rw (g .0, whole, fits, published-is, le-leb 1000000 published n)))
+          publish-full p n q =
+              rw q
+              (meets (refused DayFull) (passed ∙ rw (g .0, whole, fits, published-is, le-leb 1000000 published n)))
 
           pub publish-done : (o : List ℕ) → published < 1000000
               → o ≡ put log (e .day .used) (entryBytes s tid (published + 1) content)

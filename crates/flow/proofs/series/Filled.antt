@@ -25,14 +25,14 @@ module _ {A : Type 0} (empty : A) (f : ℕ → A) where
       rw (suc-sub-suc n (length (map f (take i ss))), suc-sub-suc n (length (map f (take (suc i) ss))))
       (ap (λ (l : List A). f s ∷ l) (set-among n i ss (omega arith) (omega arith)))
 
-  pub filled-turn : (ss : List ℕ) (i : ℕ) (all : List A) → all ≡ filled empty (map f (take i ss)) → i < length ss → length ss ≤ 8
-      → set all i (f (getD ss i 0)) ≡ filled empty (map f (take (i + 1) ss))
+  pub filled-turn : (ss : List ℕ) (i : ℕ) (all : List A) → all ≡ filled empty (map f (take i ss)) → i < length ss
+      → length ss ≤ 8 → set all i (f (getD ss i 0)) ≡ filled empty (map f (take (i + 1) ss))
   filled-turn ss i all w inside few =
       let e : i + 1 ≡ suc i = omega arith in
       rw (w, e) (set-among 8 i ss inside few)
 
-  pub filled-end : (ss : List ℕ) (i : ℕ) (all : List A) → all ≡ filled empty (map f (take i ss)) → i ≤ length ss → length ss ≤ i
-      → all ≡ filled empty (map f ss)
+  pub filled-end : (ss : List ℕ) (i : ℕ) (all : List A) → all ≡ filled empty (map f (take i ss)) → i ≤ length ss
+      → length ss ≤ i → all ≡ filled empty (map f ss)
   filled-end ss i all w inside whole =
       let e : i ≡ length ss = omega arith in
       w ∙ rw (e, take-length ss)

@@ -17,7 +17,8 @@ unmapped X Y f l n e = sym (length-map l f) ∙ e
 module _ {A : Type 0} (f : A → ℕ) (s : ℕ) where
   -- None of the first i has it, and the next one has: this is its place.
   pub place-here : (l : List A) (n i : ℕ) (d : A) → i < n → i < length l
-      → member s (map f (take i l)) ≡ false → f (getD l i d) ≡ s → (member s (map f (take n l)) ≡ true) × (i ≡ indexOf s (map f (take n l)))
+      → member s (map f (take i l)) ≡ false → f (getD l i d) ≡ s
+      → (member s (map f (take n l)) ≡ true) × (i ≡ indexOf s (map f (take n l)))
   place-here [] n i d few inside h e = absurd (omega arith)
   place-here (x ∷ l) zero i d few inside h e = absurd (omega arith)
   place-here (x ∷ l) (suc n) zero d few inside h e = rw (eq-eqb (f x) s e) (refl, refl)

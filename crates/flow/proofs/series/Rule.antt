@@ -31,7 +31,8 @@ module _ (l : List ℕ) (i : ℕ) (whole : Bool) where
   pub member-here : (s : ℕ) → member s (drop i l) ≡ whole → i < length l → getD l i 0 ≡ s → true ≡ whole
   member-here s w h e = rw (from-here h, eq-eqb (getD l i 0) s e) at w
 
-  pub member-turn : (s : ℕ) → member s (drop i l) ≡ whole → i < length l → (getD l i 0 ≡ s → ⊥) → member s (drop (i + 1) l) ≡ whole
+  pub member-turn : (s : ℕ) → member s (drop i l) ≡ whole → i < length l → (getD l i 0 ≡ s → ⊥)
+      → member s (drop (i + 1) l) ≡ whole
   member-turn s w h n = rw (from-here h, ne-eqb (getD l i 0) s n) at w
 
   pub member-end : (s : ℕ) → member s (drop i l) ≡ whole → length l ≤ i → false ≡ whole
@@ -43,11 +44,13 @@ module _ (l : List ℕ) (i : ℕ) (whole : Bool) where
   against-zero w h e = rw (from-here h, eq-eqb (getD l i 0) 0 e) at w
 
   -- `r` is whether the series at the place i stands behind it again.
-  pub against-twice : (r : Bool) → against (drop i l) ≡ whole → i < length l → r ≡ member (getD l i 0) (drop (i + 1) l) → r ≡ true → true ≡ whole
-  against-twice r w h e t = sym (either (eqb (getD l i 0) 0 || member 0 (drop (i + 1) l))) ∙ (rw (from-here h, ← e, t) at w)
+  pub against-twice : (r : Bool) → against (drop i l) ≡ whole → i < length l → r ≡ member (getD l i 0) (drop (i + 1) l)
+      → r ≡ true → true ≡ whole
+  against-twice r w h e t =
+      sym (either (eqb (getD l i 0) 0 || member 0 (drop (i + 1) l))) ∙ (rw (from-here h, ← e, t) at w)
 
-  pub against-turn : (r : Bool) → against (drop i l) ≡ whole → i < length l → (getD l i 0 ≡ 0 → ⊥) → r ≡ member (getD l i 0) (drop (i + 1) l)
-      → r ≡ false → against (drop (i + 1) l) ≡ whole
+  pub against-turn : (r : Bool) → against (drop i l) ≡ whole → i < length l → (getD l i 0 ≡ 0 → ⊥)
+      → r ≡ member (getD l i 0) (drop (i + 1) l) → r ≡ false → against (drop (i + 1) l) ≡ whole
   against-turn r w h n e t = rw (from-here h, ne-eqb (getD l i 0) 0 n, ← e, t) at w
 
   pub against-end : against (drop i l) ≡ whole → length l ≤ i → false ≡ whole

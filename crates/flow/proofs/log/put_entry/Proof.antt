@@ -58,7 +58,8 @@ returns c =
     let a = s .args in
     let room : a .at ≤ length (a .log .now) = omega (arith, s .pre .0) in
     entry-put _ _ _ _ _ _ _ (a .at) (a .series) (a .tid) (a .number) (a .content .now) room (s .pre .1)
-    (p1 .put16 .ensures) (p2 .put162 .ensures) (p3 .put32 .ensures) (p4 .put322 .ensures) (p5 .put323 .ensures) (p6 .copy-at .ensures)
+    (p1 .put16 .ensures) (p2 .put162 .ensures) (p3 .put32 .ensures) (p4 .put322 .ensures)
+    (p5 .put323 .ensures) (p6 .copy-at .ensures)
 
 pub put-entry-spec : {M : Type 1} → statement M
 put-entry-spec =

@@ -4,7 +4,8 @@ use mathlib.Core.Path.{_≡_}
 use borrow.Author.Needs.{needs}
 use lib.ListN.{length, drop}
 use Rattle.flow.specs.Ends.{wrongSeries}
-use Rattle.flow.proofs.series.Rule.{against, wrong-none, wrong-many, wrong-else, against-zero, against-twice, against-turn, against-end}
+use Rattle.flow.proofs.series.Rule.{against, wrong-none, wrong-many, wrong-else}
+use Rattle.flow.proofs.series.Rule.{against-zero, against-twice, against-turn, against-end}
 use Rattle.flow.proofs.series.wrong_series.Statement.{statement}
 use Rattle.flow.proofs.series.wrong_series.Tie as tie
 
@@ -58,7 +59,8 @@ loop-again c =
     let l = c .before .before .before .before .before .before .loop in
     let s = c .before .before .before .before .before .before .before .before .before .before .args .series .now in
     let again = c .before .stands-from in
-    against-turn s (l .i) (wrongSeries s) (again .result) (l .inv) (search needs) (search needs) (again .ensures) (c .if4 .left)
+    let turn = against-turn s (l .i) (wrongSeries s) (again .result) (l .inv) (search needs) (search needs) in
+    turn (again .ensures) (c .if4 .left)
 
 returns-5 : tie.Need-returns-5 Inv-loop μ-loop
 returns-5 c = search (needs, against-end)

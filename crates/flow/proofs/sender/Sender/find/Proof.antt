@@ -40,9 +40,8 @@ returns-2 c =
     let start = c .before .before .before .before .before .before .before in
     let a = start .args in
     let h : length (a .self .day .series) ≡ 8 = eight (a .self) _ (start .good .0) .series in
-    let both =
-    place-here numberIn (a .series) (a .self .day .series) (a .self .day .count) (l .i) (newSeries 0) (search needs) (omega arith) (l .inv .1)
-    (search needs) in
+    let here = place-here numberIn (a .series) (a .self .day .series) (a .self .day .count) (l .i) (newSeries 0) in
+    let both = here (search needs) (omega arith) (l .inv .1) (search needs) in
     (both .0, both .1, search needs)
 
 add-i : tie.Need-add-i Inv-loop μ-loop

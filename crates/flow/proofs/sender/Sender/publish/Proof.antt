@@ -38,7 +38,8 @@ publish-at-requires c κs =
     let k = c .before .before in
     let find = k .before .before .find in
     let check = k .before .before .before .before .before .check-content in
-    (sym (check .ensures) ∙ k .before .before .before .enum-told .given .1, found-at _ _ _ _ (find .ensures) (k .at .given .1))
+    let passed = sym (check .ensures) ∙ k .before .before .before .enum-told .given .1 in
+    (passed, found-at _ _ _ _ (find .ensures) (k .at .given .1))
 
 returns-2 : tie.Need-returns-2
 returns-2 c =
