@@ -4,7 +4,7 @@ use mathlib.Core.Path.{_≡_}
 use mathlib.Core.List.{List}
 use mathlib.Core.Bool.{true, false, not}
 use mathlib.Core.Option.{Option, none, some}
-use lib.ListN.{length, getD, drop}
+use lib.ListN.{length, getD, drop, set}
 use lib.Dec.{eqb}
 use Rattle.ftd.specs.Bytes.{part}
 use Rattle.ftd.specs.Fields.{shaped}
@@ -21,7 +21,7 @@ use Rattle.flow.specs.declared.log.EntryPlace.the-variants.{Damaged}
 use Rattle.flow.specs.declared.log.EntryPlace.the-variants.{At as Lies}
 use Rattle.flow.specs.declared.log.EntryStep.{EntryStep}
 use Rattle.flow.specs.declared.log.EntryStep.the-variants.{Wrong, Wanted, Passed}
-use Rattle.flow.specs.Ends.{_when_else_, Wrote, mostContent, indexOf, daySeries, isServed}
+use Rattle.flow.specs.Ends.{_when_else_, Wrote, mostContent, indexOf, daySeries, isServed, sender}
 use Rattle.flow.specs.Log.{entrySeries, entryNumber, strangeSeries, nonzero, misshapen, isWanted}
 
 -- Where a series stands among the open ones.
@@ -32,6 +32,12 @@ Finds e s (At i) = (isServed e s ≡ true) × (i ≡ indexOf s (daySeries e)) ×
 -- A refused Publish leaves the end.
 abbrev pub unpublished : Sender → Refusal → PublishStep
 unpublished e r = record { end = e; answer = Refused r }
+
+-- The series at place i with a login, and a number next.
+abbrev pub nextAt : Sender → ℕ → ℕ → Sender
+nextAt e i next =
+    sender (e .day .date) (e .day .count) (e .day .series) (e .day .used)
+    (set (e .seat .places) i (record { login = true; next = next }))
 
 -- ─── The walk over the log ───
 

@@ -9,3 +9,4 @@ pub mod Agreement
 pub mod Bench
 pub mod Examples
 pub mod Helpers
+pub mod LoginHelpers

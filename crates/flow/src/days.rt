@@ -1,6 +1,6 @@
 // Trade dates (01: marks) compared.
 ghost use mathlib.Core.Path.{_≡_};
-ghost use Rattle.flow.specs.Ends.{upTo};
+ghost use Rattle.flow.specs.Ends.{before, upTo};
 use ftd::tags::TradeDate;
 
 // A trade date is at most as high as another one that is there.
@@ -17,5 +17,18 @@ pub(crate) fn is_up_to(date: u32, other: TradeDate) -> bool
             }
             return true;
         }
+    }
+}
+
+// Both are there, and the first is below the second.
+pub(crate) fn before(a: TradeDate, b: TradeDate) -> bool
+    ensures { λ r. ⌜ r ≡ before a b ⌝ }
+{
+    match a {
+        TradeDate::None => false,
+        TradeDate::At(d) => match b {
+            TradeDate::None => false,
+            TradeDate::At(e) => d < e,
+        },
     }
 }

@@ -6,7 +6,9 @@ ghost use Rattle.flow.specs.Examples.{Examples};
 pub mod limits; // the limits of both
 pub mod series; // series in a list
 mod days; // trade dates compared
+mod header; // tests on a login packet
 mod log; // the log of the serving end
+mod login; // the serving end's Login
 pub mod sender; // the serving end
 pub mod receiver; // the receiving end
 

@@ -11,14 +11,16 @@ ghost use Rattle.ftd.specs.declared.items.Checked.the-variants.{Passed};
 ghost use Rattle.ftd.specs.Fields.{shaped};
 ghost use Rattle.flow.specs.declared.series.SeriesPlace.the-variants.{At};
 ghost use Rattle.flow.specs.Ends.{freshSender, senderLimits, filled, newSeries, mostContent, indexOf, sender, daySeries, isServed, placeOf};
-ghost use Rattle.flow.specs.Helpers.{Finds, unpublished, SendsAs};
-ghost use Rattle.flow.specs.Promises.{OpensDay, Publishes, Sends};
+ghost use Rattle.flow.specs.Helpers.{Finds, unpublished, SendsAs, nextAt};
+ghost use Rattle.flow.specs.Promises.{OpensDay, Publishes, Sends, LogsIn};
 ghost use Rattle.flow.specs.Serving.{sendEntry};
 use crate::days::is_up_to;
+use crate::header::not_one_message;
 use crate::limits::Limits;
 use crate::log::EntryPlace;
 use crate::log::find_entry;
 use crate::log::put_entry;
+use crate::login::log_in;
 use crate::series::SeriesPlace;
 use crate::series::wrong_series;
 use ftd::bytes::be32;
@@ -27,6 +29,8 @@ use ftd::chain::write_chain;
 use ftd::composition::Direction;
 use ftd::content::check_content;
 use ftd::items::Checked;
+use ftd::packet::Packet;
+use ftd::packet::read_dated;
 use ftd::refusal::Refusal;
 use ftd::tags::TradeDate;
 use ftd::write::Written;
@@ -296,10 +300,10 @@ impl Sender {
         }
     }
 
-    // Logged in at a place, with a number next.
-    fn with_next(self, i: usize, next: u64) -> Sender
+    // The series at a place, logged in with a number next.
+    pub(crate) fn with_next(self, i: usize, next: u64) -> Sender
         requires { ⌜ i < 8 ⌝ }
-        ensures { λ r. ⌜ r ≡ sender (self .day .date) (self .day .count) (self .day .series) (self .day .used) (set (self .seat .places) i (record { login = true; next = next })) ⌝ }
+        ensures { λ r. ⌜ r ≡ nextAt self i next ⌝ }
     {
         let day = self.day;
         let mut seat = self.seat;
@@ -310,6 +314,48 @@ impl Sender {
         Sender {
             day: day,
             seat: seat,
+        }
+    }
+
+    // Login: a login packet, and the answer's content. The answer is written, or the call is refused.
+    pub fn login(self, series: u16, packet: &[u8], content: &[u8], out: &mut [u8]) -> LoginStep
+        ensures { λ r. ⌜ LogsIn self series (now (packet .entry)) (now (content .entry)) (now (out .entry)) r (now (out .exit)) ⌝ }
+    {
+        if not_one_message(packet) {
+            return LoginStep {
+                end: self,
+                answer: LoggedIn::Refused(Refusal::NotOnePacket),
+            };
+        }
+        let d = read_dated(packet);
+        let read = d.packet;
+        let date = d.date;
+        match read {
+            Packet::Message {
+                header,
+                extension: _,
+                content: asked,
+            } => {
+                let at = asked.start;
+                let n = asked.len;
+                log_in(
+                    self,
+                    series,
+                    header,
+                    date,
+                    &packet[at..at + n],
+                    content,
+                    out,
+                )
+            }
+            Packet::Refused(r) => LoginStep {
+                end: self,
+                answer: LoggedIn::Refused(r),
+            },
+            _ => LoginStep {
+                end: self,
+                answer: LoggedIn::Refused(Refusal::NotOnePacket),
+            },
         }
     }
 

@@ -1,5 +1,5 @@
 -- A series of the serving end by its place in the arrays: looked up and changed. Assumes nothing.
-use Prim.Native.Nat.{ℕ, _+_}
+use Prim.Native.Nat.{ℕ, _+_, _<_}
 use mathlib.Core.Path.{_≡_, ap}
 use mathlib.Core.List.{List}
 use mathlib.Core.Bool.{true}
@@ -27,6 +27,9 @@ eight e vs g =
 -- What `find` answered, where it is a place.
 pub found-at : (e : Sender) (s : ℕ) (f : SeriesPlace) (i : ℕ) → Finds e s f → f ≡ At i → Finds e s (At i)
 found-at e s f i g u = rw u at g
+
+pub found-inside : (e : Sender) (s : ℕ) (f : SeriesPlace) (i : ℕ) → Finds e s f → f ≡ At i → i < 8
+found-inside e s f i g u = found-at e s f i g u .2
 
 -- The place i is the one that `find` answers for the series s.
 module _ (e : Sender) (s i : ℕ) (at : i ≡ indexOf s (daySeries e)) where
