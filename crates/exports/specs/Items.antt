@@ -41,6 +41,7 @@ textNumbers from size =
       negative = 0;
     }
 
+-- Year, month and day of a Date.
 abbrev pub dayNumbers : ℕ → ℕ → ℕ → FtdItem
 dayNumbers y m d =
     record {
@@ -54,11 +55,13 @@ dayNumbers y m d =
       negative = 0;
     }
 
+-- A Date. Of an item that has a value it is never "no date".
 abbrev pub dateNumbers : DateValue → FtdItem
 dateNumbers NoDate = valueNumbers 1 0 0
 dateNumbers Unused = valueNumbers 9 0 0
 dateNumbers (Day y m d) = dayNumbers y m d
 
+-- What was read.
 abbrev pub itemNumbers : FieldItem → FtdItem
 itemNumbers NoItem = valueNumbers 0 0 0
 itemNumbers NoValue = valueNumbers 1 0 0
@@ -72,6 +75,7 @@ itemNumbers (Date d) = dateNumbers d
 
 -- ─── To be written: the same numbers; any other kind, and a number that the type cannot have, is no value ───
 
+-- A Char, a Word and an Int by number.
 unfoldable pub charFor : ℕ → FieldItem
 charFor x = cond (ltb x 256) (Char x) NoValue
 
@@ -81,6 +85,7 @@ wordFor x = cond (ltb x 65536) (Word x) NoValue
 unfoldable pub intFor : ℕ → FieldItem
 intFor x = cond (ltb x 4294967296) (Int x) NoValue
 
+-- The value that is to be written.
 unfoldable pub itemFor : FtdItem → FieldItem
 itemFor x =
     cond (eqb (x .kind) 0) NoItem

@@ -14,7 +14,7 @@ pub struct FtdDate {
 }
 
 // 1 where there is a trade date.
-pub fn dated(d: TradeDate) -> u8
+pub(crate) fn dated(d: TradeDate) -> u8
     ensures { λ r. ⌜ r ≡ datedFlag d ⌝ }
 {
     match d {
@@ -24,7 +24,7 @@ pub fn dated(d: TradeDate) -> u8
 }
 
 // The trade date; 0 where there is none.
-pub fn date(d: TradeDate) -> u32
+pub(crate) fn date(d: TradeDate) -> u32
     ensures { λ r. ⌜ r ≡ dateOf d ⌝ }
 {
     match d {

@@ -12,7 +12,7 @@ pub struct FtdWritten {
 }
 
 // A writer's answer.
-pub fn written(w: Written) -> FtdWritten
+pub(crate) fn written(w: Written) -> FtdWritten
     ensures { λ r. ⌜ r ≡ writtenNumbers w ⌝ }
 {
     match w {
