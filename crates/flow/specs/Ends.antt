@@ -10,6 +10,7 @@ use mathlib.Core.List.{List, [], _∷_, _++_, map}
 use mathlib.Core.Bool.{Bool, true, false, cond, not, _&&_, _||_}
 use lib.ListN.{length, getD, take, drop, set, replicate}
 use lib.Dec.{ltb, leb, eqb}
+use Rattle.ftd.specs.Fields.{mostContent, packetContent}
 use Rattle.ftd.specs.declared.tags.TradeDate.{TradeDate}
 use Rattle.ftd.specs.declared.tags.TradeDate.the-variants.{None, At}
 use Rattle.flow.specs.declared.limits.Limits.{Limits}
@@ -51,14 +52,6 @@ over bytes out = bytes ++ drop (length bytes) out
 
 abbrev pub mostSeries : ℕ
 mostSeries = 8
-
--- A message's content, and a series' part of the reassembly buffer.
-abbrev pub mostContent : ℕ
-mostContent = 32768
-
--- A packet's content, and so that of a login's answer.
-abbrev pub packetContent : ℕ
-packetContent = 4080
 
 -- The content given to Ask: with the start field of 12 bytes behind it, one packet holds it.
 abbrev pub requestContent : ℕ

@@ -7,7 +7,7 @@ use mathlib.Core.Option.{Option, none, some}
 use lib.ListN.{length, getD, drop, set}
 use lib.Dec.{eqb}
 use Rattle.ftd.specs.Bytes.{part}
-use Rattle.ftd.specs.Fields.{shaped}
+use Rattle.ftd.specs.Fields.{shaped, mostContent}
 use Rattle.ftd.specs.declared.refusal.Refusal.{Refusal}
 use Rattle.flow.specs.declared.series.SeriesPlace.{SeriesPlace}
 use Rattle.flow.specs.declared.series.SeriesPlace.the-variants.{Unknown, At}
@@ -21,7 +21,7 @@ use Rattle.flow.specs.declared.log.EntryPlace.the-variants.{Damaged}
 use Rattle.flow.specs.declared.log.EntryPlace.the-variants.{At as Lies}
 use Rattle.flow.specs.declared.log.EntryStep.{EntryStep}
 use Rattle.flow.specs.declared.log.EntryStep.the-variants.{Wrong, Wanted, Passed}
-use Rattle.flow.specs.Ends.{_when_else_, Wrote, mostContent, indexOf, daySeries, isServed, sender}
+use Rattle.flow.specs.Ends.{_when_else_, Wrote, indexOf, daySeries, isServed, sender}
 use Rattle.flow.specs.Log.{entrySeries, entryNumber, strangeSeries, nonzero, misshapen, isWanted}
 
 -- Where a series stands among the open ones.

@@ -6,7 +6,7 @@ use lib.ListN.{length, getD}
 use lib.Dec.{ltb, eqb}
 use Rattle.ftd.specs.Items.{wrongWidth, wrongItem}
 use Rattle.ftd.specs.Composition.{composed}
-use Rattle.ftd.specs.Fields.{countOf}
+use Rattle.ftd.specs.Fields.{countOf, packetContent}
 use Rattle.ftd.specs.Resume.{resumeFid}
 use Rattle.ftd.specs.Login.{loginTid, loginBytes}
 use Rattle.ftd.specs.declared.refusal.Refusal.the-variants.{FieldRun, FieldLength, Item, Composition, UnknownSeries, OtherDay, OutOfLine, TooSmall, WrongStart}
@@ -20,7 +20,7 @@ use Rattle.flow.specs.declared.sender.Sender.{Sender}
 use Rattle.flow.specs.declared.sender.LoggedIn.{LoggedIn}
 use Rattle.flow.specs.declared.sender.LoggedIn.the-variants.{Wrote as Answered}
 use Rattle.flow.specs.declared.sender.LoggedIn.the-variants.{Refused as NotIn}
-use Rattle.flow.specs.Ends.{_when_else_, Wrote, wrote, over, packetContent, before, newSeries}
+use Rattle.flow.specs.Ends.{_when_else_, Wrote, wrote, over, before, newSeries}
 use Rattle.flow.specs.Serving.{wrongRun, noLogin, notZero, startElsewhere}
 use Rattle.flow.specs.Helpers.{nextAt}
 

@@ -10,7 +10,7 @@ use Rattle.ftd.specs.Bytes.{part, put}
 use Rattle.ftd.specs.Packet.{span, datedOf, notOnePacket, noMessagePacket}
 use Rattle.ftd.specs.Items.{wrongWidth, wrongItem}
 use Rattle.ftd.specs.Composition.{composed}
-use Rattle.ftd.specs.Fields.{countOf}
+use Rattle.ftd.specs.Fields.{countOf, mostContent}
 use Rattle.ftd.specs.Resume.{resumeBytes, resumeFid}
 use Rattle.ftd.specs.declared.refusal.Refusal.{Refusal}
 use Rattle.ftd.specs.declared.refusal.Refusal.the-variants.{FieldRun, FieldLength, Item, Composition, Opening, NotOnePacket, UnknownSeries, NotLoggedIn, OtherDay, OutOfLine, BrokenChain, TooSmall}
@@ -39,7 +39,7 @@ use Rattle.flow.specs.declared.receiver.Origin.the-variants.{Packet as F
 use Rattle.flow.specs.declared.receiver.Received.{Received}
 use Rattle.flow.specs.declared.receiver.Received.the-variants.{Idle, Duplicate, Partial, Complete}
 use Rattle.flow.specs.declared.receiver.Received.the-variants.{Refused as NotTaken}
-use Rattle.flow.specs.Ends.{_when_else_, Left, Wrote, left, wrote, over, mostContent, mostMessages, mostSeries, requestContent, wrongSeries, filled, before, differs, newKept, noLive, loggedIn, holding, receiver, isOpen, keptOf, liveOf, withSeries, partStart, allParts}
+use Rattle.flow.specs.Ends.{_when_else_, Left, Wrote, left, wrote, over, mostMessages, mostSeries, requestContent, wrongSeries, filled, before, differs, newKept, noLive, loggedIn, holding, receiver, isOpen, keptOf, liveOf, withSeries, partStart, allParts}
 use Rattle.flow.specs.Serving.{wrongRun, noLogin, notZero}
 
 -- ─── Opening: the series, once ───

@@ -9,7 +9,7 @@ use lib.Dec.{ltb, leb, eqb}
 use Rattle.ftd.specs.Bytes.{part, put, joined}
 use Rattle.ftd.specs.Packet.{notOnePacket, noMessagePacket, datedOf}
 use Rattle.ftd.specs.Chain.{packetsOf}
-use Rattle.ftd.specs.Fields.{shaped, countOf}
+use Rattle.ftd.specs.Fields.{shaped, countOf, mostContent, packetContent}
 use Rattle.ftd.specs.Items.{wrongWidth, wrongItem}
 use Rattle.ftd.specs.Composition.{composed}
 use Rattle.ftd.specs.Resume.{resumeFid, resumeOf}
@@ -40,7 +40,7 @@ use Rattle.flow.specs.declared.sender.Sent.{Sent}
 use Rattle.flow.specs.declared.sender.Sent.the-variants.{Drained}
 use Rattle.flow.specs.declared.sender.Sent.the-variants.{Wrote as Message-sent}
 use Rattle.flow.specs.declared.sender.Sent.the-variants.{Refused as NotSent}
-use Rattle.flow.specs.Ends.{_when_else_, Left, Wrote, left, wrote, over, mostContent, packetContent, mostMessages, mostSeries, wrongSeries, filled, before, upTo, newSeries, noPlace, sender, isServed, publishedOf, placeOf, withEntry, withNext}
+use Rattle.flow.specs.Ends.{_when_else_, Left, Wrote, left, wrote, over, mostMessages, mostSeries, wrongSeries, filled, before, upTo, newSeries, noPlace, sender, isServed, publishedOf, placeOf, withEntry, withNext}
 use Rattle.flow.specs.Log.{entryBytes, entryTid, entryContent, logShort, entryFits, entryOf}
 
 -- ─── Opening: a trade date above the present one, if any, and the series ───

@@ -95,7 +95,7 @@ fn check_entry(e: Sender, x: &[u8], last: [u32; 8], s: u16, k: u32) -> EntryStep
                 return EntryStep::Wrong;
             }
             if follows(number, last[i]) {
-                if is_shaped(&x[16..], 32768) {
+                if is_shaped(&x[16..], Sender::MOST_CONTENT) {
                     if series == s {
                         if number == k {
                             return EntryStep::Wanted;

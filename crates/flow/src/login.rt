@@ -4,7 +4,7 @@ ghost use mathlib.Core.Path.{_≡_};
 ghost use Prim.Native.Nat.{_<_, _≤_};
 ghost use lib.ListN.{length};
 ghost use Rattle.ftd.specs.Login.{loginBytes};
-ghost use Rattle.ftd.specs.Fields.{shaped};
+ghost use Rattle.ftd.specs.Fields.{shaped, packetContent};
 ghost use Rattle.flow.specs.Ends.{wrote, before};
 ghost use Rattle.flow.specs.Serving.{startElsewhere, wanted, loginWith};
 ghost use Rattle.flow.specs.LoginHelpers.{wrongLogin, loginContents, loginLine, startOutside, loginAnswer};
@@ -138,7 +138,7 @@ fn wrong_start(published: u32, next: u32) -> bool
 
 // The bytes that the answer takes.
 fn answer_size(date: TradeDate, content: &[u8]) -> usize
-    requires { ⌜ length (now content) ≤ 4080 ⌝ }
+    requires { ⌜ length (now content) ≤ packetContent ⌝ }
     ensures { λ r. ⌜ r ≡ length (loginBytes date (now (content .entry))) ⌝ }
 {
     match date {
@@ -149,7 +149,7 @@ fn answer_size(date: TradeDate, content: &[u8]) -> usize
 
 // Refusals 18 and 19; else the answer is written, and the series at a place has the number next.
 fn answer_login(e: Sender, i: usize, next: u32, content: &[u8], out: &mut [u8]) -> LoginStep
-    requires { ⌜ (i < 8) × (shaped (now content) 4080 ≡ true) ⌝ }
+    requires { ⌜ (i < 8) × (shaped (now content) packetContent ≡ true) ⌝ }
     ensures { λ r. ⌜ wrote (r .end) (r .answer) (now (out .exit)) ≡ loginAnswer e i next (now (content .entry)) (now (out .entry)) ⌝ }
 {
     let day = e.day;

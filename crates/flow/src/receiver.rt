@@ -92,7 +92,7 @@ impl Receiver {
     // No number is above it.
     pub const MOST_MESSAGES: u32 = 1000000;
     // The reassembly buffer has so many bytes for each series: a message's content.
-    pub const PART: usize = 32768;
+    pub const PART: usize = ftd::fields::MOST_CONTENT;
     // At most so many bytes of the request's content: with the start field behind it, one packet holds it.
     pub const REQUEST_CONTENT: usize = 4068;
 

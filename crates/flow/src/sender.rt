@@ -8,9 +8,9 @@ ghost use lib.ListN.{length, drop, set};
 ghost use Rattle.ftd.specs.Content.{contentCheck};
 ghost use Rattle.ftd.specs.declared.composition.Direction.the-variants.{Down};
 ghost use Rattle.ftd.specs.declared.items.Checked.the-variants.{Passed};
-ghost use Rattle.ftd.specs.Fields.{shaped};
+ghost use Rattle.ftd.specs.Fields.{shaped, mostContent};
 ghost use Rattle.flow.specs.declared.series.SeriesPlace.the-variants.{At};
-ghost use Rattle.flow.specs.Ends.{freshSender, senderLimits, filled, newSeries, mostContent, indexOf, sender, daySeries, isServed, placeOf};
+ghost use Rattle.flow.specs.Ends.{freshSender, senderLimits, filled, newSeries, indexOf, sender, daySeries, isServed, placeOf};
 ghost use Rattle.flow.specs.Helpers.{Finds, unpublished, SendsAs, nextAt};
 ghost use Rattle.flow.specs.Promises.{OpensDay, Publishes, Sends, LogsIn};
 ghost use Rattle.flow.specs.Serving.{sendEntry};
@@ -138,9 +138,9 @@ impl Sender {
     // At most so many messages a series and day.
     pub const MOST_MESSAGES: u32 = 1000000;
     // At most so many content bytes a message.
-    pub const MOST_CONTENT: usize = 32768;
+    pub const MOST_CONTENT: usize = ftd::fields::MOST_CONTENT;
     // At most so many bytes of the answer's content: one packet holds it.
-    pub const ANSWER_CONTENT: usize = 4080;
+    pub const ANSWER_CONTENT: usize = ftd::fields::PACKET_CONTENT;
 
     // The limits, as a promise.
     pub fn limits() -> Limits
@@ -252,7 +252,7 @@ impl Sender {
         content: &[u8],
         log: &mut [u8],
     ) -> PublishStep
-        requires { ⌜ (contentCheck tid Down (now content) 32768 ≡ Passed) × Finds self series (At at) ⌝ }
+        requires { ⌜ (contentCheck tid Down (now content) mostContent ≡ Passed) × Finds self series (At at) ⌝ }
         ensures { λ r. ⌜ Publishes self series tid (now (content .entry)) (now (log .entry)) r (now (log .exit)) ⌝ }
     {
         let mut day = self.day;

@@ -8,6 +8,7 @@ use mathlib.Core.Bool.{true, false, not, _&&_, _||_}
 use borrow.Author.Tests.{ltb-false, leb-true, leb-false, eqb-true, not-true, not-false}
 use lib.ListN.{length}
 use lib.Dec.{ltb, leb, eqb}
+use Rattle.ftd.specs.Fields.{mostContent}
 use Rattle.ftd.specs.Bytes.{part, put}
 use Rattle.ftd.specs.Packet.{kindOf, bodyLength, headMissing, restMissing, longExtension, wrongBody, isSkipped, brokenTag, isLink, wrongVersion, wrongLetter, wrongContentLength, wrongFields, span, acceptedOf, messageOf, wholeOf, readOf, withDate, datedOf, notOnePacket}
 use Rattle.ftd.specs.Refusal.{numberOf}
@@ -27,7 +28,7 @@ use Rattle.flow.specs.declared.receiver.Origin.the-variants.{Packet as F
 use Rattle.flow.specs.declared.receiver.Received.{Received}
 use Rattle.flow.specs.declared.receiver.Received.the-variants.{Idle, Duplicate, Partial, Complete}
 use Rattle.flow.specs.declared.receiver.Received.the-variants.{Refused as NotTaken}
-use Rattle.flow.specs.Ends.{Wrote, wrote, mostContent, mostMessages, differs, loggedIn, holding, isOpen, keptOf, liveOf, partStart, allParts}
+use Rattle.flow.specs.Ends.{Wrote, wrote, mostMessages, differs, loggedIn, holding, isOpen, keptOf, liveOf, partStart, allParts}
 use Rattle.flow.specs.Receiving.{outOfLine, brokenChain, bufferShort, chainLong, advance, dropped, nextPiece, receiveWith, receiveRead, receiveOf}
 use Rattle.flow.proofs.common.Rows.{by-when}
 use Rattle.flow.proofs.common.Bools.{or-neither, and-both}

@@ -12,7 +12,7 @@ use lib.Dec.{ltb, leb, eqb}
 use Rattle.ftd.specs.Login.{loginTid, loginBytes}
 use Rattle.ftd.specs.Bytes.{part, put}
 use Rattle.ftd.specs.Packet.{datedOf, notOnePacket, noMessagePacket}
-use Rattle.ftd.specs.Fields.{shaped, countOf}
+use Rattle.ftd.specs.Fields.{shaped, countOf, mostContent, packetContent}
 use Rattle.ftd.specs.Items.{wrongWidth, wrongItem}
 use Rattle.ftd.specs.Composition.{composed}
 use Rattle.ftd.specs.Resume.{resumeOf, resumeFid}
@@ -38,7 +38,7 @@ use Rattle.flow.specs.declared.sender.Sent.{Sent}
 use Rattle.flow.specs.declared.sender.Sent.the-variants.{Drained}
 use Rattle.flow.specs.declared.sender.Sent.the-variants.{Wrote as Message-sent}
 use Rattle.flow.specs.declared.sender.Sent.the-variants.{Refused as NotSent}
-use Rattle.flow.specs.Ends.{Left, Wrote, left, wrote, over, mostContent, packetContent, mostMessages, wrongSeries, before, upTo, isServed, publishedOf, placeOf, withEntry, withNext}
+use Rattle.flow.specs.Ends.{Left, Wrote, left, wrote, over, mostMessages, wrongSeries, before, upTo, isServed, publishedOf, placeOf, withEntry, withNext}
 use Rattle.flow.specs.Log.{entryBytes, logShort, entryFits, entryOf}
 use Rattle.flow.specs.Serving.{wrongDayOpening, wrongRun, noLogin, notZero, startElsewhere, startOf, wrongStart, openDayOf, publishOf, loginWith, loginRead, loginOf, noneLeft, sendBytes, sendEntry, sendOf}
 use Rattle.flow.proofs.common.Bools.{or-neither}

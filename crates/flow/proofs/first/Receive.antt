@@ -10,12 +10,12 @@ use lib.ListN.{length, getElem?}
 use lib.Dec.{eqb}
 use Rattle.ftd.specs.Packet.{datedOf}
 use Rattle.ftd.specs.Chain.{packetsOf, piecesOf}
-use Rattle.ftd.specs.Fields.{shaped}
+use Rattle.ftd.specs.Fields.{shaped, mostContent}
 use Rattle.ftd.specs.declared.tags.TradeDate.{TradeDate}
 use Rattle.ftd.specs.declared.tags.TradeDate.the-variants.{None, At}
 use Rattle.flow.specs.declared.receiver.Receiver.{Receiver}
 use Rattle.flow.specs.declared.receiver.Received.{Received}
-use Rattle.flow.specs.Ends.{Wrote, dayOf, mostContent, liveOf}
+use Rattle.flow.specs.Ends.{Wrote, dayOf, liveOf}
 use Rattle.flow.specs.Answers.{Message, receivedSaid, messageIn, reportIn}
 use Rattle.flow.specs.Receiving.{receiveOf}
 use Rattle.flow.specs.World.{came, borne, InSeries, Dated, dated, latestOf, other, seriesIn, ReceiverSide, afterReceive}

@@ -12,7 +12,7 @@ use lib.Seq.{take-take, getD-set-same, getD-set-other}
 use lib.Dec.{eqb}
 use Rattle.ftd.specs.Bytes.{part}
 use Rattle.ftd.specs.Runs.{front, Run, runOf}
-use Rattle.ftd.specs.Fields.{shaped}
+use Rattle.ftd.specs.Fields.{shaped, mostContent}
 use Rattle.ftd.proofs.Lists.{drop-part}
 use Rattle.ftd.proofs.runs.Laws.{run-over, run-next, entry-inside, entry-head, entry-length}
 use Rattle.flow.specs.declared.sender.Sender.{Sender}
@@ -20,7 +20,7 @@ use Rattle.flow.specs.declared.log.EntryPlace.{EntryPlace}
 use Rattle.flow.specs.declared.log.EntryPlace.the-variants.{Damaged, At}
 use Rattle.flow.specs.declared.log.EntryStep.{EntryStep}
 use Rattle.flow.specs.declared.log.EntryStep.the-variants.{Wrong, Wanted, Passed}
-use Rattle.flow.specs.Ends.{_when_else_, mostContent, indexOf, daySeries, isServed}
+use Rattle.flow.specs.Ends.{_when_else_, indexOf, daySeries, isServed}
 use Rattle.flow.specs.Log.{entry, entrySeries, entryNumber, times, nonzero, misnumbered, misshapen, isWanted, walk, logShort, entriesOf, entryOf}
 use Rattle.flow.specs.Helpers.{checked, PlaceInside, EntryIn}
 use Rattle.flow.proofs.log.Heads.{part-size}

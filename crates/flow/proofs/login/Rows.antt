@@ -5,7 +5,7 @@ use native.Mathlib.Omega.{arith}
 use mathlib.Core.Path.{_≡_, refl, sym, _∙_}
 use mathlib.Core.List.{List}
 use mathlib.Core.Bool.{Bool, true, false, cond, not, _||_}
-use Rattle.ftd.specs.Fields.{shaped}
+use Rattle.ftd.specs.Fields.{shaped, packetContent}
 use Rattle.ftd.specs.Items.{wrongWidth, wrongItem}
 use Rattle.ftd.specs.Resume.{resumeOf}
 use Rattle.ftd.specs.declared.refusal.Refusal.{Refusal}
@@ -20,7 +20,7 @@ use Rattle.flow.specs.declared.series.SeriesPlace.the-variants.{Unknown,
 use Rattle.flow.specs.declared.sender.Sender.{Sender}
 use Rattle.flow.specs.declared.sender.LoggedIn.{LoggedIn}
 use Rattle.flow.specs.declared.sender.LoggedIn.the-variants.{Refused as NotIn}
-use Rattle.flow.specs.Ends.{_when_else_, Wrote, wrote, packetContent, before, indexOf, daySeries, isServed, publishedOf, withNext}
+use Rattle.flow.specs.Ends.{_when_else_, Wrote, wrote, before, indexOf, daySeries, isServed, publishedOf, withNext}
 use Rattle.flow.specs.Serving.{wrongRun, notZero, startElsewhere, wanted, startOf, loginWith}
 use Rattle.flow.specs.Helpers.{Finds}
 use Rattle.flow.specs.LoginHelpers.{wrongLogin, loginContents, loginLine, loginAnswer}

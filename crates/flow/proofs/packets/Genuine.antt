@@ -6,7 +6,7 @@ use mathlib.Core.Bool.{true}
 use mathlib.Core.Option.{some}
 use lib.ListN.{getElem?}
 use Rattle.ftd.specs.Chain.{packetsOf}
-use Rattle.ftd.specs.Fields.{shaped}
+use Rattle.ftd.specs.Fields.{shaped, mostContent}
 use Rattle.ftd.specs.declared.tags.TradeDate.the-variants.{At}
 use Rattle.ftd.specs.declared.chain.Message.{Message as Headed}
 use Rattle.flow.specs.Answers.{Message}
@@ -14,7 +14,7 @@ use Rattle.flow.specs.World.{InSeries, Dated, SenderSide}
 use Rattle.flow.specs.Agreement.{of}
 use Rattle.flow.proofs.common.Histories.{of-append}
 use Rattle.flow.proofs.common.Extends.{place-append, Extends}
-use Rattle.flow.specs.Ends.{mostContent, mostMessages}
+use Rattle.flow.specs.Ends.{mostMessages}
 
 -- A message of series s with TID t and number k, of day d.
 abbrev pub headed : ℕ → ℕ → ℕ → ℕ → Headed

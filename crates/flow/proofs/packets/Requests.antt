@@ -10,7 +10,7 @@ use lib.ListN.{length, drop}
 use lib.Seq.{take-append-seam}
 use lib.Dec.{T, ltb, eqb}
 use Rattle.ftd.specs.Login.{loginTid, loginHeader, loginBytes}
-use Rattle.ftd.specs.Fields.{shaped, countOf}
+use Rattle.ftd.specs.Fields.{shaped, countOf, packetContent}
 use Rattle.ftd.specs.Items.{wrongWidth, wrongItem}
 use Rattle.ftd.specs.Composition.{composed}
 use Rattle.ftd.specs.Resume.{resumeOf, resumeBytes, resumeFid}
@@ -28,7 +28,7 @@ use Rattle.flow.specs.declared.receiver.Receiver.{Receiver}
 use Rattle.flow.specs.declared.receiver.Requested.{Requested}
 use Rattle.flow.specs.declared.receiver.Requested.the-variants.{Wrote as Asked}
 use Rattle.flow.specs.declared.receiver.Requested.the-variants.{Refused as NotAsked}
-use Rattle.flow.specs.Ends.{_when_else_, Wrote, wrote, over, packetContent, before, isServed, withNext, isOpen, keptOf}
+use Rattle.flow.specs.Ends.{_when_else_, Wrote, wrote, over, before, isServed, withNext, isOpen, keptOf}
 use Rattle.flow.specs.Answers.{isTaken, written, requestedSaid}
 use Rattle.flow.specs.Serving.{wrongRun, startOf, wrongStart, loginWith, loginOf}
 use Rattle.flow.specs.Receiving.{nextWanted, requestOf, requestBytes, requestLoginOf}

@@ -3,6 +3,7 @@ use Prim.Native.Nat.{ℕ, _≤_}
 use mathlib.Core.Path.{_≡_, refl}
 use mathlib.Core.List.{List}
 use mathlib.Core.Bool.{true}
+use Rattle.ftd.specs.Fields.{mostContent}
 use Rattle.ftd.specs.Bytes.{part}
 use Rattle.ftd.specs.declared.tags.TradeDate.{TradeDate}
 use Rattle.ftd.specs.declared.packet.Span.{Span}
@@ -10,7 +11,7 @@ use Rattle.ftd.specs.declared.packet.Header.{Header}
 use Rattle.flow.specs.declared.receiver.LiveSeries.{LiveSeries}
 use Rattle.flow.specs.declared.receiver.Receiver.{Receiver}
 use Rattle.flow.specs.declared.receiver.Received.{Received}
-use Rattle.flow.specs.Ends.{Wrote, mostContent, isOpen, keptOf, liveOf, loggedIn, holding, withSeries, partStart}
+use Rattle.flow.specs.Ends.{Wrote, isOpen, keptOf, liveOf, loggedIn, holding, withSeries, partStart}
 use Rattle.flow.proofs.ends.ReceiverLookups.{Eight, with-changed}
 use Rattle.flow.proofs.calls.Receive.{Took, unknown, not-in, refuses, repeats, hands-single, holds-first, holds-middle, hands-last}
 use Rattle.flow.proofs.pieces.Buffers.{part-untouched}

@@ -6,9 +6,8 @@ use mathlib.Core.Bool.{true}
 use mathlib.Core.Option.{some}
 use lib.ListN.{length, getElem?}
 use Rattle.ftd.specs.Chain.{piecesOf, packetsOf}
-use Rattle.ftd.specs.Fields.{shaped}
+use Rattle.ftd.specs.Fields.{shaped, mostContent}
 use Rattle.flow.specs.declared.receiver.Receiver.{Receiver}
-use Rattle.flow.specs.Ends.{mostContent}
 use Rattle.flow.specs.World.{InSeries, Previous, came, other}
 use Rattle.flow.proofs.common.Extends.{place-append}
 use Rattle.flow.proofs.packets.Genuine.{headed}

@@ -10,7 +10,7 @@ use lib.Dec.{eqb}
 use Rattle.ftd.specs.Bytes.{part}
 use Rattle.ftd.specs.Packet.{datedOf}
 use Rattle.ftd.specs.Chain.{piecesOf, chainAt, headerFor, packetsOf}
-use Rattle.ftd.specs.Fields.{shaped}
+use Rattle.ftd.specs.Fields.{shaped, mostContent}
 use Rattle.ftd.specs.Chain.Laws.{pieceAtPlace}
 use Rattle.ftd.specs.Chain.Laws.{packetAtPlace as packetAt}
 use Rattle.ftd.proofs.chain.Laws.{chain-laws}
@@ -30,7 +30,7 @@ use Rattle.flow.proofs.pieces.Completes.{Wants, took-opens, took-comple
 use Rattle.flow.proofs.packets.Genuine.{headed}
 use Rattle.flow.proofs.common.Extends.{place-inside, place-getD}
 use Rattle.flow.proofs.pieces.Others.{Elsewhere, took-elsewhere}
-use Rattle.flow.specs.Ends.{keptOf, mostContent}
+use Rattle.flow.specs.Ends.{keptOf}
 use Rattle.flow.proofs.common.Days.{day-same}
 
 -- p is packet j of the message of series s, TID t, number k and day d with content c.

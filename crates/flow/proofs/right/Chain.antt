@@ -8,14 +8,14 @@ use mathlib.Core.Bool.{true, false}
 use mathlib.Core.Option.{some}
 use lib.ListN.{length, getElem?}
 use Rattle.ftd.specs.Bytes.{part}
-use Rattle.ftd.specs.Fields.{shaped}
+use Rattle.ftd.specs.Fields.{shaped, mostContent}
 use Rattle.ftd.proofs.chain.Pieces.{shaped-facts}
 use Rattle.ftd.specs.declared.tags.TradeDate.{TradeDate}
 use Rattle.ftd.specs.declared.tags.TradeDate.the-variants.{At}
 use Rattle.flow.specs.declared.receiver.KeptSeries.{KeptSeries}
 use Rattle.flow.specs.declared.receiver.LiveSeries.{LiveSeries}
 use Rattle.flow.specs.declared.receiver.Receiver.{Receiver}
-use Rattle.flow.specs.Ends.{mostContent, keptOf, liveOf, partStart}
+use Rattle.flow.specs.Ends.{keptOf, liveOf, partStart}
 use Rattle.flow.specs.Answers.{Message}
 use Rattle.flow.specs.World.{Dated}
 use Rattle.flow.specs.Agreement.{of}

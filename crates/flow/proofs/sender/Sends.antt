@@ -14,7 +14,7 @@ use lib.ListN.{length, getD, take, drop, set, length-take, length-drop}
 use lib.Dec.{ltb}
 use Rattle.ftd.specs.Bytes.{be32Of, part, joined}
 use Rattle.ftd.specs.Chain.{packetsOf, chainVerdict}
-use Rattle.ftd.specs.Fields.{shaped}
+use Rattle.ftd.specs.Fields.{shaped, mostContent}
 use Rattle.ftd.specs.Write.{Verdict, fine, writtenAnswer, writtenOutput}
 use Rattle.ftd.proofs.write.Written.{the-type}
 use Rattle.ftd.specs.declared.chain.Message.{Message}
@@ -29,7 +29,7 @@ use Rattle.flow.specs.declared.sender.Sent.the-variants.{Drained}
 use Rattle.flow.specs.declared.sender.Sent.the-variants.{Wrote as Message-sent}
 use Rattle.flow.specs.declared.sender.Sent.the-variants.{Refused as NotSent}
 use Rattle.flow.specs.Answers.{sentSaid}
-use Rattle.flow.specs.Ends.{Wrote, wrote, over, mostContent, indexOf, newSeries, noPlace, sender, daySeries, isServed, publishedOf, placeOf, withNext}
+use Rattle.flow.specs.Ends.{Wrote, wrote, over, indexOf, newSeries, noPlace, sender, daySeries, isServed, publishedOf, placeOf, withNext}
 use Rattle.flow.specs.Log.{entryOf}
 use Rattle.flow.specs.Serving.{noneLeft, sendBytes, sendEntry, sendOf}
 use Rattle.flow.specs.Promises.{Sends}

@@ -11,14 +11,14 @@ use Rattle.ftd.specs.Resume.{resumeFid}
 use Rattle.ftd.specs.Login.{loginTid, loginBytes}
 use Rattle.ftd.specs.Bytes.{part}
 use Rattle.ftd.specs.Packet.{datedOf}
-use Rattle.ftd.specs.Fields.{shaped, countOf}
+use Rattle.ftd.specs.Fields.{shaped, countOf, packetContent}
 use Rattle.ftd.specs.Items.{wrongWidth, wrongItem}
 use Rattle.ftd.specs.Composition.{composed}
 use Rattle.ftd.specs.declared.composition.Direction.the-variants.{Up, Down}
 use Rattle.ftd.specs.declared.packet.Header.{Header}
 use Rattle.ftd.specs.declared.tags.TradeDate.{TradeDate}
 use Rattle.ftd.specs.declared.tags.TradeDate.the-variants.{At}
-use Rattle.flow.specs.Ends.{packetContent, upTo}
+use Rattle.flow.specs.Ends.{upTo}
 use Rattle.flow.specs.Serving.{noLogin}
 use Rattle.flow.specs.World.{InSeries, inSeries, SenderSide, start, run}
 use Rattle.flow.proofs.common.Bools.{or-neither}

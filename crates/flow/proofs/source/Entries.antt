@@ -8,12 +8,12 @@ use mathlib.Core.Option.{some}
 use lib.ListN.{length, getElem?}
 use Rattle.ftd.specs.Runs.{Run}
 use Rattle.ftd.specs.Chain.{packetsOf}
-use Rattle.ftd.specs.Fields.{shaped}
+use Rattle.ftd.specs.Fields.{shaped, mostContent}
 use Rattle.ftd.proofs.chain.Laws.{chain-laws}
 use Rattle.ftd.specs.declared.tags.TradeDate.{TradeDate}
 use Rattle.ftd.specs.declared.tags.TradeDate.the-variants.{None, At}
 use Rattle.flow.specs.declared.sender.Sender.{Sender}
-use Rattle.flow.specs.Ends.{mostContent, member, daySeries, isServed, publishedOf, placeOf}
+use Rattle.flow.specs.Ends.{member, daySeries, isServed, publishedOf, placeOf}
 use Rattle.flow.specs.Log.{entryBytes, entryOf}
 use Rattle.flow.specs.Serving.{sendBytes}
 use Rattle.flow.specs.Answers.{Message}

@@ -8,11 +8,11 @@ use mathlib.Core.Option.{some}
 use borrow.Author.Tests.{eqb-true, eq-eqb, ne-eqb}
 use lib.ListN.{length, getElem?}
 use lib.Dec.{eqb}
-use Rattle.ftd.specs.Fields.{shaped}
+use Rattle.ftd.specs.Fields.{shaped, mostContent}
 use Rattle.ftd.specs.declared.tags.TradeDate.{TradeDate}
 use Rattle.ftd.specs.declared.tags.TradeDate.the-variants.{None, At}
 use Rattle.flow.specs.declared.sender.Sender.{Sender}
-use Rattle.flow.specs.Ends.{isDay, isServed, mostContent}
+use Rattle.flow.specs.Ends.{isDay, isServed}
 use Rattle.flow.specs.Log.{entryBytes, times}
 use Rattle.flow.specs.Answers.{Message}
 use Rattle.flow.specs.World.{Dated, dated}
