@@ -1,5 +1,6 @@
-// Compares the listings of captures with what they should be. Each file is a run of records: length of the capture in four bytes,
-// length of the text in four, the capture, the text. A line for each file: name, number of records, number of those that differ.
+// Compares the listings of captures with what they should be. Each file is a run of records: length of the capture in
+// four bytes, length of the text in four, the capture, the text. A line for each file: name, number of records, number
+// of those that differ.
 ghost use mathlib.Core.Bool.{true};
 ghost use mathlib.Core.Path.{_≡_};
 ghost use Prim.Native.Nat.{_≤_};
@@ -72,7 +73,8 @@ fn read_part(n: usize) -> usize
     if n < 65536 { n } else { 65536 }
 }
 
-// Reads a record and compares it. What the capture has behind the part that the lister reads goes to the text's buffer and is dropped.
+// Reads a record and compares it. What the capture has behind the part that the lister reads goes to the text's buffer
+// and is dropped.
 fn next_record(fd: i32, capture: &mut [u8], text: &mut [u8]) -> Record {
     let mut head = [0u8; 8];
     let got = io::read_full(fd, &mut head);

@@ -4,7 +4,8 @@ ghost use Rattle.ftd.specs.Mode.{modeOf};
 ghost use Rattle.ftd.specs.Item.{itemValueOf, itemFits, itemWritten};
 ghost use Rattle.ftd.specs.Write.{writtenAnswer, writtenOutput, fitVerdict};
 ghost use Rattle.exports.specs.Numbers.{flag, writtenNumbers};
-ghost use Rattle.exports.specs.Items.{valueNumbers, textNumbers, dayNumbers, dateNumbers, itemNumbers, charFor, wordFor, intFor, itemFor, modeNumber};
+ghost use Rattle.exports.specs.Items.{valueNumbers, textNumbers, dayNumbers, dateNumbers, itemNumbers, charFor};
+ghost use Rattle.exports.specs.Items.{wordFor, intFor, itemFor, modeNumber};
 use crate::written::FtdWritten;
 use crate::written::written;
 use ftd::dates::Date;
@@ -228,7 +229,11 @@ pub extern "C" fn ftd_write_item(
     text: &[u8],
     out: &mut [u8],
 ) -> FtdWritten
-    ensures { λ r. ⌜ (r ≡ writtenNumbers (writtenAnswer (fitVerdict (itemFits fid i (itemFor value) (now (text .entry)))) (itemWritten fid i (itemFor value) (now (text .entry))) (now (out .entry)))) × (now (out .exit) ≡ writtenOutput (fitVerdict (itemFits fid i (itemFor value) (now (text .entry)))) (itemWritten fid i (itemFor value) (now (text .entry))) (now (out .entry))) ⌝ }
+    ensures { λ r. ⌜ (r ≡ writtenNumbers
+        (writtenAnswer (fitVerdict (itemFits fid i (itemFor value) (now (text .entry))))
+        (itemWritten fid i (itemFor value) (now (text .entry))) (now (out .entry))))
+        × (now (out .exit) ≡ writtenOutput (fitVerdict (itemFits fid i (itemFor value) (now (text .entry))))
+        (itemWritten fid i (itemFor value) (now (text .entry))) (now (out .entry))) ⌝ }
 {
     written(write_item(fid, i, item_for(value), text, out))
 }

@@ -6,7 +6,9 @@ ghost use Rattle.ftd.specs.Packet.{datedOf, fieldOf, saidIn};
 ghost use Rattle.ftd.specs.Content.{contentCheck};
 ghost use Rattle.ftd.specs.Write.{writtenAnswer, writtenOutput, packetBytes, plainVerdict};
 ghost use Rattle.ftd.specs.Chain.{packetsOf, sizeAnswer, chainVerdict};
-ghost use Rattle.exports.specs.Numbers.{plainNumbers, linkNumbers, skippedNumbers, messageNumbers, packetNumbers, datedNumbers, fieldNumbers, stepOf, directionFor, verdictNumber, dateFor, messageFor, sizeNumbers, writtenNumbers};
+ghost use Rattle.exports.specs.Numbers.{plainNumbers, linkNumbers, skippedNumbers, messageNumbers, packetNumbers};
+ghost use Rattle.exports.specs.Numbers.{datedNumbers, fieldNumbers, stepOf, directionFor, verdictNumber, dateFor};
+ghost use Rattle.exports.specs.Numbers.{messageFor, sizeNumbers, writtenNumbers};
 use crate::tags::date;
 use crate::tags::dated;
 use crate::written::FtdWritten;
@@ -326,8 +328,11 @@ pub extern "C" fn ftd_size(m: FtdMessage, content: &[u8]) -> FtdSize
 // All packets of a message, one behind the other; refused, the output is as it was.
 #[no_mangle]
 pub extern "C" fn ftd_write(m: FtdMessage, content: &[u8], out: &mut [u8]) -> FtdWritten
-    ensures answer { λ r. ⌜ r ≡ writtenNumbers (writtenAnswer (chainVerdict (now (content .entry))) (joined (packetsOf (messageFor m) (now (content .entry)))) (now (out .entry))) ⌝ }
-    ensures output { λ _. ⌜ now (out .exit) ≡ writtenOutput (chainVerdict (now (content .entry))) (joined (packetsOf (messageFor m) (now (content .entry)))) (now (out .entry)) ⌝ }
+    ensures answer { λ r. ⌜ r ≡ writtenNumbers
+        (writtenAnswer (chainVerdict (now (content .entry)))
+        (joined (packetsOf (messageFor m) (now (content .entry)))) (now (out .entry))) ⌝ }
+    ensures output { λ _. ⌜ now (out .exit) ≡ writtenOutput (chainVerdict (now (content .entry)))
+        (joined (packetsOf (messageFor m) (now (content .entry)))) (now (out .entry)) ⌝ }
 {
     written(write_chain(message_for(m), content, out))
 }
@@ -340,7 +345,11 @@ pub extern "C" fn ftd_write_plain(
     body: &[u8],
     out: &mut [u8],
 ) -> FtdWritten
-    ensures { λ r. ⌜ (r ≡ writtenNumbers (writtenAnswer (plainVerdict kind (now (extension .entry)) (now (body .entry))) (packetBytes kind (now (extension .entry)) (now (body .entry))) (now (out .entry)))) × (now (out .exit) ≡ writtenOutput (plainVerdict kind (now (extension .entry)) (now (body .entry))) (packetBytes kind (now (extension .entry)) (now (body .entry))) (now (out .entry))) ⌝ }
+    ensures { λ r. ⌜ (r ≡ writtenNumbers
+        (writtenAnswer (plainVerdict kind (now (extension .entry)) (now (body .entry)))
+        (packetBytes kind (now (extension .entry)) (now (body .entry))) (now (out .entry))))
+        × (now (out .exit) ≡ writtenOutput (plainVerdict kind (now (extension .entry)) (now (body .entry)))
+        (packetBytes kind (now (extension .entry)) (now (body .entry))) (now (out .entry))) ⌝ }
 {
     written(write_plain(kind, extension, body, out))
 }

@@ -13,7 +13,8 @@ use Rattle.flow.proofs.source.Sources.{run-source}
 
 has-packets : (log buffer : List ℕ) (es : List Event) (i : ℕ) (m : InSeries (List (List ℕ))) →
     getElem? (run (start log buffer) es .serving .messages) i ≡ some m → 0 < length (m .what)
-has-packets log buffer es i m q = let g = run-source log buffer es .genuine i m q in rw (g .packets) (chain-laws .as-many _ _ .1)
+has-packets log buffer es i m q =
+    let g = run-source log buffer es .genuine i m q in rw (g .packets) (chain-laws .as-many _ _ .1)
 
 pub agreement : Agreement
 agreement =

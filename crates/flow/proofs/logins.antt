@@ -1,5 +1,6 @@
--- Layer "logins": a login's start is at most last + 1 of the end that hears its answer; from there what is sent is start, start + 1, ... Stated of any
--- serving end, of a receiving end in any state, and of a login packet that it asked for at any time before (`Request`).
+-- Layer "logins": a login's start is at most last + 1 of the end that hears its answer; from there what is sent is
+-- start, start + 1, ... Stated of any serving end, of a receiving end in any state, and of a login packet that it asked
+-- for at any time before (`Request`).
 pub mod Taken
 pub mod Timely
 pub mod Consistent
@@ -35,17 +36,30 @@ pub record LoginStarts : Type 0 where
   pub asked : (r : Receiver) (s : ℕ) (c out : List ℕ) → (keptOf r s .date ≡ None → keptOf r s .last ≡ 0) →
       let a = requestLoginOf r s c out in
       Every (Request r) (written (a .bytes) (requestedSaid (a .answer)))
-  pub kept : (o : TradeDate) (c : Bool) (r : Receiver) → Eight r → (r′ : Receiver) (ms : List Message) (ks : List ℕ) → Turn o c r r′ ms ks → (p : List ℕ) → Request r p → Request r′ p
+  pub kept : (o : TradeDate) (c : Bool) (r : Receiver) → Eight r → (r′ : Receiver) (ms : List Message) (ks : List ℕ)
+      → Turn o c r r′ ms ks → (p : List ℕ) → Request r p → Request r′ p
   -- A login that takes it on day d: the series is open at the end that asked, and the start is reached there,
-  pub opens : (e : Sender) (d : ℕ) → e .day .date ≡ At d → (r : Receiver) (p : List ℕ) → Request r p → (s : ℕ) (content out : List ℕ) (h : Header) (x body : Span)
-      → datedOf p .packet ≡ Accepted h x body → LoginTests e s h (datedOf p .date) (part p (body .start) (body .len)) content out → isOpen r s ≡ true
-  pub reached : (e : Sender) (d : ℕ) → e .day .date ≡ At d → (r : Receiver) (p : List ℕ) → Request r p → (s : ℕ) (content out : List ℕ) (h : Header) (x body : Span)
-      → datedOf p .packet ≡ Accepted h x body → LoginTests e s h (datedOf p .date) (part p (body .start) (body .len)) content out
+  pub opens : (e : Sender) (d : ℕ) → e .day .date ≡ At d → (r : Receiver) (p : List ℕ) → Request r p
+      → (s : ℕ) (content out : List ℕ) (h : Header) (x body : Span)
+      → datedOf p .packet ≡ Accepted h x body
+      → LoginTests e s h (datedOf p .date) (part p (body .start) (body .len)) content out → isOpen r s ≡ true
+  pub reached : (e : Sender) (d : ℕ) → e .day .date ≡ At d → (r : Receiver) (p : List ℕ) → Request r p
+      → (s : ℕ) (content out : List ℕ) (h : Header) (x body : Span)
+      → datedOf p .packet ≡ Accepted h x body
+      → LoginTests e s h (datedOf p .date) (part p (body .start) (body .len)) content out
       → Reached d (startOf e (datedOf p .date) (resumeOf (part p (body .start) (body .len)))) (dayOf r s) (lastOf r s)
   -- stays reached, and is at most last + 1 whenever day d is kept.
-  pub onward : (d k : ℕ) (date : TradeDate) (last : ℕ) (after : TradeDate) (n : ℕ) → Onward date last after n → Reached d k date last → Reached d k after n
+  pub onward : (d k : ℕ) (date : TradeDate) (last : ℕ) (after : TradeDate) (n : ℕ) → Onward date last after n
+      → Reached d k date last → Reached d k after n
   pub within : (d k : ℕ) (date : TradeDate) (last : ℕ) → date ≡ At d → Reached d k date last → k ≤ suc last
 
 pub login-starts : LoginStarts
 login-starts =
-    record { asked = asked-request; kept = request-onward; opens = taken-opens; reached = taken-reached; onward = reached-onward; within = reached-here }
+    record {
+      asked = asked-request;
+      kept = request-onward;
+      opens = taken-opens;
+      reached = taken-reached;
+      onward = reached-onward;
+      within = reached-here;
+    }

@@ -1,5 +1,6 @@
--- Layer "pieces in runs": what Receive makes of packet j of a message, of an end in any state and with any buffer, if a chain that the packet goes
--- on with holds the pieces before it (`Before`). By the line's rule it does (`Run`, `Behind`); a count of the pieces would do instead.
+-- Layer "pieces in runs": what Receive makes of packet j of a message, of an end in any state and with any buffer, if a
+-- chain that the packet goes on with holds the pieces before it (`Before`). By the line's rule it does (`Run`,
+-- `Behind`); a count of the pieces would do instead.
 pub mod Buffers
 pub mod Pieces
 pub mod Chained
@@ -22,25 +23,41 @@ use Rattle.flow.proofs.pieces.Chained.{Chain-open, Holding}
 use Rattle.flow.proofs.pieces.Outcomes.{Delivered}
 use Rattle.flow.proofs.pieces.Completes.{Wants}
 use Rattle.flow.proofs.pieces.Others.{Elsewhere}
-use Rattle.flow.proofs.pieces.Takes.{PacketAt, Before, take-holds, take-opens, take-delivers, take-completes, take-elsewhere}
+use Rattle.flow.proofs.pieces.Takes.{PacketAt, Before, take-holds, take-opens, take-delivers, take-completes}
+use Rattle.flow.proofs.pieces.Takes.{take-elsewhere}
 
 pub record PieceLaws : Type 0 where
   -- One piece more is held, if a chain is there at all.
-  pub holds : {s t k d : ℕ} {c : List ℕ} {j : ℕ} {p : List ℕ} → PacketAt s t k d c j p → (e : Receiver) → Eight e → (buffer : List ℕ) → Before e buffer s t k d c j
+  pub holds : {s t k d : ℕ} {c : List ℕ} {j : ℕ} {p : List ℕ} → PacketAt s t k d c j p → (e : Receiver) → Eight e
+      → (buffer : List ℕ) → Before e buffer s t k d c j
       → Holding (receiveOf e p buffer .end) (receiveOf e p buffer .bytes) s t k d c (suc j)
   -- No trade date moves; last may be reported; or the message is handed on, whole, as number last + 1 of the kept day.
-  pub delivers : {s t k d : ℕ} {c : List ℕ} {j : ℕ} {p : List ℕ} → PacketAt s t k d c j p → (e : Receiver) → Eight e → (buffer : List ℕ) → Before e buffer s t k d c j →
+  pub delivers : {s t k d : ℕ} {c : List ℕ} {j : ℕ} {p : List ℕ} → PacketAt s t k d c j p → (e : Receiver) → Eight e
+      → (buffer : List ℕ) → Before e buffer s t k d c j →
       let r = receiveOf e p buffer in
-      Delivered e s d k (record { tid = t; content = c }) (r .end) (messageIn (receivedSaid p (r .bytes) (r .answer))) (reportIn (receivedSaid p (r .bytes) (r .answer)))
+      Delivered e s d k (record { tid = t; content = c }) (r .end) (messageIn (receivedSaid p (r .bytes) (r .answer)))
+      (reportIn (receivedSaid p (r .bytes) (r .answer)))
   -- Where the end wants the message, each packet but the last leaves a chain, and the last one hands it on.
-  pub opens : {s t k d : ℕ} {c : List ℕ} {j : ℕ} {p : List ℕ} → PacketAt s t k d c j p → (e : Receiver) → Eight e → (buffer : List ℕ) → Before e buffer s t k d c j
-      → suc j < length (piecesOf c) → Wants (receiveOf e p buffer .end) (receiveOf e p buffer .bytes) s k d → Chain-open (receiveOf e p buffer .end) s
-  pub completes : {s t k d : ℕ} {c : List ℕ} {j : ℕ} {p : List ℕ} → PacketAt s t k d c j p → (e : Receiver) → Eight e → (buffer : List ℕ) → Before e buffer s t k d c j →
+  pub opens : {s t k d : ℕ} {c : List ℕ} {j : ℕ} {p : List ℕ} → PacketAt s t k d c j p → (e : Receiver) → Eight e
+      → (buffer : List ℕ) → Before e buffer s t k d c j
+      → suc j < length (piecesOf c) → Wants (receiveOf e p buffer .end) (receiveOf e p buffer .bytes) s k d
+      → Chain-open (receiveOf e p buffer .end) s
+  pub completes : {s t k d : ℕ} {c : List ℕ} {j : ℕ} {p : List ℕ} → PacketAt s t k d c j p → (e : Receiver) → Eight e
+      → (buffer : List ℕ) → Before e buffer s t k d c j →
       let r = receiveOf e p buffer in
-      j + 1 ≡ length (packetsOf (headed s t k d) c) → Wants e buffer s k d → messageIn (receivedSaid p (r .bytes) (r .answer)) ≡ record { tid = t; content = c } ∷ []
+      j + 1 ≡ length (packetsOf (headed s t k d) c) → Wants e buffer s k d
+      → messageIn (receivedSaid p (r .bytes) (r .answer)) ≡ record { tid = t; content = c } ∷ []
   -- Of every other series nothing changes.
-  pub elsewhere : {s t k d : ℕ} {c : List ℕ} {j : ℕ} {p : List ℕ} → PacketAt s t k d c j p → (e : Receiver) → Eight e → (buffer : List ℕ) (u : ℕ) → (u ≡ s → ⊥)
+  pub elsewhere : {s t k d : ℕ} {c : List ℕ} {j : ℕ} {p : List ℕ} → PacketAt s t k d c j p → (e : Receiver) → Eight e
+      → (buffer : List ℕ) (u : ℕ) → (u ≡ s → ⊥)
       → Elsewhere e buffer (receiveOf e p buffer .end) (receiveOf e p buffer .bytes) u
 
 pub piece-laws : PieceLaws
-piece-laws = record { holds = take-holds; delivers = take-delivers; opens = take-opens; completes = take-completes; elsewhere = take-elsewhere }
+piece-laws =
+    record {
+      holds = take-holds;
+      delivers = take-delivers;
+      opens = take-opens;
+      completes = take-completes;
+      elsewhere = take-elsewhere;
+    }

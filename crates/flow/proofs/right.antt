@@ -1,6 +1,7 @@
--- Layer "right for a source": of trade date, last, chain, handed on and reported of each series against published lists (`EndRight`): handed on is the first
--- `last` published, a chain held is the first pieces of message last + 1. A predicate of these alone, not of how they came about; kept by every
--- call of an end in any state that is handed genuine packets.
+-- Layer "right for a source": of trade date, last, chain, handed on and reported of each series against published lists
+-- (`EndRight`): handed on is the first `last` published, a chain held is the first pieces of message last + 1. A
+-- predicate of these alone, not of how they came about; kept by every call of an end in any state that is handed
+-- genuine packets.
 pub mod Right
 pub mod Chain
 pub mod Kept
@@ -22,25 +23,41 @@ use Rattle.flow.proofs.pieces.Pieces.{firstPieces}
 use Rattle.flow.proofs.pieces.Chained.{Chain-open}
 use Rattle.flow.proofs.pieces.Completes.{Wants}
 use Rattle.flow.proofs.pieces.Takes.{PacketAt}
-use Rattle.flow.proofs.right.End.{EndRight, fresh-right, grown-right, open-right, connect-right, confirm-right, receive-right}
+use Rattle.flow.proofs.right.End.{EndRight, fresh-right, grown-right, open-right, connect-right, confirm-right}
+use Rattle.flow.proofs.right.End.{receive-right}
 
 pub record RightLaws : Type 0 where
   pub fresh : (buffer : List ℕ) → EndRight [] [] [] freshReceiver buffer
   -- More is published.
-  pub grows : (P H : List (Dated Message)) (R : List (Dated ℕ)) (e : Receiver) (buffer : List ℕ) → EndRight P H R e buffer → (Q : List (Dated Message)) → EndRight (P ++ Q) H R e buffer
-  pub opens : (P H : List (Dated Message)) (R : List (Dated ℕ)) (e : Receiver) (buffer : List ℕ) → EndRight P H R e buffer → (ss : List ℕ) → EndRight P H R (openEndOf e ss .end) buffer
-  pub connects : (P H : List (Dated Message)) (R : List (Dated ℕ)) (e : Receiver) (buffer : List ℕ) → EndRight P H R e buffer → EndRight P H R (connectOf e) buffer
+  pub grows : (P H : List (Dated Message)) (R : List (Dated ℕ)) (e : Receiver) (buffer : List ℕ)
+      → EndRight P H R e buffer → (Q : List (Dated Message)) → EndRight (P ++ Q) H R e buffer
+  pub opens : (P H : List (Dated Message)) (R : List (Dated ℕ)) (e : Receiver) (buffer : List ℕ)
+      → EndRight P H R e buffer → (ss : List ℕ) → EndRight P H R (openEndOf e ss .end) buffer
+  pub connects : (P H : List (Dated Message)) (R : List (Dated ℕ)) (e : Receiver) (buffer : List ℕ)
+      → EndRight P H R e buffer → EndRight P H R (connectOf e) buffer
   -- Answer, of any bytes: its report is of the day that is kept behind it.
-  pub confirms : (P H : List (Dated Message)) (R : List (Dated ℕ)) (e : Receiver) (buffer : List ℕ) → EndRight P H R e buffer → Eight e → (s : ℕ) (p : List ℕ) →
+  pub confirms : (P H : List (Dated Message)) (R : List (Dated ℕ)) (e : Receiver) (buffer : List ℕ)
+      → EndRight P H R e buffer → Eight e → (s : ℕ) (p : List ℕ) →
       let r = confirmLoginOf e s p in
       EndRight P H (R ++ map (dated s (dayOf (r .end) s)) (reportIn (confirmedSaid (r .answer)))) (r .end) buffer
-  -- Receive of packet j of the message x, published at a place of day d, if a chain that it goes on with has as many bytes as the pieces before it.
-  pub receives : (P H : List (Dated Message)) (R : List (Dated ℕ)) (e : Receiver) (buffer : List ℕ) → EndRight P H R e buffer → Eight e → (s d place : ℕ) (x : Message) (j : ℕ) (p : List ℕ)
+  -- Receive of packet j of the message x, published at a place of day d, if a chain that it goes on with has as many
+  -- bytes as the pieces before it.
+  pub receives : (P H : List (Dated Message)) (R : List (Dated ℕ)) (e : Receiver) (buffer : List ℕ)
+      → EndRight P H R e buffer → Eight e → (s d place : ℕ) (x : Message) (j : ℕ) (p : List ℕ)
       → getElem? (of s d P) place ≡ some x → PacketAt s (x .tid) (suc place) d (x .content) j p
-      → (0 < j → Chain-open e s → liveOf e s .held ≡ length (firstPieces (x .content) j)) → (0 < j → Wants e buffer s (suc place) d → Chain-open e s) →
+      → (0 < j → Chain-open e s → liveOf e s .held ≡ length (firstPieces (x .content) j))
+      → (0 < j → Wants e buffer s (suc place) d → Chain-open e s) →
       let r = receiveOf e p buffer in
       EndRight P (H ++ map (dated s (At d)) (messageIn (receivedSaid p (r .bytes) (r .answer))))
       (R ++ map (dated s (dayOf e s)) (reportIn (receivedSaid p (r .bytes) (r .answer)))) (r .end) (r .bytes)
 
 pub right-laws : RightLaws
-right-laws = record { fresh = fresh-right; grows = grown-right; opens = open-right; connects = connect-right; confirms = confirm-right; receives = receive-right }
+right-laws =
+    record {
+      fresh = fresh-right;
+      grows = grown-right;
+      opens = open-right;
+      connects = connect-right;
+      confirms = confirm-right;
+      receives = receive-right;
+    }

@@ -1,5 +1,5 @@
--- The second half over the world: since a login, its answer and then start, start + 1, .. are sent, each is taken when it is delivered, and they reach
--- the published count.
+-- The second half over the world: since a login, its answer and then start, start + 1, .. are sent, each is taken when
+-- it is delivered, and they reach the published count.
 pub mod SentFrom
 pub mod SentSince
 pub mod Sending

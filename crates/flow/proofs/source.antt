@@ -1,6 +1,7 @@
--- Layer "the source": what was published under a day, series and number is one message for ever, and every packet that a Send writes is that
--- message's packet by place, whoever sends and however often. Stated over the calls of a serving end in any state that they keep (`Source`),
--- of any packet and any bytes; nothing is said of a line or of who receives.
+-- Layer "the source": what was published under a day, series and number is one message for ever, and every packet that
+-- a Send writes is that message's packet by place, whoever sends and however often. Stated over the calls of a serving
+-- end in any state that they keep (`Source`), of any packet and any bytes; nothing is said of a line or of who
+-- receives.
 pub mod Logs
 pub mod Moves
 pub mod Growth
@@ -43,26 +44,35 @@ use Rattle.flow.proofs.source.Sources.{Source, move-source, freshSide, 
 pub record SourceLaws : Type 0 where
   -- Each call is a move: nothing, or what the call does that was taken (`Move`). In any state, of any arguments.
   pub open-moves : (v : SenderSide) (date : ℕ) (ss : List ℕ) → Move v (afterOpen v date (openDayOf (v .end) date ss))
-  pub publish-moves : (v : SenderSide) (s tid : ℕ) (content : List ℕ) → Move v (afterPublish v s tid content (publishOf (v .end) s tid content (v .log)))
-  pub login-moves : (v : SenderSide) (s : ℕ) (p content out : List ℕ) → Move v (afterLogin v s (loginOf (v .end) s p content out))
+  pub publish-moves : (v : SenderSide) (s tid : ℕ) (content : List ℕ)
+      → Move v (afterPublish v s tid content (publishOf (v .end) s tid content (v .log)))
+  pub login-moves : (v : SenderSide) (s : ℕ) (p content out : List ℕ)
+      → Move v (afterLogin v s (loginOf (v .end) s p content out))
   pub send-moves : (v : SenderSide) (s : ℕ) (out : List ℕ) → Move v (afterSend v s (sendOf (v .end) s (v .log) out))
-  -- A fresh end is a source, with any log; every move keeps it one. Its log is sound, its counts are those of the publications.
+  -- A fresh end is a source, with any log; every move keeps it one. Its log is sound, its counts are those of the
+  -- publications.
   pub fresh : (log : List ℕ) → Source (freshSide log)
   pub kept : (v u : SenderSide) → Move v u → Source v → Source u
   -- Number i + 1 of a day and series is one message for ever.
-  pub for-ever : (v u : SenderSide) → Move v u → (s d i : ℕ) (x : Message) → getElem? (of s d (v .published)) i ≡ some x → getElem? (of s d (u .published)) i ≡ some x
+  pub for-ever : (v u : SenderSide) → Move v u → (s d i : ℕ) (x : Message) → getElem? (of s d (v .published)) i ≡ some x
+      → getElem? (of s d (u .published)) i ≡ some x
   -- Days only rise; a day that is over stays over and gets nothing more.
   pub rises : (v u : SenderSide) → Move v u → Source v → Upto (v .day) (u .day)
   pub over : (d : ℕ) (v u : SenderSide) → Move v u → Source v → Over d v → Over d u
   pub closed : (d s : ℕ) (v u : SenderSide) → Move v u → Over d v → of s d (u .published) ≡ of s d (v .published)
-  -- Each message that was sent is the packets of a published one, by day and number; each answer is of a day up to the present one.
+  -- Each message that was sent is the packets of a published one, by day and number; each answer is of a day up to the
+  -- present one.
   pub genuine : (v : SenderSide) → Source v → AllGenuine v
   pub answers : (v : SenderSide) → Source v → GenuineAnswers v
-  -- Send finds in the log what was published; it never answers 20, and none exactly if all published ones have been stepped over.
-  pub finds : (v : SenderSide) → Source v → (s : ℕ) → Seated (v .end) s → placeOf (v .end) s .next ≤ publishedOf (v .end) s → NextEntry (v .end) (v .log) (v .day) (v .published) s
-  pub undamaged : (v : SenderSide) → Source v → (s : ℕ) (out : List ℕ) → sendOf (v .end) s (v .log) out .answer ≡ NotSent DamagedLog → ⊥
+  -- Send finds in the log what was published; it never answers 20, and none exactly if all published ones have been
+  -- stepped over.
+  pub finds : (v : SenderSide) → Source v → (s : ℕ) → Seated (v .end) s
+      → placeOf (v .end) s .next ≤ publishedOf (v .end) s → NextEntry (v .end) (v .log) (v .day) (v .published) s
+  pub undamaged : (v : SenderSide) → Source v → (s : ℕ) (out : List ℕ)
+      → sendOf (v .end) s (v .log) out .answer ≡ NotSent DamagedLog → ⊥
   pub drained : (v : SenderSide) → Source v → (s : ℕ) (out : List ℕ) (d : ℕ) → v .day ≡ At d
-      → (sendOf (v .end) s (v .log) out .answer ≡ Drained) ↔ (Seated (v .end) s × (length (of s d (v .published)) < placeOf (v .end) s .next))
+      → (sendOf (v .end) s (v .log) out .answer ≡ Drained)
+      ↔ (Seated (v .end) s × (length (of s d (v .published)) < placeOf (v .end) s .next))
 
 pub source-laws : SourceLaws
 source-laws =

@@ -1,4 +1,5 @@
--- Demand 3, whole: what is handed on is what was published, after every list of calls. The quotations are the demand's words.
+-- Demand 3, whole: what is handed on is what was published, after every list of calls. The quotations are the demand's
+-- words.
 use Prim.Native.Nat.{ℕ, _<_, _≤_}
 use mathlib.Core.Path.{_≡_}
 use mathlib.Core.List.{List, [], _∷_, _++_, map}
@@ -69,14 +70,15 @@ pub record CaughtUp (u v w : World) (s d : ℕ) (a out : List ℕ) : Type 0 wher
   pub day : v .serving .day ≡ At d
   -- and the last one there: behind it there is no other.
   pub last : inThat s (since (v .serving .answers) (w .serving .answers)) ≡ []
-  -- "that login's answer and then every message sent were delivered, whole and in order (whatever else was delivered between)"
+  -- "that login's answer and then every message sent were delivered, whole and in order (whatever else was delivered
+  -- between)"
   pub delivered :
       Subsequence (answer s a ∷ map message (inThat s (since (v .serving .messages) (w .serving .messages))))
       (since (v .receiving .delivered) (w .receiving .delivered))
   -- "the sender has none left at the list's end": Send would answer "none".
   pub drained : sendOf (w .serving .end) s (w .serving .log) out .answer ≡ Drained
-  -- "the buffers are large enough": the chain buffer holds all its parts. An output that is too small makes a Send refused, and a
-  -- refused Send sends nothing and leaves one more to send.
+  -- "the buffers are large enough": the chain buffer holds all its parts. An output that is too small makes a Send
+  -- refused, and a refused Send sends nothing and leaves one more to send.
   pub room : allParts (w .receiving .end) ≤ length (w .receiving .buffer)
   -- "no opening or connection came since": none that was taken, of either end.
   pub no-opening : w .serving .openings ≡ v .serving .openings
@@ -84,10 +86,11 @@ pub record CaughtUp (u v w : World) (s d : ℕ) (a out : List ℕ) : Type 0 wher
 
 -- ─── The demand ───
 
--- "after every list of openings, publications, connections, login requests, logins, sends and deliveries, refused ones included";
--- "the ends start fresh, log and chain buffer with any length and content".
+-- "after every list of openings, publications, connections, login requests, logins, sends and deliveries, refused ones
+-- included"; "the ends start fresh, log and chain buffer with any length and content".
 pub record Agreement : Type 0 where
-  pub safe : (log buffer : List ℕ) (es : List Event) (s d : ℕ) → T (inRuns (start log buffer) es) → Agreed (run (start log buffer) es) s d
+  pub safe : (log buffer : List ℕ) (es : List Event) (s d : ℕ) → T (inRuns (start log buffer) es)
+      → Agreed (run (start log buffer) es) s d
   -- No message is handed on and nothing is reported that is of no day.
   pub dated : (log buffer : List ℕ) (es : List Event) → T (inRuns (start log buffer) es) →
       let w = run (start log buffer) es in
@@ -100,4 +103,5 @@ pub record Agreement : Type 0 where
       let u = run (start log buffer) es in
       let v = step u e in
       let w = run v fs in
-      T (inRuns (start log buffer) (es ++ (e ∷ fs))) → CaughtUp u v w s d a out → reported w s d ≡ length (publishedOn w s d)
+      T (inRuns (start log buffer) (es ++ (e ∷ fs))) → CaughtUp u v w s d a out
+      → reported w s d ≡ length (publishedOn w s d)

@@ -1,4 +1,5 @@
--- What the paper says of each answer: a refusal has its number, any other answer its word and values (01, "Expected forms by place").
+-- What the paper says of each answer: a refusal has its number, any other answer its word and values (01, "Expected
+-- forms by place").
 use Prim.Native.Nat.{ℕ}
 use mathlib.Core.List.{List, [], _∷_, map}
 use mathlib.Core.Bool.{Bool, true, false}
@@ -87,13 +88,14 @@ abbrev pub receivedSaid : List ℕ → List ℕ → Received → Said
 receivedSaid p buffer Idle = idle
 receivedSaid p buffer (Duplicate n) = again n
 receivedSaid p buffer (Partial n) = held n
-receivedSaid p buffer (Complete n tid origin at) = handedOn n (record { tid = tid; content = contentIn p buffer origin at })
+receivedSaid p buffer (Complete n tid origin at) =
+    handedOn n (record { tid = tid; content = contentIn p buffer origin at })
 receivedSaid p buffer (NotTaken r) = refused (numberOf r)
 
 -- ─── What is read off them ───
 
--- Whether the call was taken (not refused); how many bytes it wrote to an output's start; the last number that it reports; the message that
--- it hands on. A list has the one there is, or nothing.
+-- Whether the call was taken (not refused); how many bytes it wrote to an output's start; the last number that it
+-- reports; the message that it hands on. A list has the one there is, or nothing.
 pub record ReadOff : Type 0 where
   pub taken : Bool
   pub wrote : List ℕ

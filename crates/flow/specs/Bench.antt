@@ -1,4 +1,5 @@
--- The bench table whole (01, "Bench examples"; clause d): the rows P1 to P9 and P12 of `ftd`, and between them those of the ends.
+-- The bench table whole (01, "Bench examples"; clause d): the rows P1 to P9 and P12 of `ftd`, and between them those of
+-- the ends.
 use Prim.Native.Nat.{ℕ}
 use mathlib.Core.List.{List, [], _∷_, _++_}
 use lib.ListN.{replicate}
@@ -12,7 +13,8 @@ use Rattle.flow.specs.declared.sender.Sender.{Sender}
 use Rattle.flow.specs.declared.sender.LoggedIn.{LoggedIn}
 use Rattle.flow.specs.declared.receiver.Receiver.{Receiver}
 use Rattle.flow.specs.Ends.{Wrote, freshReceiver, withSeries, loggedIn}
-use Rattle.flow.specs.Answers.{Message, Said, refused, opened, published, answered, sent, none, asked, confirmed, idle, again, held, handedOn, loginSaid, sentSaid, receivedSaid}
+use Rattle.flow.specs.Answers.{Message, Said, refused, opened, published, answered, sent, none, asked, confirmed}
+use Rattle.flow.specs.Answers.{idle, again, held, handedOn, loginSaid, sentSaid, receivedSaid}
 use Rattle.flow.specs.Serving.{loginOf, sendOf}
 use Rattle.flow.specs.Receiving.{openEndOf, requestBytes, receiveOf}
 use Rattle.flow.specs.World.{openSender, publish, World, start, run}

@@ -1,10 +1,11 @@
--- The two ends: fresh, looked up and changed in one place (01, "The serving end", "The receiving end"); and the form in which the
--- calls are defined. A state is the record of its struct; of an array of 8 the first `count` are in use.
+-- The two ends: fresh, looked up and changed in one place (01, "The serving end", "The receiving end"); and the form in
+-- which the calls are defined. A state is the record of its struct; of an array of 8 the first `count` are in use.
 --
--- Every state counts, also one that no call has made: each definition says something of any end. A count above 8 is 8; where a series
--- stands twice, its first place counts; what is looked up of a series that is not open is an unused place or the default, and shows
--- in no answer. In the states that calls make, the count is at most 8, the open series differ and none is 0, a series that is not logged
--- in has no chain, no more than 1,000,000 are published and no last is above that.
+-- Every state counts, also one that no call has made: each definition says something of any end. A count above 8 is 8;
+-- where a series stands twice, its first place counts; what is looked up of a series that is not open is an unused
+-- place or the default, and shows in no answer. In the states that calls make, the count is at most 8, the open series
+-- differ and none is 0, a series that is not logged in has no chain, no more than 1,000,000 are published and no last
+-- is above that.
 use Prim.Native.Nat.{ℕ, suc, _+_, _-_, _*_}
 use mathlib.Core.List.{List, [], _∷_, _++_, map}
 use mathlib.Core.Bool.{Bool, true, false, cond, not, _&&_, _||_}
@@ -123,7 +124,11 @@ noPlace = record { login = false; next = 0 }
 
 abbrev pub sender : TradeDate → ℕ → List DaySeries → ℕ → List Place → Sender
 sender date count series used places =
-    record { day = record { date = date; count = count; series = series; used = used }; seat = record { places = places } }
+    record {
+      day = record { date = date; count = count; series = series; used = used };
+      seat = record
+          { places = places };
+    }
 
 -- A fresh end holds no series, no day and no login.
 unfoldable pub freshSender : Sender

@@ -1,5 +1,6 @@
--- Two lists of calls, computed: what the line's rule, the histories and the second half's conditions say of them. Login packets, login
--- answers and messages are named by their place on the line, from 0. And three calls that the lists can't have: a buffer too short for one.
+-- Two lists of calls, computed: what the line's rule, the histories and the second half's conditions say of them. Login
+-- packets, login answers and messages are named by their place on the line, from 0. And three calls that the lists
+-- can't have: a buffer too short for one.
 use Prim.Native.Nat.{ℕ}
 use mathlib.Core.Path.{_≡_}
 use mathlib.Core.List.{List, [], _∷_, _++_}
@@ -14,10 +15,12 @@ use Rattle.ftd.specs.declared.tags.TradeDate.the-variants.{At}
 use Rattle.flow.specs.declared.receiver.Receiver.{Receiver}
 use Rattle.flow.specs.declared.receiver.Received.{Received}
 use Rattle.flow.specs.Ends.{Wrote}
-use Rattle.flow.specs.Answers.{Message, Said, refused, held, isTaken, openedSaid, publishedSaid, loginSaid, sentSaid, requestedSaid, confirmedSaid, receivedSaid}
+use Rattle.flow.specs.Answers.{Message, Said, refused, held, isTaken, openedSaid, publishedSaid, loginSaid}
+use Rattle.flow.specs.Answers.{sentSaid, requestedSaid, confirmedSaid, receivedSaid}
 use Rattle.flow.specs.Serving.{openDayOf, publishOf, loginOf, sendOf}
 use Rattle.flow.specs.Receiving.{openEndOf, requestLoginOf, confirmLoginOf, receiveOf}
-use Rattle.flow.specs.World.{InSeries, inSeries, Event, openSender, publish, login, send, openReceiver, connect, requestLogin, confirmLogin, receive, World, start, step, run, inRuns}
+use Rattle.flow.specs.World.{InSeries, inSeries, Event, openSender, publish, login, send, openReceiver, connect}
+use Rattle.flow.specs.World.{requestLogin, confirmLogin, receive, World, start, step, run, inRuns}
 use Rattle.flow.specs.Agreement.{of, publishedOn, handedOn, reported, CaughtUp}
 use Rattle.flow.specs.Bench.{numbers, reqLogin, rspLogin, tid, note, message, space, atLast}
 
@@ -61,7 +64,8 @@ sameMessages (m ∷ ms) (c ∷ cs) = eqb (m .tid) tid && same (m .content) c && 
 -- What was published in a series on a day, what was handed on, and what was reported.
 abbrev pub shows : World → ℕ → ℕ → List (List ℕ) → List (List ℕ) → List ℕ → Bool
 shows w s d published handed reports =
-    sameMessages (publishedOn w s d) published && sameMessages (handedOn w s d) handed && same (of s d (w .receiving .reports)) reports
+    sameMessages (publishedOn w s d) published && sameMessages (handedOn w s d) handed
+    && same (of s d (w .receiving .reports)) reports
 
 -- The numbers of the calls that were refused, in order.
 abbrev pub refusal : Said → List ℕ
@@ -73,15 +77,20 @@ refusalWith f (some x) = refusal (f x)
 
 abbrev pub refusalBy : World → Event → List ℕ
 refusalBy w (openSender date ss) = refusal (openedSaid (openDayOf (w .serving .end) date ss .answer))
-refusalBy w (publish s t content) = refusal (publishedSaid (publishOf (w .serving .end) s t content (w .serving .log) .answer))
+refusalBy w (publish s t content) =
+    refusal (publishedSaid (publishOf (w .serving .end) s t content (w .serving .log) .answer))
 refusalBy w (login s i content out) =
-    refusalWith (λ p. loginSaid (loginOf (w .serving .end) s p content out .answer)) (getElem? (w .receiving .requests) i)
+    refusalWith (λ p. loginSaid (loginOf (w .serving .end) s p content out .answer))
+    (getElem? (w .receiving .requests) i)
 refusalBy w (send s out) = refusal (sentSaid (sendOf (w .serving .end) s (w .serving .log) out .answer))
 refusalBy w (openReceiver ss) = refusal (openedSaid (openEndOf (w .receiving .end) ss .answer))
 refusalBy w connect = []
-refusalBy w (requestLogin s content out) = refusal (requestedSaid (requestLoginOf (w .receiving .end) s content out .answer))
+refusalBy w (requestLogin s content out) =
+    refusal (requestedSaid (requestLoginOf (w .receiving .end) s content out .answer))
 refusalBy w (confirmLogin i) =
-    refusalWith (λ (a : InSeries (List ℕ)). confirmedSaid (confirmLoginOf (w .receiving .end) (a .series) (a .what) .answer)) (getElem? (w .serving .answers) i)
+    refusalWith
+    (λ (a : InSeries (List ℕ)). confirmedSaid (confirmLoginOf (w .receiving .end) (a .series) (a .what) .answer))
+    (getElem? (w .serving .answers) i)
 refusalBy w (receive i j) =
     refusalWith (λ p. receivedSaid p [] (receiveOf (w .receiving .end) p (w .receiving .buffer) .answer))
     (getElem? (getD (w .serving .messages) i (inSeries 0 []) .what) j)
@@ -291,7 +300,9 @@ answers j r = numbers (receivedSaid (pieceOf j) (r .bytes) (r .answer))
 
 -- Held; refused 18; refused 17, as no chain is left.
 abbrev pub chainDropped : Bool
-chainDropped = same (answers 0 behindFirst) (numbers (held 0)) && same (answers 1 behindMiddle) (numbers (refused 18)) && same (answers 2 behindLast) (numbers (refused 17))
+chainDropped =
+    same (answers 0 behindFirst) (numbers (held 0)) && same (answers 1 behindMiddle) (numbers (refused 18))
+    && same (answers 2 behindLast) (numbers (refused 17))
 
 -- ─── All of them ───
 

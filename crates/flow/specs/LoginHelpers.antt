@@ -9,7 +9,8 @@ use Rattle.ftd.specs.Composition.{composed}
 use Rattle.ftd.specs.Fields.{countOf, packetContent}
 use Rattle.ftd.specs.Resume.{resumeFid}
 use Rattle.ftd.specs.Login.{loginTid, loginBytes}
-use Rattle.ftd.specs.declared.refusal.Refusal.the-variants.{FieldRun, FieldLength, Item, Composition, UnknownSeries, OtherDay, OutOfLine, TooSmall, WrongStart}
+use Rattle.ftd.specs.declared.refusal.Refusal.the-variants.{FieldRun, FieldLength, Item, Composition, UnknownSeries}
+use Rattle.ftd.specs.declared.refusal.Refusal.the-variants.{OtherDay, OutOfLine, TooSmall, WrongStart}
 use Rattle.ftd.specs.declared.composition.Direction.the-variants.{Up, Down}
 use Rattle.ftd.specs.declared.items.Checked.{Checked}
 use Rattle.ftd.specs.declared.items.Checked.the-variants.{Passed, Refused}
@@ -27,7 +28,8 @@ use Rattle.flow.specs.Helpers.{nextAt}
 -- 10, of the packet and of the answer's content.
 unfoldable pub wrongLogin : Header → List ℕ → List ℕ → Bool
 wrongLogin h asked content =
-    noLogin h || not (composed loginTid Up asked) || ltb 1 (countOf resumeFid asked) || not (composed loginTid Down content)
+    noLogin h || not (composed loginTid Up asked) || ltb 1 (countOf resumeFid asked) || not
+    (composed loginTid Down content)
 
 -- Rows 7 to 10.
 unfoldable pub loginContents : Header → List ℕ → List ℕ → Checked

@@ -1,6 +1,6 @@
--- The form of the calls' promises (01, "Contract clauses", a and b): what each call's `ensures` says, of any end and any bytes. The end
--- afterwards, the answer, by the paper's word, number and values and as the enum, and every byte of the buffer that the call may write
--- (`after`) are those of the call's definition.
+-- The form of the calls' promises (01, "Contract clauses", a and b): what each call's `ensures` says, of any end and
+-- any bytes. The end afterwards, the answer, by the paper's word, number and values and as the enum, and every byte of
+-- the buffer that the call may write (`after`) are those of the call's definition.
 use Prim.Native.Nat.{ℕ}
 use mathlib.Core.Path.{_≡_}
 use mathlib.Core.List.{List}
@@ -14,7 +14,8 @@ use Rattle.flow.specs.declared.receiver.OpenStep.{OpenStep as OpenEndSte
 use Rattle.flow.specs.declared.receiver.Requested.{Requested}
 use Rattle.flow.specs.declared.receiver.ConfirmStep.{ConfirmStep}
 use Rattle.flow.specs.declared.receiver.ReceiveStep.{ReceiveStep}
-use Rattle.flow.specs.Answers.{Said, openedSaid, publishedSaid, loginSaid, sentSaid, requestedSaid, confirmedSaid, receivedSaid}
+use Rattle.flow.specs.Answers.{Said, openedSaid, publishedSaid, loginSaid, sentSaid, requestedSaid, confirmedSaid}
+use Rattle.flow.specs.Answers.{receivedSaid}
 use Rattle.flow.specs.Serving.{openDayOf, publishOf, loginOf, sendOf}
 use Rattle.flow.specs.Receiving.{openEndOf, connectOf, requestLoginOf, confirmLoginOf, receiveOf}
 
@@ -69,5 +70,6 @@ Confirms e series packet r =
 abbrev pub Receives : Receiver → List ℕ → List ℕ → ReceiveStep → List ℕ → Type 0
 Receives e packet buffer r after =
     let meant = receiveOf e packet buffer in
-    (r .end ≡ meant .end) × (receivedSaid packet after (r .answer) ≡ receivedSaid packet (meant .bytes) (meant .answer)) × (r .answer ≡ meant .answer)
+    (r .end ≡ meant .end) × (receivedSaid packet after (r .answer) ≡ receivedSaid packet (meant .bytes) (meant .answer))
+    × (r .answer ≡ meant .answer)
     × (after ≡ meant .bytes)

@@ -1,5 +1,6 @@
--- The calls of the receiving end (01, "The receiving end", and the refusal table): each one definition, a row of tests in the table's
--- order and then what the call does. It gives the answer, the end, and every byte of the buffer that the call may write.
+-- The calls of the receiving end (01, "The receiving end", and the refusal table): each one definition, a row of tests
+-- in the table's order and then what the call does. It gives the answer, the end, and every byte of the buffer that the
+-- call may write.
 use Prim.Native.Nat.{ℕ, _+_}
 use mathlib.Core.List.{List, _++_, map}
 use mathlib.Core.Bool.{Bool, true, not, _&&_, _||_}
@@ -13,7 +14,9 @@ use Rattle.ftd.specs.Composition.{composed}
 use Rattle.ftd.specs.Fields.{countOf, mostContent}
 use Rattle.ftd.specs.Resume.{resumeBytes, resumeFid}
 use Rattle.ftd.specs.declared.refusal.Refusal.{Refusal}
-use Rattle.ftd.specs.declared.refusal.Refusal.the-variants.{FieldRun, FieldLength, Item, Composition, Opening, NotOnePacket, UnknownSeries, NotLoggedIn, OtherDay, OutOfLine, BrokenChain, TooSmall}
+use Rattle.ftd.specs.declared.refusal.Refusal.the-variants.{FieldRun, FieldLength, Item, Composition, Opening}
+use Rattle.ftd.specs.declared.refusal.Refusal.the-variants.{NotOnePacket, UnknownSeries, NotLoggedIn, OtherDay}
+use Rattle.ftd.specs.declared.refusal.Refusal.the-variants.{OutOfLine, BrokenChain, TooSmall}
 use Rattle.ftd.specs.declared.composition.Direction.the-variants.{Up, Down}
 use Rattle.ftd.specs.declared.tags.TradeDate.{TradeDate}
 use Rattle.ftd.specs.declared.tags.TradeDate.the-variants.{None, At}
@@ -39,7 +42,9 @@ use Rattle.flow.specs.declared.receiver.Origin.the-variants.{Packet as F
 use Rattle.flow.specs.declared.receiver.Received.{Received}
 use Rattle.flow.specs.declared.receiver.Received.the-variants.{Idle, Duplicate, Partial, Complete}
 use Rattle.flow.specs.declared.receiver.Received.the-variants.{Refused as NotTaken}
-use Rattle.flow.specs.Ends.{_when_else_, Left, Wrote, left, wrote, over, mostMessages, mostSeries, requestContent, wrongSeries, filled, before, differs, newKept, noLive, loggedIn, holding, receiver, isOpen, keptOf, liveOf, withSeries, partStart, allParts}
+use Rattle.flow.specs.Ends.{_when_else_, Left, Wrote, left, wrote, over, mostMessages, mostSeries, requestContent}
+use Rattle.flow.specs.Ends.{wrongSeries, filled, before, differs, newKept, noLive, loggedIn, holding, receiver}
+use Rattle.flow.specs.Ends.{isOpen, keptOf, liveOf, withSeries, partStart, allParts}
 use Rattle.flow.specs.Serving.{wrongRun, noLogin, notZero}
 
 -- ─── Opening: the series, once ───
@@ -158,18 +163,21 @@ abbrev pub holds : Receiver → Header → ℕ → List ℕ → List ℕ → Wro
 holds e h held content buffer =
     let s = h .series in
     wrote (dropped e s) (NotTaken TooSmall) buffer when bufferShort e buffer || chainLong held content else
-    wrote (advance e s (keptOf e s .last) (holding (h .tid) (held + length content))) (Partial (keptOf e s .last)) (put buffer (partStart e s + held) content)
+    wrote (advance e s (keptOf e s .last) (holding (h .tid) (held + length content))) (Partial (keptOf e s .last))
+    (put buffer (partStart e s + held) content)
 
 abbrev pub handsOn : Receiver → Header → ℕ → List ℕ → List ℕ → Wrote Receiver Received
 handsOn e h held content buffer =
     let s = h .series in
     wrote (dropped e s) (NotTaken TooSmall) buffer when bufferShort e buffer || chainLong held content else
-    wrote (advance e s (h .number) loggedIn) (Complete (h .number) (h .tid) FromBuffer (span (partStart e s) (held + length content)))
+    wrote (advance e s (h .number) loggedIn)
+    (Complete (h .number) (h .tid) FromBuffer (span (partStart e s) (held + length content)))
     (put buffer (partStart e s + held) content)
 
 -- The next number's packet, by its chain letter. F starts a chain, replacing any.
 abbrev pub nextPiece : Receiver → Header → Span → List ℕ → List ℕ → Chain → Wrote Receiver Received
-nextPiece e h at content buffer Single = wrote (advance e (h .series) (h .number) loggedIn) (Complete (h .number) (h .tid) FromPacket at) buffer
+nextPiece e h at content buffer Single =
+    wrote (advance e (h .series) (h .number) loggedIn) (Complete (h .number) (h .tid) FromPacket at) buffer
 nextPiece e h at content buffer First = holds e h 0 content buffer
 nextPiece e h at content buffer Middle =
     wrote (dropped e (h .series)) (NotTaken BrokenChain) buffer when brokenChain (liveOf e (h .series)) h else
@@ -184,8 +192,10 @@ receiveWith e h date at content buffer =
     wrote e (NotTaken UnknownSeries) buffer when not (isOpen e (h .series)) else
     wrote e (NotTaken NotLoggedIn) buffer when not (liveOf e (h .series) .login) else
     wrote (dropped e (h .series)) (NotTaken OtherDay) buffer when differs date (keptOf e (h .series) .date) else
-    wrote (dropped e (h .series)) (NotTaken OutOfLine) buffer when outOfLine (keptOf e (h .series) .last) (h .number) else
-    wrote (dropped e (h .series)) (Duplicate (keptOf e (h .series) .last)) buffer when leb (h .number) (keptOf e (h .series) .last) else
+    wrote (dropped e (h .series)) (NotTaken OutOfLine) buffer when outOfLine (keptOf e (h .series) .last) (h .number)
+    else
+    wrote (dropped e (h .series)) (Duplicate (keptOf e (h .series) .last)) buffer when leb (h .number)
+    (keptOf e (h .series) .last) else
     nextPiece e h at content buffer (h .chain)
 
 -- What the reader makes of the packet: refusals 1 to 7; link and skipped packets are idle; short is 12 before.

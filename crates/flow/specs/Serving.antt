@@ -1,5 +1,6 @@
--- The calls of the serving end (01, "The serving end", and the refusal table): each one definition, a row of tests in the table's
--- order and then what the call does. It gives the answer, the end, and every byte of the buffer that the call may write.
+-- The calls of the serving end (01, "The serving end", and the refusal table): each one definition, a row of tests in
+-- the table's order and then what the call does. It gives the answer, the end, and every byte of the buffer that the
+-- call may write.
 use Prim.Native.Nat.{ℕ, suc, _+_}
 use mathlib.Core.List.{List, map}
 use mathlib.Core.Bool.{Bool, true, false, not, _||_}
@@ -15,7 +16,9 @@ use Rattle.ftd.specs.Composition.{composed}
 use Rattle.ftd.specs.Resume.{resumeFid, resumeOf}
 use Rattle.ftd.specs.Login.{loginTid, loginBytes}
 use Rattle.ftd.specs.declared.refusal.Refusal.{Refusal}
-use Rattle.ftd.specs.declared.refusal.Refusal.the-variants.{FieldRun, FieldLength, Item, Composition, Opening, NotOnePacket, UnknownSeries, NotLoggedIn, OtherDay, OutOfLine, TooSmall, WrongStart, DamagedLog, DayFull}
+use Rattle.ftd.specs.declared.refusal.Refusal.the-variants.{FieldRun, FieldLength, Item, Composition, Opening}
+use Rattle.ftd.specs.declared.refusal.Refusal.the-variants.{NotOnePacket, UnknownSeries, NotLoggedIn, OtherDay}
+use Rattle.ftd.specs.declared.refusal.Refusal.the-variants.{OutOfLine, TooSmall, WrongStart, DamagedLog, DayFull}
 use Rattle.ftd.specs.declared.composition.Direction.the-variants.{Up, Down}
 use Rattle.ftd.specs.declared.tags.TradeDate.{TradeDate}
 use Rattle.ftd.specs.declared.tags.TradeDate.the-variants.{At}
@@ -40,7 +43,9 @@ use Rattle.flow.specs.declared.sender.Sent.{Sent}
 use Rattle.flow.specs.declared.sender.Sent.the-variants.{Drained}
 use Rattle.flow.specs.declared.sender.Sent.the-variants.{Wrote as Message-sent}
 use Rattle.flow.specs.declared.sender.Sent.the-variants.{Refused as NotSent}
-use Rattle.flow.specs.Ends.{_when_else_, Left, Wrote, left, wrote, over, mostMessages, mostSeries, wrongSeries, filled, before, upTo, newSeries, noPlace, sender, isServed, publishedOf, placeOf, withEntry, withNext}
+use Rattle.flow.specs.Ends.{_when_else_, Left, Wrote, left, wrote, over, mostMessages, mostSeries, wrongSeries}
+use Rattle.flow.specs.Ends.{filled, before, upTo, newSeries, noPlace, sender, isServed, publishedOf, placeOf}
+use Rattle.flow.specs.Ends.{withEntry, withNext}
 use Rattle.flow.specs.Log.{entryBytes, entryTid, entryContent, logShort, entryFits, entryOf}
 
 -- ─── Opening: a trade date above the present one, if any, and the series ───
@@ -73,7 +78,8 @@ publishOf e s tid content log =
     refused DamagedLog when logShort e log else
     refused TooSmall when not (entryFits e log content) else
     refused DayFull when leb mostMessages (publishedOf e s) else
-    wrote (withEntry e s (16 + length content)) (Number number) (put log (e .day .used) (entryBytes s tid number content))
+    wrote (withEntry e s (16 + length content)) (Number number)
+    (put log (e .day .used) (entryBytes s tid number content))
   where
     refused : Refusal → Wrote Sender Published
     refused r = wrote e (NotPublished r) log
@@ -127,7 +133,8 @@ loginWith e s h date asked content out =
     refused FieldRun when wrongRun content packetContent else
     refused FieldLength when wrongWidth asked || wrongWidth content else
     refused Item when wrongItem asked || wrongItem content else
-    refused Composition when noLogin h || not (composed loginTid Up asked) || ltb 1 (countOf resumeFid asked) || not (composed loginTid Down content) else
+    refused Composition when noLogin h || not (composed loginTid Up asked) || ltb 1 (countOf resumeFid asked) || not
+    (composed loginTid Down content) else
     refused UnknownSeries when not (isServed e s) || startElsewhere s start else
     refused OtherDay when before (e .day .date) date else
     refused OutOfLine when notZero h else
@@ -169,7 +176,8 @@ noneLeft e s = ltb (publishedOf e s) (placeOf e s .next)
 -- An entry as packets, each with the trade date as only tag.
 unfoldable pub sendBytes : Sender → ℕ → List ℕ → List ℕ
 sendBytes e s x =
-    joined (packetsOf (record { date = e .day .date; tid = entryTid x; series = s; number = placeOf e s .next }) (entryContent x))
+    joined (packetsOf (record { date = e .day .date; tid = entryTid x; series = s; number = placeOf e s .next })
+    (entryContent x))
 
 abbrev pub sendEntry : Sender → ℕ → List ℕ → Option (List ℕ) → Wrote Sender Sent
 sendEntry e s out none = wrote e (NotSent DamagedLog) out

@@ -1,6 +1,6 @@
--- Both ends with a line between them (01, the paragraph "The line hands over .."): what is there after a list of calls, what the line
--- was given, and what was published, handed on, reported and delivered. Numbers are not bounded here: what the parameters of the calls
--- can hold is a part of it.
+-- Both ends with a line between them (01, the paragraph "The line hands over .."): what is there after a list of calls,
+-- what the line was given, and what was published, handed on, reported and delivered. Numbers are not bounded here:
+-- what the parameters of the calls can hold is a part of it.
 use Prim.Native.Nat.{ℕ, zero, suc}
 use mathlib.Core.List.{List, [], _∷_, _++_, map}
 use mathlib.Core.Bool.{Bool, true, false, cond, _&&_}
@@ -25,7 +25,8 @@ use Rattle.flow.specs.declared.receiver.Requested.{Requested}
 use Rattle.flow.specs.declared.receiver.Confirmed.{Confirmed}
 use Rattle.flow.specs.declared.receiver.Received.{Received}
 use Rattle.flow.specs.Ends.{Left, Wrote, freshSender, freshReceiver}
-use Rattle.flow.specs.Answers.{Message, isTaken, written, reportIn, messageIn, openedSaid, publishedSaid, loginSaid, sentSaid, requestedSaid, confirmedSaid, receivedSaid}
+use Rattle.flow.specs.Answers.{Message, isTaken, written, reportIn, messageIn, openedSaid, publishedSaid}
+use Rattle.flow.specs.Answers.{loginSaid, sentSaid, requestedSaid, confirmedSaid, receivedSaid}
 use Rattle.flow.specs.Serving.{openDayOf, publishOf, loginOf, sendOf}
 use Rattle.flow.specs.Receiving.{openEndOf, connectOf, requestLoginOf, confirmLoginOf, receiveOf}
 
@@ -58,7 +59,8 @@ only false x = []
 
 -- ─── The events: one call each, its arguments free ───
 
--- What the line hands over is named by its place among all that the line was ever given, from 0; a place that names nothing is no call.
+-- What the line hands over is named by its place among all that the line was ever given, from 0; a place that names
+-- nothing is no call.
 pub data Event : Type 0 where
   openSender : ℕ → List ℕ → Event  -- the serving end's Opening: trade date, series
   publish : ℕ → ℕ → List ℕ → Event  -- series, TID, content
@@ -87,9 +89,11 @@ pub record SenderSide : Type 0 where
   pub log : List ℕ
   pub day : TradeDate  -- the trade date of its last Opening; none before
   pub openings : ℕ  -- how many Openings it took
-  pub published : List (Dated Message)  -- by the day of the last Opening: "from the serving end's Opening with that mark to its next one"
+  -- by the day of the last Opening: "from the serving end's Opening with that mark to its next one"
+  pub published : List (Dated Message)
   pub answers : List (InSeries (List ℕ))  -- on the line: "answers of Login with their series"
-  pub messages : List (InSeries (List (List ℕ)))  -- on the line: "any message sent", as the packets that the bytes cut into by their first four
+  -- on the line: "any message sent", as the packets that the bytes cut into by their first four
+  pub messages : List (InSeries (List (List ℕ)))
 
 -- A refused call opens, publishes, logs in and sends nothing.
 abbrev pub afterOpen : SenderSide → ℕ → Left Sender Opened → SenderSide
@@ -112,7 +116,9 @@ afterPublish v s tid content r =
       log = r .bytes;
       day = v .day;
       openings = v .openings;
-      published = v .published ++ only (isTaken (publishedSaid (r .answer))) (dated s (v .day) (record { tid = tid; content = content }));
+      published =
+          v .published ++ only (isTaken (publishedSaid (r .answer)))
+          (dated s (v .day) (record { tid = tid; content = content }));
       answers = v .answers;
       messages = v .messages;
     }
@@ -141,7 +147,9 @@ afterSend v s r =
       openings = v .openings;
       published = v .published;
       answers = v .answers;
-      messages = v .messages ++ map (λ (bytes : List ℕ). inSeries s (packetsIn bytes)) (written (r .bytes) (sentSaid (r .answer)));
+      messages =
+          v .messages ++ map (λ (bytes : List ℕ). inSeries s (packetsIn bytes))
+          (written (r .bytes) (sentSaid (r .answer)));
     }
 
 -- ─── The receiving end's side: written by its five calls alone ───
@@ -228,7 +236,8 @@ abbrev pub borne : TradeDate → TradeDate → TradeDate
 borne None kept = kept
 borne (At d) kept = At d
 
--- Packet j, p, of the message at place i; with its last packet a message is delivered whole, as its packets come in runs.
+-- Packet j, p, of the message at place i; with its last packet a message is delivered whole, as its packets come in
+-- runs.
 abbrev pub afterReceive : ReceiverSide → List (List ℕ) → ℕ → ℕ → List ℕ → Wrote Receiver Received → ReceiverSide
 afterReceive v ps i j p r =
     let said = receivedSaid p (r .bytes) (r .answer) in
@@ -255,7 +264,16 @@ pub record World : Type 0 where
 unfoldable pub start : List ℕ → List ℕ → World
 start log buffer =
     record {
-      serving = record { end = freshSender; log = log; day = None; openings = 0; published = []; answers = []; messages = [] };
+      serving =
+          record {
+            end = freshSender;
+            log = log;
+            day = None;
+            openings = 0;
+            published = [];
+            answers = [];
+            messages = [];
+          };
       receiving =
           record {
             end = freshReceiver;
@@ -284,15 +302,18 @@ with w (some x) f = f x
 -- Each call gets the log and the buffer that the last one left.
 abbrev pub step : World → Event → World
 step w (openSender date ss) = serves w (afterOpen (w .serving) date (openDayOf (w .serving .end) date ss))
-step w (publish s tid content) = serves w (afterPublish (w .serving) s tid content (publishOf (w .serving .end) s tid content (w .serving .log)))
+step w (publish s tid content) =
+    serves w (afterPublish (w .serving) s tid content (publishOf (w .serving .end) s tid content (w .serving .log)))
 step w (login s i content out) = with w (getElem? (w .receiving .requests) i) λ p.
     serves w (afterLogin (w .serving) s (loginOf (w .serving .end) s p content out))
 step w (send s out) = serves w (afterSend (w .serving) s (sendOf (w .serving .end) s (w .serving .log) out))
 step w (openReceiver ss) = receives w (afterReopen (w .receiving) (openEndOf (w .receiving .end) ss))
 step w connect = receives w (afterConnect (w .receiving) (connectOf (w .receiving .end)))
-step w (requestLogin s content out) = receives w (afterRequest (w .receiving) (requestLoginOf (w .receiving .end) s content out))
+step w (requestLogin s content out) =
+    receives w (afterRequest (w .receiving) (requestLoginOf (w .receiving .end) s content out))
 step w (confirmLogin i) = with w (getElem? (w .serving .answers) i) λ a.
-    receives w (afterConfirm (w .receiving) (a .series) (a .what) (confirmLoginOf (w .receiving .end) (a .series) (a .what)))
+    receives w
+    (afterConfirm (w .receiving) (a .series) (a .what) (confirmLoginOf (w .receiving .end) (a .series) (a .what)))
 step w (receive i j) = with w (getElem? (w .serving .messages) i) λ m. with w (getElem? (m .what) j) λ p.
     receives w (afterReceive (w .receiving) (m .what) i j p (receiveOf (w .receiving .end) p (w .receiving .buffer)))
 
@@ -303,8 +324,8 @@ run w (e ∷ es) = run (step w e) es
 
 -- ─── The line: "all its packets or the first few, as a run with no other call of the receiving end within it" ───
 
--- A packet of a message that is not its first comes right behind the one before it, of the same message, among the receiving end's
--- calls; calls of the serving end may stand between.
+-- A packet of a message that is not its first comes right behind the one before it, of the same message, among the
+-- receiving end's calls; calls of the serving end may stand between.
 abbrev pub behind : Previous → ℕ → ℕ → Bool
 behind (came a b) i j = eqb a i && eqb b j
 behind other i j = false

@@ -1,5 +1,5 @@
-// The log of the serving end (01, "The serving end", row 20): entry behind entry in one lent slice, an entry written, and
-// the walk up to the entry wanted.
+// The log of the serving end (01, "The serving end", row 20): entry behind entry in one lent slice, an entry written,
+// and the walk up to the entry wanted.
 ghost use mathlib.Core.List.{[]};
 ghost use mathlib.Core.Path.{_≡_};
 ghost use Prim.Native.Nat.{suc, _+_, _-_, _<_, _≤_};

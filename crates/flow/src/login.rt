@@ -150,7 +150,8 @@ fn answer_size(date: TradeDate, content: &[u8]) -> usize
 // Refusals 18 and 19; else the answer is written, and the series at a place has the number next.
 fn answer_login(e: Sender, i: usize, next: u32, content: &[u8], out: &mut [u8]) -> LoginStep
     requires { ⌜ (i < 8) × (shaped (now content) packetContent ≡ true) ⌝ }
-    ensures { λ r. ⌜ wrote (r .end) (r .answer) (now (out .exit)) ≡ loginAnswer e i next (now (content .entry)) (now (out .entry)) ⌝ }
+    ensures { λ r. ⌜ wrote (r .end) (r .answer) (now (out .exit)) ≡ loginAnswer e i next (now (content .entry))
+        (now (out .entry)) ⌝ }
 {
     let day = e.day;
     let date = day.date;
@@ -185,7 +186,8 @@ pub(crate) fn log_in(
     content: &[u8],
     out: &mut [u8],
 ) -> LoginStep
-    ensures { λ r. ⌜ wrote (r .end) (r .answer) (now (out .exit)) ≡ loginWith e series h date (now (asked .entry)) (now (content .entry)) (now (out .entry)) ⌝ }
+    ensures { λ r. ⌜ wrote (r .end) (r .answer) (now (out .exit)) ≡ loginWith e series h date (now (asked .entry))
+        (now (content .entry)) (now (out .entry)) ⌝ }
 {
     match check_contents(h, asked, content) {
         Checked::Refused(r) => LoginStep {

@@ -7,14 +7,16 @@ use ftd::packet::Span;
 use ftd::refusal::Refusal;
 use ftd::tags::TradeDate;
 
-// What is kept of a series, whatever happens to the line: its trade date (01: mark), none at first, and the last number.
+// What is kept of a series, whatever happens to the line: its trade date (01: mark), none at first, and the last
+// number.
 pub struct KeptSeries {
     pub series: u16,
     pub date: TradeDate,
     pub last: u32,
 }
 
-// The durable part: how many series are open, and what is kept of each, in the opening's order. No series: not opened yet.
+// The durable part: how many series are open, and what is kept of each, in the opening's order. No series: not opened
+// yet.
 pub struct Kept {
     pub count: usize,
     pub series: [KeptSeries; 8],
@@ -56,7 +58,8 @@ pub enum Origin {
     Buffer,
 }
 
-// What Receive answers: nothing of a message; again; a fragment is held; handed on. Each but the first with the series' last number.
+// What Receive answers: nothing of a message; again; a fragment is held; handed on. Each but the first with the series'
+// last number.
 pub enum Received {
     Idle,
     Duplicate(u32),

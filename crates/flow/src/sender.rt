@@ -10,7 +10,8 @@ ghost use Rattle.ftd.specs.declared.composition.Direction.the-variants.{Down};
 ghost use Rattle.ftd.specs.declared.items.Checked.the-variants.{Passed};
 ghost use Rattle.ftd.specs.Fields.{shaped, mostContent};
 ghost use Rattle.flow.specs.declared.series.SeriesPlace.the-variants.{At};
-ghost use Rattle.flow.specs.Ends.{freshSender, senderLimits, filled, newSeries, indexOf, sender, daySeries, isServed, placeOf};
+ghost use Rattle.flow.specs.Ends.{freshSender, senderLimits, filled, newSeries, indexOf, sender, daySeries};
+ghost use Rattle.flow.specs.Ends.{isServed, placeOf};
 ghost use Rattle.flow.specs.Helpers.{Finds, unpublished, SendsAs, nextAt};
 ghost use Rattle.flow.specs.Promises.{OpensDay, Publishes, Sends, LogsIn};
 ghost use Rattle.flow.specs.Serving.{sendEntry};
@@ -41,7 +42,8 @@ pub struct DaySeries {
     pub published: u32,
 }
 
-// The day: its trade date (01: mark), how many series are open, these in the opening's order, and how many bytes of the log are used.
+// The day: its trade date (01: mark), how many series are open, these in the opening's order, and how many bytes of the
+// log are used.
 pub struct Day {
     pub date: TradeDate,
     pub count: usize,
@@ -319,7 +321,8 @@ impl Sender {
 
     // Login: a login packet, and the answer's content. The answer is written, or the call is refused.
     pub fn login(self, series: u16, packet: &[u8], content: &[u8], out: &mut [u8]) -> LoginStep
-        ensures { λ r. ⌜ LogsIn self series (now (packet .entry)) (now (content .entry)) (now (out .entry)) r (now (out .exit)) ⌝ }
+        ensures { λ r. ⌜ LogsIn self series (now (packet .entry)) (now (content .entry)) (now (out .entry)) r
+            (now (out .exit)) ⌝ }
     {
         if not_one_message(packet) {
             return LoginStep {
@@ -361,7 +364,8 @@ impl Sender {
 
     // An entry of the log, written as packets; the next one is next. 18 where the output lacks the bytes needed.
     fn send_entry(self, i: usize, series: u16, number: u32, x: &[u8], out: &mut [u8]) -> SendStep
-        requires { ⌜ (i ≡ indexOf series (daySeries self)) × (i < 8) × (number ≡ placeOf self series .next) × (16 ≤ length (now x)) × (shaped (drop 16 (now x)) mostContent ≡ true) ⌝ }
+        requires { ⌜ (i ≡ indexOf series (daySeries self)) × (i < 8) × (number ≡ placeOf self series .next)
+            × (16 ≤ length (now x)) × (shaped (drop 16 (now x)) mostContent ≡ true) ⌝ }
         ensures { λ r. ⌜ SendsAs (sendEntry self series (now (out .entry)) (some (now (x .entry)))) r (now (out .exit)) ⌝ }
     {
         let day = self.day;

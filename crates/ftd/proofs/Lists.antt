@@ -22,7 +22,13 @@ module _ (p q : List ℕ) where
   pub be32-append : (i : ℕ) → i + 4 ≤ length p → be32Of (p ++ q) i ≡ be32Of p i
   unfolding be32Of
   be32-append i h =
-      rw (byte-append i (omega arith), byte-append (i + 1) (omega arith), byte-append (i + 2) (omega arith), byte-append (i + 3) (omega arith))
+      rw (
+        byte-append i (omega arith),
+        byte-append (i + 1) (omega arith),
+        byte-append (i + 2) (omega arith),
+        byte-append
+            (i + 3) (omega arith),
+      )
 
   pub part-append : (start len : ℕ) → start + len ≤ length p → part (p ++ q) start len ≡ part p start len
   part-append start len h =
@@ -74,10 +80,13 @@ pub joined-part : (ls : List (List ℕ)) (i : ℕ) → i < length ls
 joined-part [] i h = absurd (omega arith)
 joined-part (l ∷ ls) zero h = take-append-seam l (joined ls)
 joined-part (l ∷ ls) (suc i) h =
-    rw (length-append l (joined (take i ls)), drop-append-add l (joined ls) (length (joined (take i ls)))) (joined-part ls i (omega arith))
+    rw (length-append l (joined (take i ls)), drop-append-add l (joined ls) (length (joined (take i ls))))
+    (joined-part ls i (omega arith))
 
-pub joined-inside : (ls : List (List ℕ)) (i : ℕ) → i < length ls → length (joined (take i ls)) + length (getD ls i []) ≤ length (joined ls)
+pub joined-inside : (ls : List (List ℕ)) (i : ℕ) → i < length ls
+    → length (joined (take i ls)) + length (getD ls i []) ≤ length (joined ls)
 joined-inside [] i h = absurd (omega arith)
 joined-inside (l ∷ ls) zero h = rw length-append (omega arith)
 joined-inside (l ∷ ls) (suc i) h =
-    rw (length-append l (joined (take i ls)), length-append l (joined ls)) (omega (arith, joined-inside ls i (omega arith)))
+    rw (length-append l (joined (take i ls)), length-append l (joined ls))
+    (omega (arith, joined-inside ls i (omega arith)))

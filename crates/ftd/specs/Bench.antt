@@ -1,5 +1,5 @@
--- The bench examples (01, "Bench examples") as rows of one table. What a definition answers and what the paper says stand
--- side by side as lists of numbers, so that examples of every kind fit one table.
+-- The bench examples (01, "Bench examples") as rows of one table. What a definition answers and what the paper says
+-- stand side by side as lists of numbers, so that examples of every kind fit one table.
 use Prim.Native.Nat.{ℕ}
 use mathlib.Core.List.{List, [], _∷_, _++_, map}
 use mathlib.Core.Bool.{Bool, true, false, cond, _&&_}
@@ -74,14 +74,16 @@ abbrev pub dataField : ℕ → List ℕ
 dataField n = bytes32 1 ++ (bytes16 n ++ replicate n 32)
 
 abbrev pub lettersOf : List ℕ → List ℕ
-lettersOf content = map (λ (p : List ℕ). letterOf p) (packetsOf (record { date = None; tid = 8196; series = 1; number = 1 }) content)
+lettersOf content =
+    map (λ (p : List ℕ). letterOf p) (packetsOf (record { date = None; tid = 8196; series = 1; number = 1 }) content)
 
--- A row whose bytes stand as the price, item 3 of a MarketMatchIncDataField (FID 0x000A, 29 bytes): the field is checked, and the
--- price read as Float 12,4.
+-- A row whose bytes stand as the price, item 3 of a MarketMatchIncDataField (FID 0x000A, 29 bytes): the field is
+-- checked, and the price read as Float 12,4.
 abbrev pub prices : ℕ → List ℕ → List ℕ → BenchRow
 prices n price b =
     let bytes : List ℕ = 32 ∷ 32 ∷ 32 ∷ 32 ∷ 32 ∷ 32 ∷ 32 ∷ 32 ∷ 32 ∷ 32 ∷ 0 ∷ 0 ∷ price ++ (0 ∷ 0 ∷ 0 ∷ 0 ∷ 0 ∷ []) in
-    benchRow n (checkAnswer (checkOf (0 ∷ 0 ∷ 0 ∷ 10 ∷ 0 ∷ 29 ∷ bytes)) (valueAnswer (floatValue 4 (itemBytes bytes 10 3)))) b
+    benchRow n
+    (checkAnswer (checkOf (0 ∷ 0 ∷ 0 ∷ 10 ∷ 0 ∷ 29 ∷ bytes)) (valueAnswer (floatValue 4 (itemBytes bytes 10 3)))) b
 
 -- In two lists, as the paper's order has P10 and P11, of the ends, between them.
 unfoldable pub upToNine : List BenchRow

@@ -1,4 +1,5 @@
--- A message cut into packets (4.2.1.2; 01, "Message packet"): whole fields, as many as 4,080 content bytes hold, in order.
+-- A message cut into packets (4.2.1.2; 01, "Message packet"): whole fields, as many as 4,080 content bytes hold, in
+-- order.
 pub mod Helpers
 pub mod Laws
 use Prim.Native.Nat.{ℕ, _+_, _-_}
@@ -80,7 +81,9 @@ chainVerdict content = cond (shaped content mostContent) fine (refuse FieldRun)
 
 -- Of one packet of a message: it has one at that place.
 unfoldable pub placeVerdict : Message → List ℕ → ℕ → Verdict
-placeVerdict m content i = cond (shaped content mostContent) (cond (ltb i (length (packetsOf m content))) fine (other NoPacket)) (refuse FieldRun)
+placeVerdict m content i =
+    cond (shaped content mostContent) (cond (ltb i (length (packetsOf m content))) fine (other NoPacket))
+    (refuse FieldRun)
 
 -- ─── What a message takes ───
 

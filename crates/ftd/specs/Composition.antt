@@ -12,8 +12,8 @@ use Rattle.ftd.specs.declared.composition.Direction.the-variants.{Up, Do
 
 -- ─── Appendix E ───
 
--- A field that the paper lists for a message (TID and direction), with its least and most count; 0 as the most stands for
--- "任意", unlimited. The paper prints the most before the least.
+-- A field that the paper lists for a message (TID and direction), with its least and most count; 0 as the most stands
+-- for "任意", unlimited. The paper prints the most before the least.
 pub record CompositionLine : Type 0 where
   pub tid : ℕ
   pub direction : ℕ
@@ -184,7 +184,14 @@ unfoldable pub mosts : List ℕ
 mosts = map (λ (r : CompositionLine). r .most) appendixE
 
 unfoldable pub lineAt : ℕ → CompositionLine
-lineAt i = record { tid = getD lineTids i 0; direction = getD directions i 0; fid = getD fids i 0; least = getD leasts i 0; most = getD mosts i 0 }
+lineAt i =
+    record {
+      tid = getD lineTids i 0;
+      direction = getD directions i 0;
+      fid = getD fids i 0;
+      least = getD leasts i 0;
+      most = getD mosts i 0;
+    }
 
 -- ─── Counts ───
 
@@ -194,16 +201,18 @@ inRange least most n = leb least n && (eqb most 0 || leb n most)
 
 -- ─── Make-up ───
 
--- A line of Appendix E is of the message, and the content has its field as often as it says; lines of other messages say nothing.
+-- A line of Appendix E is of the message, and the content has its field as often as it says; lines of other messages
+-- say nothing.
 abbrev pub lineHolds : CompositionLine → ℕ → ℕ → List ℕ → Bool
 lineHolds r tid direction content =
-    cond (eqb (r .tid) tid && eqb (r .direction) direction) (inRange (r .least) (r .most) (countOf (r .fid) content)) true
+    cond (eqb (r .tid) tid && eqb (r .direction) direction) (inRange (r .least) (r .most) (countOf (r .fid) content))
+    true
 
 abbrev pub allHold : List CompositionLine → ℕ → ℕ → List ℕ → Bool
 allHold [] tid direction content = true
 allHold (r ∷ rs) tid direction content = lineHolds r tid direction content && allHold rs tid direction content
 
--- Each field that Appendix E lists for the message occurs as often as listed. Order is free, fields that are not listed pass, and so
--- does a TID that has no message in that direction.
+-- Each field that Appendix E lists for the message occurs as often as listed. Order is free, fields that are not listed
+-- pass, and so does a TID that has no message in that direction.
 unfoldable pub composed : ℕ → Direction → List ℕ → Bool
 composed tid d content = allHold appendixE tid (directionOf d) content

@@ -1,5 +1,5 @@
--- Demand 2 as one statement: packets, messages, fields and items are accepted exactly when they meet the standard, what is written is read back
--- as meant, and writing what was read gives the same bytes again.
+-- Demand 2 as one statement: packets, messages, fields and items are accepted exactly when they meet the standard, what
+-- is written is read back as meant, and writing what was read gives the same bytes again.
 use Rattle.ftd.specs.Packet.Laws.{ReadLaws}
 use Rattle.ftd.specs.Write.Laws.{WriteLaws}
 use Rattle.ftd.specs.Chain.Laws.{ChainLaws}
@@ -9,7 +9,8 @@ use Rattle.ftd.specs.Item.Fields.{KnownLaws}
 use Rattle.ftd.specs.Values.Laws.{ValueLaws}
 
 pub record Demand2 : Type 0 where
-  -- Packets: each kind is read exactly where the bytes are one, with these values; both round trips, and what writers refuse.
+  -- Packets: each kind is read exactly where the bytes are one, with these values; both round trips, and what writers
+  -- refuse.
   pub reading : ReadLaws
   pub writing : WriteLaws
   -- Messages: cut into packets of whole fields, found again and read back.

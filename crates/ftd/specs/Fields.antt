@@ -1,4 +1,5 @@
--- The content of a message (4.2; 01, "Message packet"): a run of data fields, each FID 4 bytes, length 2, that many bytes.
+-- The content of a message (4.2; 01, "Message packet"): a run of data fields, each FID 4 bytes, length 2, that many
+-- bytes.
 pub mod Laws
 use Prim.Native.Nat.{ℕ, zero, suc, _+_, _-_, _≤_}
 use mathlib.Core.List.{List, [], _∷_, _++_, map}
@@ -114,7 +115,8 @@ countOf fid content = counted fid (fieldsOf content) 0
 -- The first field with a FID, in a list of fields that starts at `at`.
 abbrev pub firstIn : ℕ → List (List ℕ) → ℕ → FieldPlace
 firstIn at [] fid = NoField
-firstIn at (f ∷ fs) fid = cond (eqb (fidOf f) fid) (Field (fidOf f) (at + 6) (length f - 6)) (firstIn (at + length f) fs fid)
+firstIn at (f ∷ fs) fid =
+    cond (eqb (fidOf f) fid) (Field (fidOf f) (at + 6) (length f - 6)) (firstIn (at + length f) fs fid)
 
 unfoldable pub firstOf : List ℕ → ℕ → FieldPlace
 firstOf content fid = firstIn 0 (fieldsOf content) fid

@@ -1,4 +1,5 @@
--- The value of an item (01, "Typed items"): by its row of the table, what its bytes say, the bytes of a value, and which values fit.
+-- The value of an item (01, "Typed items"): by its row of the table, what its bytes say, the bytes of a value, and
+-- which values fit.
 pub mod Fields
 use Prim.Native.Nat.{ℕ, _+_, _<_}
 use mathlib.Core.Path.{_≡_}
@@ -21,7 +22,8 @@ use Rattle.ftd.specs.Places.{itemOf}
 use Rattle.ftd.specs.declared.places.ItemPlace.{ItemPlace}
 use Rattle.ftd.specs.declared.places.ItemPlace.the-variants.{NoItem as NoPlace, Item as Place}
 use Rattle.ftd.specs.declared.item.FieldItem.{FieldItem}
-use Rattle.ftd.specs.declared.item.FieldItem.the-variants.{NoItem, NoValue, Char, Word, Int, Text, Number, Float, Date}
+use Rattle.ftd.specs.declared.item.FieldItem.the-variants.{NoItem, NoValue, Char, Word, Int, Text, Number, Float}
+use Rattle.ftd.specs.declared.item.FieldItem.the-variants.{Date}
 use Rattle.ftd.specs.declared.whole.Whole.{Whole}
 use Rattle.ftd.specs.declared.whole.Whole.the-variants.{NoValue as NoWhole, Value as WholeValue}
 use Rattle.ftd.specs.declared.signed.Signed.{Signed}
@@ -114,7 +116,8 @@ givenAt start (some (date d)) = Date d
 abbrev pub valueAt : ℕ → List ℕ → ItemPlace → FieldItem
 valueAt fid bytes NoPlace = NoItem
 valueAt fid bytes (Place kind scale start width) =
-    cond (leb (start + width) (length bytes)) (givenAt start (valueOf (row fid kind width scale) (part bytes start width))) NoItem
+    cond (leb (start + width) (length bytes))
+    (givenAt start (valueOf (row fid kind width scale) (part bytes start width))) NoItem
 
 -- Item i of a field, counted from 0, in the field's bytes (without FID and length).
 unfoldable pub itemValueOf : ℕ → ℕ → List ℕ → FieldItem
@@ -163,8 +166,8 @@ itemWritten fid i v t = bytesAt fid (itemOf fid i) (takenAs v t)
 
 -- ─── What holds of each row ───
 
--- The check accepts bytes if and only if they have a value; bytes that are read are those that their value writes; and a value
--- that fits, written, has the row's width, is accepted, and is read back.
+-- The check accepts bytes if and only if they have a value; bytes that are read are those that their value writes; and
+-- a value that fits, written, has the row's width, is accepted, and is read back.
 pub record RowLaws (r : Row) : Type 0 where
   pub accepted : (l : List ℕ) → Bytes l → length l ≡ r .width
       → (isValue (r .kind) (r .scale) l ≡ true) ↔ ((v : ItemValue) × (valueOf r l ≡ some v))
@@ -178,7 +181,8 @@ pub record RowLaws (r : Row) : Type 0 where
 pub record ItemLaws : Type 0 where
   pub each : (i : ℕ) → i < length table → RowLaws (rowAt i)
   -- So it is at the place of each item of a field.
-  pub placed : (fid i kind scale start width : ℕ) → itemOf fid i ≡ Place kind scale start width → RowLaws (row fid kind width scale)
+  pub placed : (fid i kind scale start width : ℕ) → itemOf fid i ≡ Place kind scale start width
+      → RowLaws (row fid kind width scale)
   -- The bytes at the place of a text are its value.
   pub texts : (fid i kind scale start width : ℕ) → itemOf fid i ≡ Place kind scale start width
       → (bytes : List ℕ) (at len : ℕ) → itemValueOf fid i bytes ≡ Text at len

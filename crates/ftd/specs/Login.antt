@@ -1,5 +1,6 @@
--- A login packet and its answer (01, "The serving end", "The receiving end"): TID 0x0016, S, series and number 0, a trade date, if any, as
--- the only tag. They are written alike, but for the start field that Ask puts behind the content.
+-- A login packet and its answer (01, "The serving end", "The receiving end"): TID 0x0016, S, series and number 0, a
+-- trade date, if any, as the only tag. They are written alike, but for the start field that Ask puts behind the
+-- content.
 use Prim.Native.Nat.{ℕ, _+_, _-_}
 use mathlib.Core.Path.{_≡_}
 use mathlib.Core.List.{List, [], _++_}
@@ -24,7 +25,8 @@ abbrev pub loginTid : ℕ
 loginTid = 0x0016
 
 unfoldable pub loginHeader : List ℕ → Header
-loginHeader content = record { tid = loginTid; chain = Single; series = 0; number = 0; fields = length (fieldsOf content) }
+loginHeader content =
+    record { tid = loginTid; chain = Single; series = 0; number = 0; fields = length (fieldsOf content) }
 
 unfoldable pub loginBytes : TradeDate → List ℕ → List ℕ
 loginBytes date content = messageBytes (loginHeader content) (extensionBytes (tagsFor date)) content
@@ -36,7 +38,8 @@ abbrev pub endingBytes : Ending → List ℕ
 endingBytes Nothing = []
 endingBytes (Resume series number) = resumeBytes series number
 
--- 7: the content that is given is not whole fields of at most 4,074, or more than one packet holds with what stands behind it.
+-- 7: the content that is given is not whole fields of at most 4,074, or more than one packet holds with what stands
+-- behind it.
 unfoldable pub loginVerdict : List ℕ → Ending → Verdict
 loginVerdict content ending = cond (shaped content (packetContent - length (endingBytes ending))) fine (refuse FieldRun)
 
@@ -45,11 +48,16 @@ loginVerdict content ending = cond (shaped content (packetContent - length (endi
 pub record LoginLaws : Type 0 where
   -- Read back: header, trade date, and content where its place says.
   pub back : (d : TradeDate) (c : List ℕ) → shaped c packetContent ≡ true → datedOf (loginBytes d c) ≡ record {
-    packet = Message (loginHeader c) (span 4 (length (extensionBytes (tagsFor d)))) (span (4 + length (extensionBytes (tagsFor d)) + 16) (length c));
+    packet =
+        Message (loginHeader c) (span 4 (length (extensionBytes (tagsFor d))))
+        (span (4 + length (extensionBytes (tagsFor d)) + 16) (length c));
     date = d;
   }
-  pub content-back : (d : TradeDate) (c : List ℕ) → part (loginBytes d c) (4 + length (extensionBytes (tagsFor d)) + 16) (length c) ≡ c
+  pub content-back : (d : TradeDate) (c : List ℕ)
+      → part (loginBytes d c) (4 + length (extensionBytes (tagsFor d)) + 16) (length c) ≡ c
   -- It is one packet, and a message packet.
-  pub one-packet : (d : TradeDate) (c : List ℕ) → shaped c packetContent ≡ true → (notOnePacket (loginBytes d c) ≡ false) × (noMessagePacket (loginBytes d c) ≡ false)
+  pub one-packet : (d : TradeDate) (c : List ℕ) → shaped c packetContent ≡ true
+      → (notOnePacket (loginBytes d c) ≡ false) × (noMessagePacket (loginBytes d c) ≡ false)
   -- What is written without refusal has shape.
-  pub fine-shaped : (c : List ℕ) (ending : Ending) → loginVerdict c ending ≡ fine → shaped (c ++ endingBytes ending) packetContent ≡ true
+  pub fine-shaped : (c : List ℕ) (ending : Ending) → loginVerdict c ending ≡ fine
+      → shaped (c ++ endingBytes ending) packetContent ≡ true

@@ -11,7 +11,8 @@ use Rattle.ftd.specs.Tags.{goodTags, tradeDateOf}
 use Rattle.ftd.specs.Fields.{exactRun, fieldsOf, fieldPlaceOf}
 use Rattle.ftd.specs.declared.fields.FieldPlace.{FieldPlace}
 use Rattle.ftd.specs.declared.fields.FieldPlace.the-variants.{NoField, Field}
-use Rattle.ftd.specs.declared.refusal.Refusal.the-variants.{LongExtension, BrokenTag, BodyLength, Version, ChainLetter, ContentLength, FieldRun}
+use Rattle.ftd.specs.declared.refusal.Refusal.the-variants.{LongExtension, BrokenTag, BodyLength, Version}
+use Rattle.ftd.specs.declared.refusal.Refusal.the-variants.{ChainLetter, ContentLength, FieldRun}
 use Rattle.ftd.specs.declared.packet.Span.{Span}
 use Rattle.ftd.specs.declared.packet.Chain.{Chain}
 use Rattle.ftd.specs.declared.packet.Chain.the-variants.{Single, First, Middle, Last}
@@ -63,7 +64,9 @@ bodyStart p = 4 + extensionLength p
 unfoldable pub extensionOf : List ℕ → List ℕ
 extensionOf p = part p 4 (extensionLength p)
 
--- ─── The body of a message packet (4.2.1): version 1, TID 4, chain 1, series 2, number 4, field count 2, content length 2 ───
+-- ─── The body of a message packet (4.2.1) ───
+
+-- Version 1 byte, TID 4, chain 1, series 2, number 4, field count 2, content length 2, then the content.
 
 unfoldable pub versionOf : List ℕ → ℕ
 versionOf p = getD p (bodyStart p) 0
@@ -98,7 +101,8 @@ headMissing p = ltb (length p) 4
 unfoldable pub restMissing : List ℕ → Bool
 restMissing p = ltb (length p) (saidLength p)
 
--- 12: fewer than four bytes, or not as many as the first four say. (Said of no bytes are 0, yet no bytes are not one packet.)
+-- 12: fewer than four bytes, or not as many as the first four say. (Said of no bytes are 0, yet no bytes are not one
+-- packet.)
 unfoldable pub notOnePacket : List ℕ → Bool
 notOnePacket p = headMissing p || not (eqb (length p) (saidLength p))
 
@@ -195,7 +199,8 @@ messageOf p =
 -- A packet that is there whole.
 unfoldable pub wholeOf : List ℕ → Packet
 wholeOf p =
-    cond (isSkipped (kindOf p) (bodyLength p)) (Skipped (kindOf p) (extensionSpan p) (span (bodyStart p) (bodyLength p)))
+    cond (isSkipped (kindOf p) (bodyLength p))
+    (Skipped (kindOf p) (extensionSpan p) (span (bodyStart p) (bodyLength p)))
     (cond (brokenTag p) (Refused BrokenTag)
     (cond (isLink p) (Link (kindOf p) (extensionSpan p))
     (messageOf p)))
@@ -253,7 +258,8 @@ abbrev pub fieldWithin : List ℕ → Packet → ℕ → FieldPlace
 fieldWithin p Short i = NoField
 fieldWithin p (Link kind extension) i = NoField
 fieldWithin p (Skipped kind extension body) i = NoField
-fieldWithin p (Message h extension content) i = movedBy (content .start) (fieldPlaceOf (part p (content .start) (content .len)) i)
+fieldWithin p (Message h extension content) i =
+    movedBy (content .start) (fieldPlaceOf (part p (content .start) (content .len)) i)
 fieldWithin p (Refused r) i = NoField
 
 unfoldable pub fieldOf : List ℕ → ℕ → FieldPlace

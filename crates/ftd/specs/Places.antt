@@ -1,4 +1,5 @@
--- An item of a field by place (01, "Typed items"): FID and item number, counted from 0, give type, place and width in the field.
+-- An item of a field by place (01, "Typed items"): FID and item number, counted from 0, give type, place and width in
+-- the field.
 use Prim.Native.Nat.{ℕ, zero, suc, _+_}
 use mathlib.Core.List.{List, [], _∷_}
 use mathlib.Core.Bool.{cond}

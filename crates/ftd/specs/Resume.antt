@@ -1,4 +1,5 @@
--- The start field (DisseminationstartField, FID 0x0004; 01, "The serving end"): the series, and the next number wanted (4.3.3.2).
+-- The start field (DisseminationstartField, FID 0x0004; 01, "The serving end"): the series, and the next number wanted
+-- (4.3.3.2).
 use Prim.Native.Nat.{ℕ, _+_, _-_, _≤_}
 use mathlib.Core.Path.{_≡_}
 use mathlib.Core.List.{List, [], _∷_, _++_}
@@ -24,7 +25,8 @@ resumeFid = 0x0004
 -- Series 2 bytes, number 4.
 abbrev pub resumeAt : List ℕ → FieldPlace → Resume
 resumeAt content NoField = Absent
-resumeAt content (Field fid start len) = cond (eqb len 6) (Next (be16Of content start) (be32Of content (start + 2))) Misshapen
+resumeAt content (Field fid start len) =
+    cond (eqb len 6) (Next (be16Of content start) (be32Of content (start + 2))) Misshapen
 
 unfoldable pub resumeOf : List ℕ → Resume
 resumeOf content = cond (ltb 1 (countOf resumeFid content)) Several (resumeAt content (firstOf content resumeFid))
@@ -40,14 +42,16 @@ resumeBytes series number = bytes32 resumeFid ++ (bytes16 6 ++ (bytes16 series +
 pub record ResumeLaws : Type 0 where
   -- Behind whole fields it is one field more.
   pub behind : (content : List ℕ) (series number : ℕ) → ended (runOf field content) ≡ true
-      → runOf field (content ++ resumeBytes series number) ≡ record { entries = fieldsOf content ++ (resumeBytes series number ∷ []); rest = [] }
+      → runOf field (content ++ resumeBytes series number) ≡ record
+      { entries = fieldsOf content ++ (resumeBytes series number ∷ []); rest = [] }
   -- It is counted.
   pub counts : (content : List ℕ) (series number : ℕ) → ended (runOf field content) ≡ true
       → countOf resumeFid (content ++ resumeBytes series number) ≡ countOf resumeFid content + 1
   pub counts-each : (content : List ℕ) (series number fid : ℕ) → ended (runOf field content) ≡ true
       → countOf fid (content ++ resumeBytes series number) ≡ countOf fid content + oneIf resumeFid fid
   -- 7, 8 and 9 say the same of the content with it as of the content, but for its twelve bytes.
-  pub shape : (content : List ℕ) (series number limit : ℕ) → shaped content limit ≡ true → shaped (content ++ resumeBytes series number) (limit + 12) ≡ true
+  pub shape : (content : List ℕ) (series number limit : ℕ) → shaped content limit ≡ true
+      → shaped (content ++ resumeBytes series number) (limit + 12) ≡ true
   pub widths : (content : List ℕ) (series number : ℕ) → ended (runOf field content) ≡ true
       → wrongWidth (content ++ resumeBytes series number) ≡ wrongWidth content
   pub items : (content : List ℕ) (series number : ℕ) → ended (runOf field content) ≡ true

@@ -15,7 +15,8 @@ pub record Form : Type 0 where
 unfoldable pub front : Form → List ℕ → ℕ
 front F l = cond (leb (F .head + F .follow l) (length l)) (F .head + F .follow l) 0
 
--- Bytes as a run: the entries, each with its head, up to the first place where none stands whole, and what is left there.
+-- Bytes as a run: the entries, each with its head, up to the first place where none stands whole, and what is left
+-- there.
 pub record Run : Type 0 where
   pub entries : List (List ℕ)
   pub rest : List ℕ

@@ -1,4 +1,5 @@
--- The value of a Number or a Float (01, "Typed items"): a sign and a whole number of units, which are 1 or 10 to the power -b.
+-- The value of a Number or a Float (01, "Typed items"): a sign and a whole number of units, which are 1 or 10 to the
+-- power -b.
 pub mod Write
 pub mod Integer
 use Prim.Native.Nat.{ℕ, zero, suc, _+_, _*_}
@@ -24,8 +25,8 @@ digitsOf n (d ∷ ds) = digitsOf (n * 10 + digitOf d) ds
 unfoldable pub signedOf : List ℕ → Signed
 signedOf l = cond (eqb (getD l 0 0) 0x2D) (Value true (digitsOf 0 (drop 1 l))) (Value false (digitsOf 0 l))
 
--- What bytes say as a Number, and as a Float with that many decimals. A value has at most 18 bytes, so that its units fit 64 bits;
--- no row of the table is wider.
+-- What bytes say as a Number, and as a Float with that many decimals. A value has at most 18 bytes, so that its units
+-- fit 64 bits; no row of the table is wider.
 unfoldable pub numberValue : List ℕ → Signed
 numberValue l = cond (leb (length l) 18 && isNumber l) (signedOf l) NoValue
 

@@ -1,4 +1,5 @@
--- The table of all rows of Appendix D (01, "Typed items"), and what is taken from it. Types are those of Appendix B and Table 6.
+-- The table of all rows of Appendix D (01, "Typed items"), and what is taken from it. Types are those of Appendix B and
+-- Table 6.
 pub mod Helpers
 pub mod Rule
 use Prim.Native.Nat.{ℕ, _+_}
@@ -9,7 +10,8 @@ use lib.Dec.{ltb, eqb}
 
 -- ─── Kinds of items' types ───
 
--- Table 6: Char without an enumeration, Word, Int, String, Number, Float; and Date, which is FTDDate of Appendix B alone.
+-- Table 6: Char without an enumeration, Word, Int, String, Number, Float; and Date, which is FTDDate of Appendix B
+-- alone.
 abbrev pub charKind : ℕ
 charKind = 0
 

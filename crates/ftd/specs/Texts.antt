@@ -1,4 +1,5 @@
--- The value of a String (01, "Typed items"): its bytes without trailing spaces; and the bytes of a value, padded with spaces.
+-- The value of a String (01, "Typed items"): its bytes without trailing spaces; and the bytes of a value, padded with
+-- spaces.
 use Prim.Native.Nat.{ℕ, _-_}
 use mathlib.Core.List.{List, [], _∷_, _++_}
 use mathlib.Core.Bool.{Bool, cond, _&&_}

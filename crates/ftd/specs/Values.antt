@@ -6,7 +6,8 @@ use mathlib.Core.List.{List, [], _∷_, _++_}
 use mathlib.Core.Bool.{Bool, true, false, cond, not, _&&_, _||_}
 use lib.ListN.{length, getD, take, drop}
 use lib.Dec.{leb, ltb, eqb}
-use Rattle.ftd.specs.Table.{charKind, wordKind, intKind, stringKind, numberKind, floatKind, dateKind, firstListed, lastListed, enumerations}
+use Rattle.ftd.specs.Table.{charKind, wordKind, intKind, stringKind, numberKind, floatKind, dateKind, firstListed}
+use Rattle.ftd.specs.Table.{lastListed, enumerations}
 
 -- ─── Classes of bytes ───
 
@@ -44,9 +45,11 @@ isListed kind b = eqb b 0 || among b (getD enumerations (kind - firstListed) [])
 -- Digits; or '-' and digits that are not all 0, since minus zero is wrong. '-' alone is wrong.
 unfoldable pub isNumber : List ℕ → Bool
 isNumber l =
-    cond (eqb (getD l 0 0) 0x2D) (every isDigit (drop 1 l) && not (every isZero (drop 1 l))) (ltb 0 (length l) && every isDigit l)
+    cond (eqb (getD l 0 0) 0x2D) (every isDigit (drop 1 l) && not (every isZero (drop 1 l)))
+    (ltb 0 (length l) && every isDigit l)
 
--- Float a,b: a bytes with '.' before the last b, and a Number without it. Before the point stands a byte at least, which may be '-'.
+-- Float a,b: a bytes with '.' before the last b, and a Number without it. Before the point stands a byte at least,
+-- which may be '-'.
 abbrev pub pointAt : ℕ → List ℕ → ℕ
 pointAt scale l = length l - (scale + 1)
 
@@ -54,7 +57,8 @@ unfoldable pub withoutPoint : ℕ → List ℕ → List ℕ
 withoutPoint scale l = take (pointAt scale l) l ++ drop (pointAt scale l + 1) l
 
 unfoldable pub isFloat : ℕ → List ℕ → Bool
-isFloat scale l = leb (scale + 2) (length l) && (eqb (getD l (pointAt scale l) 0) 0x2E && isNumber (withoutPoint scale l))
+isFloat scale l =
+    leb (scale + 2) (length l) && (eqb (getD l (pointAt scale l) 0) 0x2E && isNumber (withoutPoint scale l))
 
 -- ─── Date ───
 

@@ -12,7 +12,9 @@ use Rattle.ftd.specs.declared.whole.Whole.the-variants.{NoValue, Value}
 
 -- A byte is a value of a Char: any without an enumeration; with one, those that it lists and 0.
 unfoldable pub charFits : ℕ → ℕ → Bool
-charFits kind b = cond (eqb kind charKind) true (cond (ltb kind firstListed) false (cond (leb kind lastListed) (isListed kind b) false))
+charFits kind b =
+    cond (eqb kind charKind) true
+    (cond (ltb kind firstListed) false (cond (leb kind lastListed) (isListed kind b) false))
 
 unfoldable pub charValue : ℕ → List ℕ → Whole
 charValue kind l = cond (eqb (length l) 1 && charFits kind (getD l 0 0)) (Value (getD l 0 0)) NoValue

@@ -10,7 +10,8 @@ use Rattle.ftd.specs.Tags.{goodTags}
 use Rattle.ftd.specs.Fields.{exactRun, fieldContent, packetContent}
 use Rattle.ftd.specs.Packet.{wrongBody, isSkipped, chainLetter, mostExtension}
 use Rattle.ftd.specs.declared.refusal.Refusal.{Refusal}
-use Rattle.ftd.specs.declared.refusal.Refusal.the-variants.{LongExtension, BrokenTag, BodyLength, FieldRun, TooSmall, Item}
+use Rattle.ftd.specs.declared.refusal.Refusal.the-variants.{LongExtension, BrokenTag, BodyLength, FieldRun}
+use Rattle.ftd.specs.declared.refusal.Refusal.the-variants.{TooSmall, Item}
 use Rattle.ftd.specs.declared.packet.Header.{Header}
 use Rattle.ftd.specs.declared.write.Written.{Written}
 use Rattle.ftd.specs.declared.write.Written.the-variants.{Bytes, Refused, NotPlain}
@@ -27,22 +28,24 @@ packetBytes kind extension body = frameHead kind (length extension) (length body
 -- The header of a message: version 1, TID, chain letter, series, number, field count, content length.
 unfoldable pub headerBytes : Header → ℕ → List ℕ
 headerBytes h size =
-    1 ∷ (bytes32 (h .tid) ++ (chainLetter (h .chain) ∷ (bytes16 (h .series) ++ (bytes32 (h .number) ++ (bytes16 (h .fields) ++ bytes16 size)))))
+    1 ∷ (bytes32
+    (h .tid) ++ (chainLetter
+    (h .chain) ∷ (bytes16 (h .series) ++ (bytes32 (h .number) ++ (bytes16 (h .fields) ++ bytes16 size)))))
 
 unfoldable pub messageBytes : Header → List ℕ → List ℕ → List ℕ
 messageBytes h extension content = packetBytes 0x01 extension (headerBytes h (length content) ++ content)
 
 -- ─── What is refused: what the reader would refuse of the result ───
 
--- Nothing is wrong with the values; a refusal of the table; or they are no packet of the kind that is to be written, which the
--- table has no number for.
+-- Nothing is wrong with the values; a refusal of the table; or they are no packet of the kind that is to be written,
+-- which the table has no number for.
 pub data Verdict : Type 0 where
   fine : Verdict
   refuse : Refusal → Verdict
   other : Written → Verdict
 
--- Link and skipped packets. A body of type 0x01 makes none of both: it is 3, or with 16 to 4,096 bytes a message packet, which is written
--- otherwise; and a body above 65,535 has no length of two bytes.
+-- Link and skipped packets. A body of type 0x01 makes none of both: it is 3, or with 16 to 4,096 bytes a message
+-- packet, which is written otherwise; and a body above 65,535 has no length of two bytes.
 unfoldable pub isPlain : ℕ → ℕ → Bool
 isPlain kind body = not (ltb 65535 body) && (not (eqb kind 0x01) || eqb body 0)
 

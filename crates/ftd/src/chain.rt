@@ -59,8 +59,10 @@ pub struct Cut {
 
 // A message packet with the tags of an end, at a place of the output.
 fn put_tagged(out: &mut [u8], to: usize, h: Header, date: TradeDate, content: &[u8])
-    requires { ⌜ (to + (4 + length (extensionBytes (tagsFor date)) + (16 + length (now content))) ≤ length (now out)) × (length (now content) ≤ packetContent) ⌝ }
-    ensures { λ _. ⌜ now (out .exit) ≡ put (now (out .entry)) to (messageBytes h (extensionBytes (tagsFor date)) (now (content .entry))) ⌝ }
+    requires { ⌜ (to + (4 + length (extensionBytes (tagsFor date)) + (16 + length (now content))) ≤ length (now out))
+        × (length (now content) ≤ packetContent) ⌝ }
+    ensures { λ _. ⌜ now (out .exit) ≡ put (now (out .entry)) to
+        (messageBytes h (extensionBytes (tagsFor date)) (now (content .entry))) ⌝ }
 {
     let n = tags_len(date);
     put_head(out, to, n, h, content.len());
@@ -121,8 +123,10 @@ fn put_piece(
     at: usize,
     c: Cut,
 )
-    requires { ⌜ NextPiece (now content) at c × (to + (4 + length (extensionBytes (tagsFor (m .date))) + (16 + (c .end - at))) ≤ length (now out)) ⌝ }
-    ensures { λ _. ⌜ now (out .exit) ≡ put (now (out .entry)) to (packetFor m (chainAt first last) (pieceAt (now (content .entry)) at c)) ⌝ }
+    requires { ⌜ NextPiece (now content) at c
+        × (to + (4 + length (extensionBytes (tagsFor (m .date))) + (16 + (c .end - at))) ≤ length (now out)) ⌝ }
+    ensures { λ _. ⌜ now (out .exit) ≡ put (now (out .entry)) to
+        (packetFor m (chainAt first last) (pieceAt (now (content .entry)) at c)) ⌝ }
 {
     let date = m.date;
     let end = c.end;
@@ -136,8 +140,8 @@ fn put_piece(
     put_tagged(out, to, h, date, &content[at..end]);
 }
 
-// How many packets a message takes, and how many bytes in all, with tags of so many bytes; refused where its content is not whole
-// fields. One walk: where no field is taken though bytes are left, one is broken or too long.
+// How many packets a message takes, and how many bytes in all, with tags of so many bytes; refused where its content is
+// not whole fields. One walk: where no field is taken though bytes are left, one is broken or too long.
 fn measure(content: &[u8], tags: usize) -> ChainSize
     requires { ⌜ (length (now content) ≤ mostContent) × (tags ≤ 6) ⌝ }
     ensures { λ r. ⌜ r ≡ measureOf tags (now (content .entry)) ⌝ }
@@ -163,8 +167,9 @@ fn measure(content: &[u8], tags: usize) -> ChainSize
     }
 }
 
-// The packets from a place in the content on, at a place of the output: how far they reach, or 0 where the content is not whole fields.
-// One walk finds the pieces down to the last, at most 17 (ChainLaws, `few`); only then, if all fit, they are put, the last one first.
+// The packets from a place in the content on, at a place of the output: how far they reach, or 0 where the content is
+// not whole fields. One walk finds the pieces down to the last, at most 17 (ChainLaws, `few`); only then, if all fit,
+// they are put, the last one first.
 fn put_rest(
     out: &mut [u8],
     to: usize,
@@ -174,7 +179,8 @@ fn put_rest(
     at: usize,
     tags: usize,
 ) -> usize
-    requires { ⌜ (length (now content) ≤ mostContent) × (at ≤ length (now content)) × (to ≤ 27 * at) × (tags ≡ length (extensionBytes (tagsFor (m .date)))) × (tags ≤ 6) ⌝ }
+    requires { ⌜ (length (now content) ≤ mostContent) × (at ≤ length (now content)) × (to ≤ 27 * at)
+        × (tags ≡ length (extensionBytes (tagsFor (m .date)))) × (tags ≤ 6) ⌝ }
     ensures { λ r. ⌜ PutRest m first (now (content .entry)) at to (now (out .entry)) (now (out .exit)) r ⌝ }
 {
     let c = next_piece(content, at);
@@ -214,8 +220,10 @@ pub fn chain_size(m: Message, content: &[u8]) -> ChainSize
 
 // All packets of a message, one behind the other.
 pub fn write_chain(m: Message, content: &[u8], out: &mut [u8]) -> Written
-    ensures answer { λ r. ⌜ r ≡ writtenAnswer (chainVerdict (now (content .entry))) (joined (packetsOf m (now (content .entry)))) (now (out .entry)) ⌝ }
-    ensures output { λ _. ⌜ now (out .exit) ≡ writtenOutput (chainVerdict (now (content .entry))) (joined (packetsOf m (now (content .entry)))) (now (out .entry)) ⌝ }
+    ensures answer { λ r. ⌜ r ≡ writtenAnswer (chainVerdict (now (content .entry)))
+        (joined (packetsOf m (now (content .entry)))) (now (out .entry)) ⌝ }
+    ensures output { λ _. ⌜ now (out .exit) ≡ writtenOutput (chainVerdict (now (content .entry)))
+        (joined (packetsOf m (now (content .entry)))) (now (out .entry)) ⌝ }
 {
     let date = m.date;
     if MOST_CONTENT < content.len() {
@@ -254,8 +262,10 @@ fn find_piece(content: &[u8], i: usize) -> PiecePlace
 
 // Packet i of a message, counted from 0.
 pub fn write_packet(m: Message, content: &[u8], i: usize, out: &mut [u8]) -> Written
-    ensures answer { λ r. ⌜ r ≡ writtenAnswer (placeVerdict m (now (content .entry)) i) (getD (packetsOf m (now (content .entry))) i []) (now (out .entry)) ⌝ }
-    ensures output { λ _. ⌜ now (out .exit) ≡ writtenOutput (placeVerdict m (now (content .entry)) i) (getD (packetsOf m (now (content .entry))) i []) (now (out .entry)) ⌝ }
+    ensures answer { λ r. ⌜ r ≡ writtenAnswer (placeVerdict m (now (content .entry)) i)
+        (getD (packetsOf m (now (content .entry))) i []) (now (out .entry)) ⌝ }
+    ensures output { λ _. ⌜ now (out .exit) ≡ writtenOutput (placeVerdict m (now (content .entry)) i)
+        (getD (packetsOf m (now (content .entry))) i []) (now (out .entry)) ⌝ }
 {
     let date = m.date;
     if is_shaped(content, MOST_CONTENT) {

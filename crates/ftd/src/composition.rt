@@ -7,7 +7,8 @@ use crate::bytes::number16;
 use crate::bytes::size8;
 use crate::fields::count_field;
 
-// The lines of Appendix E in columns, in the paper's order: TID, direction (0 up, 1 down), FID, least and most count (0: unlimited).
+// The lines of Appendix E in columns, in the paper's order: TID, direction (0 up, 1 down), FID, least and most count
+// (0: unlimited).
 const TID: [u16; 82] = [
     0x0001, // Error down
     0x0001, // Error down
@@ -495,15 +496,16 @@ fn all_hold(tid: u32, direction: u8, content: &[u8]) -> bool
     true
 }
 
-// Row 10: each field that Appendix E lists for the message occurs as often as listed. The content is walked once for each line of
-// the message, at most three times.
+// Row 10: each field that Appendix E lists for the message occurs as often as listed. The content is walked once for
+// each line of the message, at most three times.
 pub fn is_composed(tid: u32, direction: Direction, content: &[u8]) -> bool
     ensures { λ r. ⌜ r ≡ composed tid direction (now (content .entry)) ⌝ }
 {
     all_hold(tid, direction_number(direction), content)
 }
 
-// The rule of the table, as a promise: each line's field is in Appendix D, its TID in Appendix A, no field twice for a message.
+// The rule of the table, as a promise: each line's field is in Appendix D, its TID in Appendix A, no field twice for a
+// message.
 pub fn keeps_composition_rule()
     ensures { λ _. ⌜ CompositionRule ⌝ }
 {}

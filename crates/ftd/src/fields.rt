@@ -1,10 +1,12 @@
-// The content of a message: a run of data fields, each FID 4 bytes, length 2, and that many bytes (4.2), read and written.
+// The content of a message: a run of data fields, each FID 4 bytes, length 2, and that many bytes (4.2), read and
+// written.
 ghost use mathlib.Core.Path.{_≡_};
 ghost use Prim.Native.Nat.{_+_, _-_, _<_, _≤_};
 ghost use lib.ListN.{length, drop};
 ghost use Rattle.ftd.specs.Bytes.{put};
 ghost use Rattle.ftd.specs.Runs.{front};
-ghost use Rattle.ftd.specs.Fields.{field, exactRun, fieldPlaceOf, FieldInside, fieldWith, shaped, countOf, oneIf, firstOf};
+ghost use Rattle.ftd.specs.Fields.{field, exactRun, fieldPlaceOf, FieldInside, fieldWith, shaped, countOf, oneIf};
+ghost use Rattle.ftd.specs.Fields.{firstOf};
 ghost use Rattle.ftd.specs.Fields.Laws.{FieldLaws};
 ghost use Rattle.ftd.specs.Write.{fieldVerdict, writtenAnswer, writtenOutput};
 use crate::bytes::be16;
@@ -170,8 +172,10 @@ fn put_field(out: &mut [u8], to: usize, fid: u32, bytes: &[u8])
 
 // A field with a FID and bytes, at the start of the output.
 pub fn write_field(fid: u32, bytes: &[u8], out: &mut [u8]) -> Written
-    ensures answer { λ r. ⌜ r ≡ writtenAnswer (fieldVerdict (now (bytes .entry))) (fieldWith fid (now (bytes .entry))) (now (out .entry)) ⌝ }
-    ensures output { λ _. ⌜ now (out .exit) ≡ writtenOutput (fieldVerdict (now (bytes .entry))) (fieldWith fid (now (bytes .entry))) (now (out .entry)) ⌝ }
+    ensures answer { λ r. ⌜ r ≡ writtenAnswer (fieldVerdict (now (bytes .entry))) (fieldWith fid (now (bytes .entry)))
+        (now (out .entry)) ⌝ }
+    ensures output { λ _. ⌜ now (out .exit) ≡ writtenOutput (fieldVerdict (now (bytes .entry)))
+        (fieldWith fid (now (bytes .entry))) (now (out .entry)) ⌝ }
 {
     if FIELD_CONTENT < bytes.len() {
         return Written::Refused(Refusal::FieldRun);

@@ -30,8 +30,8 @@ use crate::whole::write_int;
 use crate::whole::write_word;
 use crate::write::Written;
 
-// The value of an item; or its bytes are none; or there is no such item, or it is not there whole. Of a text, trailing spaces
-// aside, the place within the field's bytes.
+// The value of an item; or its bytes are none; or there is no such item, or it is not there whole. Of a text, trailing
+// spaces aside, the place within the field's bytes.
 pub enum FieldItem {
     NoItem,
     NoValue,
@@ -140,11 +140,13 @@ fn of_kind(kind: u8, value: FieldItem) -> bool
     }
 }
 
-// A value as item i of a field, at the start of the output; of a text, the bytes given beside it. What does not fit the item is
-// refused with 9, and so is a value where there is no such item.
+// A value as item i of a field, at the start of the output; of a text, the bytes given beside it. What does not fit the
+// item is refused with 9, and so is a value where there is no such item.
 pub fn write_item(fid: u32, i: usize, value: FieldItem, text: &[u8], out: &mut [u8]) -> Written
-    ensures answer { λ r. ⌜ r ≡ writtenAnswer (fitVerdict (itemFits fid i value (now (text .entry)))) (itemWritten fid i value (now (text .entry))) (now (out .entry)) ⌝ }
-    ensures output { λ _. ⌜ now (out .exit) ≡ writtenOutput (fitVerdict (itemFits fid i value (now (text .entry)))) (itemWritten fid i value (now (text .entry))) (now (out .entry)) ⌝ }
+    ensures answer { λ r. ⌜ r ≡ writtenAnswer (fitVerdict (itemFits fid i value (now (text .entry))))
+        (itemWritten fid i value (now (text .entry))) (now (out .entry)) ⌝ }
+    ensures output { λ _. ⌜ now (out .exit) ≡ writtenOutput (fitVerdict (itemFits fid i value (now (text .entry))))
+        (itemWritten fid i value (now (text .entry))) (now (out .entry)) ⌝ }
 {
     match item_place(fid, i) {
         ItemPlace::NoItem => Written::Refused(Refusal::Item),

@@ -69,8 +69,10 @@ fn item_good(
     pos: usize,
     end: usize,
 ) -> bool
-    requires { ⌜ (now kinds ≡ kindColumn) × (now widths ≡ widthColumn) × (now scales ≡ scaleColumn) × (row < 379) × (pos ≤ end) × (end ≤ length (now content)) ⌝ }
-    ensures { λ r. ⌜ (r ≡ itemGood (rowAt row) (drop pos (take end (now (content .entry))))) × (r ≡ true → pos + rowAt row .width ≤ end) ⌝ }
+    requires { ⌜ (now kinds ≡ kindColumn) × (now widths ≡ widthColumn) × (now scales ≡ scaleColumn) × (row < 379)
+        × (pos ≤ end) × (end ≤ length (now content)) ⌝ }
+    ensures { λ r. ⌜ (r ≡ itemGood (rowAt row) (drop pos (take end (now (content .entry)))))
+        × (r ≡ true → pos + rowAt row .width ≤ end) ⌝ }
 {
     let width = width_at(widths, row);
     if end - pos < width {

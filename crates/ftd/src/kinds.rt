@@ -2,7 +2,8 @@
 ghost use mathlib.Core.Path.{_≡_};
 ghost use Rattle.ftd.specs.Table.{kinds};
 
-// Table 6: Char without an enumeration, Word, Int, String, Number, Float; and Date, which is FTDDate of Appendix B alone.
+// Table 6: Char without an enumeration, Word, Int, String, Number, Float; and Date, which is FTDDate of Appendix B
+// alone.
 pub const CHAR: u8 = 0;
 
 pub const WORD: u8 = 1;

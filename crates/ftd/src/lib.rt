@@ -1,4 +1,5 @@
-// FTD packets (JR/T 0016-2004, 4.1 and 4.2) and typed items (Appendices A to E): read from any bytes, with nothing trusted.
+// FTD packets (JR/T 0016-2004, 4.1 and 4.2) and typed items (Appendices A to E): read from any bytes, with nothing
+// trusted.
 ghost use Rattle.ftd.specs.Demand2.{Demand2};
 
 pub mod bytes; // numbers in bytes

@@ -69,8 +69,12 @@ fn put_ending(out: &mut [u8], to: usize, ending: Ending)
 
 // A login packet of so many fields at the start of the output.
 fn put_login(out: &mut [u8], date: TradeDate, content: &[u8], ending: Ending, fields: usize)
-    requires { ⌜ (4 + length (extensionBytes (tagsFor date)) + (16 + (length (now content) + length (endingBytes ending))) ≤ length (now out)) × (length (now content) + length (endingBytes ending) ≤ packetContent) × (fields ≡ length (fieldsOf (now content ++ endingBytes ending))) × (fields < 65536) ⌝ }
-    ensures { λ _. ⌜ now (out .exit) ≡ put (now (out .entry)) 0 (loginBytes date (now (content .entry) ++ endingBytes ending)) ⌝ }
+    requires { ⌜ (4 + length
+        (extensionBytes (tagsFor date)) + (16 + (length (now content) + length (endingBytes ending))) ≤ length
+        (now out)) × (length (now content) + length (endingBytes ending) ≤ packetContent)
+        × (fields ≡ length (fieldsOf (now content ++ endingBytes ending))) × (fields < 65536) ⌝ }
+    ensures { λ _. ⌜ now (out .exit) ≡ put (now (out .entry)) 0
+        (loginBytes date (now (content .entry) ++ endingBytes ending)) ⌝ }
 {
     let n = tags_len(date);
     let size = content.len() + ending_len(ending);
@@ -87,11 +91,13 @@ fn put_login(out: &mut [u8], date: TradeDate, content: &[u8], ending: Ending, fi
     put_ending(out, 4 + n + 16 + content.len(), ending);
 }
 
-// A login packet or its answer; refused with 7 where the content is not whole fields, or more than one packet holds with what stands
-// behind it. One walk: the first piece is all of the content, or something is wrong with it.
+// A login packet or its answer; refused with 7 where the content is not whole fields, or more than one packet holds
+// with what stands behind it. One walk: the first piece is all of the content, or something is wrong with it.
 pub fn write_login(date: TradeDate, content: &[u8], ending: Ending, out: &mut [u8]) -> Written
-    ensures answer { λ r. ⌜ r ≡ writtenAnswer (loginVerdict (now (content .entry)) ending) (loginBytes date (now (content .entry) ++ endingBytes ending)) (now (out .entry)) ⌝ }
-    ensures output { λ _. ⌜ now (out .exit) ≡ writtenOutput (loginVerdict (now (content .entry)) ending) (loginBytes date (now (content .entry) ++ endingBytes ending)) (now (out .entry)) ⌝ }
+    ensures answer { λ r. ⌜ r ≡ writtenAnswer (loginVerdict (now (content .entry)) ending)
+        (loginBytes date (now (content .entry) ++ endingBytes ending)) (now (out .entry)) ⌝ }
+    ensures output { λ _. ⌜ now (out .exit) ≡ writtenOutput (loginVerdict (now (content .entry)) ending)
+        (loginBytes date (now (content .entry) ++ endingBytes ending)) (now (out .entry)) ⌝ }
 {
     let tail = ending_len(ending);
     if PACKET_CONTENT - tail < content.len() {

@@ -7,7 +7,10 @@ ghost use Rattle.ftd.specs.Bench.{Bench};
 ghost use Rattle.ftd.specs.Fields.{FieldInside};
 ghost use Rattle.ftd.specs.Packet.Laws.{ReadLaws};
 ghost use Rattle.ftd.specs.Tags.{tradeDateOf};
-ghost use Rattle.ftd.specs.Packet.{saidIn, kindOf, extensionLength, bodyLength, notOnePacket, noMessagePacket, wrongBody, isSkipped, isLetter, chainOf, chainLetter, headerOf, acceptedOf, messageOf, wholeOf, readOf, extensionOf, bearsDate, withDate, datedOf, movedBy, fieldOf, fieldBytes};
+ghost use Rattle.ftd.specs.Packet.{saidIn, kindOf, extensionLength, bodyLength, notOnePacket, noMessagePacket};
+ghost use Rattle.ftd.specs.Packet.{wrongBody, isSkipped, isLetter, chainOf, chainLetter, headerOf, acceptedOf};
+ghost use Rattle.ftd.specs.Packet.{messageOf, wholeOf, readOf, extensionOf, bearsDate, withDate, datedOf};
+ghost use Rattle.ftd.specs.Packet.{movedBy, fieldOf, fieldBytes};
 ghost use Rattle.ftd.specs.Packet.Helpers.{SaysLengths, FitsIn};
 use crate::bytes::be16;
 use crate::bytes::be32;
@@ -115,7 +118,8 @@ pub fn not_one_packet(p: &[u8]) -> bool
     true
 }
 
-// Refusal 12, of Login and Answer also: no message packet, by the first four bytes. Bytes that are not there count as 0.
+// Refusal 12, of Login and Answer also: no message packet, by the first four bytes. Bytes that are not there count as
+// 0.
 pub fn no_message_packet(p: &[u8]) -> bool
     ensures { λ r. ⌜ r ≡ noMessagePacket (now (p .entry)) ⌝ }
 {
@@ -295,7 +299,8 @@ fn with_date(packet: Packet, date: TradeDate) -> Dated
 
 // A packet that is there whole: skipped, refused with 2, a link packet or a message packet.
 fn read_whole(p: &[u8], kind: u8, ext: usize, body: usize) -> Dated
-    requires { ⌜ SaysLengths (now p) ext body × (kind ≡ kindOf (now p)) × (4 + ext + body ≤ length (now p)) × (wrongBody kind body ≡ false) ⌝ }
+    requires { ⌜ SaysLengths (now p) ext body × (kind ≡ kindOf (now p)) × (4 + ext + body ≤ length (now p))
+        × (wrongBody kind body ≡ false) ⌝ }
     ensures { λ r. ⌜ r ≡ withDate (wholeOf (now (p .entry))) (tradeDateOf (extensionOf (now (p .entry)))) ⌝ }
 {
     let at = 4 + ext;
@@ -332,7 +337,8 @@ fn read_whole(p: &[u8], kind: u8, ext: usize, body: usize) -> Dated
     }
 }
 
-// What the bytes from the front on are, with the trade date of a link packet or a message packet: the tags are walked once.
+// What the bytes from the front on are, with the trade date of a link packet or a message packet: the tags are walked
+// once.
 pub fn read_dated(p: &[u8]) -> Dated
     ensures { λ r. ⌜ r ≡ datedOf (now (p .entry)) ⌝ }
 {

@@ -53,8 +53,8 @@ pub fn item_place(fid: u32, i: usize) -> ItemPlace
     ItemPlace::NoItem
 }
 
-// The bytes of item i, a part of the lent field (its bytes without FID and length); none where there is no such item, or it is
-// not there whole.
+// The bytes of item i, a part of the lent field (its bytes without FID and length); none where there is no such item,
+// or it is not there whole.
 pub fn item(field: &[u8], fid: u32, i: usize) -> &[u8]
     ensures { λ r. ⌜ now r ≡ itemBytes (now (field .entry)) fid i ⌝ }
 {

@@ -27,7 +27,8 @@ pub enum Signed {
 // The number that the digits of a part make behind those of `start`.
 fn digits(start: u64, s: &[u8], from: usize, to: usize) -> u64
     requires { ⌜ (from ≤ to) × (to ≤ length (now s)) × ((start + 1) * pow10 (to - from) ≤ pow10 18) ⌝ }
-    ensures { λ r. ⌜ (r ≡ digitsOf start (drop from (take to (now (s .entry))))) × (r + 1 ≤ (start + 1) * pow10 (to - from)) ⌝ }
+    ensures { λ r. ⌜ (r ≡ digitsOf start (drop from (take to (now (s .entry)))))
+        × (r + 1 ≤ (start + 1) * pow10 (to - from)) ⌝ }
 {
     let mut n = start;
     let mut i = from;
@@ -171,8 +172,10 @@ fn number_fits(width: usize, negative: bool, units: u64) -> bool
 
 // A value as a Number of a width.
 pub fn write_number(out: &mut [u8], width: usize, negative: bool, units: u64) -> Written
-    ensures answer { λ r. ⌜ r ≡ writtenAnswer (fitVerdict (numberFits width negative units)) (numberBytes width negative units) (now (out .entry)) ⌝ }
-    ensures output { λ _. ⌜ now (out .exit) ≡ writtenOutput (fitVerdict (numberFits width negative units)) (numberBytes width negative units) (now (out .entry)) ⌝ }
+    ensures answer { λ r. ⌜ r ≡ writtenAnswer (fitVerdict (numberFits width negative units)) (numberBytes width negative units)
+        (now (out .entry)) ⌝ }
+    ensures output { λ _. ⌜ now (out .exit) ≡ writtenOutput (fitVerdict (numberFits width negative units))
+        (numberBytes width negative units) (now (out .entry)) ⌝ }
 {
     if number_fits(width, negative, units) {
         if out.len() < width {
@@ -210,8 +213,10 @@ fn float_fits(scale: u8, width: usize, negative: bool, units: u64) -> bool
 
 // A value as a Float of a width, with that many decimals.
 pub fn write_float(out: &mut [u8], scale: u8, width: usize, negative: bool, units: u64) -> Written
-    ensures answer { λ r. ⌜ r ≡ writtenAnswer (fitVerdict (floatFits scale width negative units)) (floatBytes scale width negative units) (now (out .entry)) ⌝ }
-    ensures output { λ _. ⌜ now (out .exit) ≡ writtenOutput (fitVerdict (floatFits scale width negative units)) (floatBytes scale width negative units) (now (out .entry)) ⌝ }
+    ensures answer { λ r. ⌜ r ≡ writtenAnswer (fitVerdict (floatFits scale width negative units))
+        (floatBytes scale width negative units) (now (out .entry)) ⌝ }
+    ensures output { λ _. ⌜ now (out .exit) ≡ writtenOutput (fitVerdict (floatFits scale width negative units))
+        (floatBytes scale width negative units) (now (out .entry)) ⌝ }
 {
     if float_fits(scale, width, negative, units) {
         if out.len() < width {

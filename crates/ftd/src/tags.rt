@@ -3,7 +3,8 @@ ghost use mathlib.Core.Path.{_≡_};
 ghost use Prim.Native.Nat.{_+_, _-_, _≤_};
 ghost use lib.ListN.{length, drop};
 ghost use Rattle.ftd.specs.Runs.{front};
-ghost use Rattle.ftd.specs.Tags.{tag, lengthRight, countDate, goodTags, tagRunOf, tagPlace, TagInside, tradeDateOf, keepAliveOf, tagsFor, extensionBytes};
+ghost use Rattle.ftd.specs.Tags.{tag, lengthRight, countDate, goodTags, tagRunOf, tagPlace, TagInside};
+ghost use Rattle.ftd.specs.Tags.{tradeDateOf, keepAliveOf, tagsFor, extensionBytes};
 ghost use Rattle.ftd.specs.Tags.Helpers.{KnownRow, datePlace};
 ghost use Rattle.ftd.specs.Bytes.{put};
 use crate::bytes::be32;
@@ -99,7 +100,8 @@ fn date_place(kind: u8, place: usize, at: usize) -> usize
     place
 }
 
-// The extension check, and the trade date, in one walk: tags end with the extension, known ones have their lengths, 0x05 stands once at most.
+// The extension check, and the trade date, in one walk: tags end with the extension, known ones have their lengths,
+// 0x05 stands once at most.
 pub fn read_tags(extension: &[u8]) -> TagRun
     ensures { λ r. ⌜ r ≡ tagRunOf (now (extension .entry)) ⌝ }
 {

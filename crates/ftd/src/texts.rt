@@ -79,8 +79,10 @@ fn put_text(out: &mut [u8], width: usize, value: &[u8])
 
 // A value as a String of a width.
 pub fn write_text(out: &mut [u8], width: usize, value: &[u8]) -> Written
-    ensures answer { λ r. ⌜ r ≡ writtenAnswer (fitVerdict (textFits width (now (value .entry)))) (textBytes width (now (value .entry))) (now (out .entry)) ⌝ }
-    ensures output { λ _. ⌜ now (out .exit) ≡ writtenOutput (fitVerdict (textFits width (now (value .entry)))) (textBytes width (now (value .entry))) (now (out .entry)) ⌝ }
+    ensures answer { λ r. ⌜ r ≡ writtenAnswer (fitVerdict (textFits width (now (value .entry))))
+        (textBytes width (now (value .entry))) (now (out .entry)) ⌝ }
+    ensures output { λ _. ⌜ now (out .exit) ≡ writtenOutput (fitVerdict (textFits width (now (value .entry))))
+        (textBytes width (now (value .entry))) (now (out .entry)) ⌝ }
 {
     if text_fits(width, value) {
         if out.len() < width {

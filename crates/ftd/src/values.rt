@@ -5,7 +5,8 @@ ghost use mathlib.Core.Path.{_≡_};
 ghost use Prim.Native.Nat.{_+_, _-_, _<_, _≤_};
 ghost use lib.ListN.{length, take, drop};
 ghost use Rattle.ftd.specs.Table.{firstListed, lastListed};
-ghost use Rattle.ftd.specs.Values.{every, isListed, isNumber, isFloat, digitOf, twoDigits, rightDay, isDate, isValue};
+ghost use Rattle.ftd.specs.Values.{every, isListed, isNumber, isFloat, digitOf, twoDigits, rightDay, isDate};
+ghost use Rattle.ftd.specs.Values.{isValue};
 ghost use Rattle.ftd.specs.Values.Helpers.{inClass};
 use crate::bytes::size8;
 use crate::kinds::ACTION_FLAG;
@@ -18,8 +19,8 @@ use crate::kinds::ORDER_TYPE;
 use crate::kinds::STRING;
 use crate::kinds::WORD;
 
-// The values of the enumerations of Appendix B by kind, from the first to the last, with 0: eight entries for each, 1 where
-// the value is listed.
+// The values of the enumerations of Appendix B by kind, from the first to the last, with 0: eight entries for each, 1
+// where the value is listed.
 const LISTED: [u8; 80] = [
     1, // ACTION_FLAG: 0 1 2
     1,

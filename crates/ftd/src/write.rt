@@ -1,4 +1,5 @@
-// Packets written into a lent output: the values as the reader gives them, refused as the reader would refuse the result.
+// Packets written into a lent output: the values as the reader gives them, refused as the reader would refuse the
+// result.
 ghost use mathlib.Core.Bool.{_||_};
 ghost use mathlib.Core.Path.{_≡_};
 ghost use Prim.Native.Nat.{_+_, _<_, _≤_};
@@ -7,7 +8,8 @@ ghost use Rattle.ftd.specs.Bytes.{put};
 ghost use Rattle.ftd.specs.Packet.{isSkipped};
 ghost use Rattle.ftd.specs.Tags.{goodTags};
 ghost use Rattle.ftd.specs.Write.Laws.{WriteLaws};
-ghost use Rattle.ftd.specs.Write.{frameHead, packetBytes, headerBytes, messageBytes, isPlain, plainVerdict, messageVerdict, writtenAnswer, writtenOutput};
+ghost use Rattle.ftd.specs.Write.{frameHead, packetBytes, headerBytes, messageBytes, isPlain, plainVerdict};
+ghost use Rattle.ftd.specs.Write.{messageVerdict, writtenAnswer, writtenOutput};
 ghost use Rattle.ftd.specs.Fields.{packetContent};
 use crate::bytes::copy_at;
 use crate::bytes::put8;
@@ -59,11 +61,12 @@ fn put_header(out: &mut [u8], to: usize, h: Header, size: usize)
     put16(out, to + 14, (size % 65536) as u16);
 }
 
-// The first four bytes of a message packet and its header, with room for an extension of so many bytes between them. Every message
-// packet is laid out by it; whoever calls it puts extension and content.
+// The first four bytes of a message packet and its header, with room for an extension of so many bytes between them.
+// Every message packet is laid out by it; whoever calls it puts extension and content.
 pub(crate) fn put_head(out: &mut [u8], to: usize, ext: usize, h: Header, size: usize)
     requires { ⌜ (to + (4 + ext + 16) ≤ length (now out)) × (ext < 256) × (size ≤ packetContent) ⌝ }
-    ensures { λ _. ⌜ now (out .exit) ≡ put (put (now (out .entry)) to (frameHead 0x01 ext (16 + size))) (to + 4 + ext) (headerBytes h size) ⌝ }
+    ensures { λ _. ⌜ now (out .exit) ≡ put (put (now (out .entry)) to (frameHead 0x01 ext (16 + size))) (to + 4 + ext)
+        (headerBytes h size) ⌝ }
 {
     put_frame(out, to, 0x01, ext, 16 + size);
     put_header(out, to + 4 + ext, h, size);
@@ -84,8 +87,10 @@ fn is_plain(kind: u8, body: usize) -> bool
 
 // A packet at a place of the output.
 fn put_packet(out: &mut [u8], to: usize, kind: u8, extension: &[u8], body: &[u8])
-    requires { ⌜ (to + (4 + length (now extension) + length (now body)) ≤ length (now out)) × (length (now extension) < 256) × (length (now body) < 65536) ⌝ }
-    ensures { λ _. ⌜ now (out .exit) ≡ put (now (out .entry)) to (packetBytes kind (now (extension .entry)) (now (body .entry))) ⌝ }
+    requires { ⌜ (to + (4 + length (now extension) + length (now body)) ≤ length (now out))
+        × (length (now extension) < 256) × (length (now body) < 65536) ⌝ }
+    ensures { λ _. ⌜ now (out .exit) ≡ put (now (out .entry)) to
+        (packetBytes kind (now (extension .entry)) (now (body .entry))) ⌝ }
 {
     put_frame(out, to, kind, extension.len(), body.len());
     copy_at(out, to + 4, extension);
@@ -94,8 +99,10 @@ fn put_packet(out: &mut [u8], to: usize, kind: u8, extension: &[u8], body: &[u8]
 
 // A message packet at a place of the output.
 fn put_message(out: &mut [u8], to: usize, h: Header, extension: &[u8], content: &[u8])
-    requires { ⌜ (to + (4 + length (now extension) + (16 + length (now content))) ≤ length (now out)) × (length (now extension) < 256) × (length (now content) ≤ packetContent) ⌝ }
-    ensures { λ _. ⌜ now (out .exit) ≡ put (now (out .entry)) to (messageBytes h (now (extension .entry)) (now (content .entry))) ⌝ }
+    requires { ⌜ (to + (4 + length (now extension) + (16 + length (now content))) ≤ length (now out))
+        × (length (now extension) < 256) × (length (now content) ≤ packetContent) ⌝ }
+    ensures { λ _. ⌜ now (out .exit) ≡ put (now (out .entry)) to
+        (messageBytes h (now (extension .entry)) (now (content .entry))) ⌝ }
 {
     put_head(out, to, extension.len(), h, content.len());
     copy_at(out, to + 4, extension);
@@ -104,8 +111,10 @@ fn put_message(out: &mut [u8], to: usize, h: Header, extension: &[u8], content: 
 
 // A link packet (type 0x00 or 0x01, no body) or a skipped one (type 0x00 with a body, any other type).
 pub fn write_plain(kind: u8, extension: &[u8], body: &[u8], out: &mut [u8]) -> Written
-    ensures answer { λ r. ⌜ r ≡ writtenAnswer (plainVerdict kind (now (extension .entry)) (now (body .entry))) (packetBytes kind (now (extension .entry)) (now (body .entry))) (now (out .entry)) ⌝ }
-    ensures output { λ _. ⌜ now (out .exit) ≡ writtenOutput (plainVerdict kind (now (extension .entry)) (now (body .entry))) (packetBytes kind (now (extension .entry)) (now (body .entry))) (now (out .entry)) ⌝ }
+    ensures answer { λ r. ⌜ r ≡ writtenAnswer (plainVerdict kind (now (extension .entry)) (now (body .entry)))
+        (packetBytes kind (now (extension .entry)) (now (body .entry))) (now (out .entry)) ⌝ }
+    ensures output { λ _. ⌜ now (out .exit) ≡ writtenOutput (plainVerdict kind (now (extension .entry)) (now (body .entry)))
+        (packetBytes kind (now (extension .entry)) (now (body .entry))) (now (out .entry)) ⌝ }
 {
     if MOST_EXTENSION < extension.len() {
         return Written::Refused(Refusal::LongExtension);
@@ -139,8 +148,10 @@ fn plain_tags(kind: u8, extension: &[u8], body: usize) -> bool
 
 // A message packet.
 pub fn write_message(h: Header, extension: &[u8], content: &[u8], out: &mut [u8]) -> Written
-    ensures answer { λ r. ⌜ r ≡ writtenAnswer (messageVerdict h (now (extension .entry)) (now (content .entry))) (messageBytes h (now (extension .entry)) (now (content .entry))) (now (out .entry)) ⌝ }
-    ensures output { λ _. ⌜ now (out .exit) ≡ writtenOutput (messageVerdict h (now (extension .entry)) (now (content .entry))) (messageBytes h (now (extension .entry)) (now (content .entry))) (now (out .entry)) ⌝ }
+    ensures answer { λ r. ⌜ r ≡ writtenAnswer (messageVerdict h (now (extension .entry)) (now (content .entry)))
+        (messageBytes h (now (extension .entry)) (now (content .entry))) (now (out .entry)) ⌝ }
+    ensures output { λ _. ⌜ now (out .exit) ≡ writtenOutput (messageVerdict h (now (extension .entry)) (now (content .entry)))
+        (messageBytes h (now (extension .entry)) (now (content .entry))) (now (out .entry)) ⌝ }
 {
     if MOST_EXTENSION < extension.len() {
         return Written::Refused(Refusal::LongExtension);

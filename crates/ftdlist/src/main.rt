@@ -1,4 +1,5 @@
-// Lists the packets of standard input (01, Lister). The text of a line is the crate listing's: here is only reading and writing.
+// Lists the packets of standard input (01, Lister). The text of a line is the crate listing's: here is only reading and
+// writing.
 use libc::STDIN_FILENO;
 use libc::STDOUT_FILENO;
 use listing::Line;

@@ -1,4 +1,5 @@
--- What a caller learns from the answer of `write_line`: the line stands at the start of the buffer, and whether another one follows. Assumes nothing.
+-- What a caller learns from the answer of `write_line`: the line stands at the start of the buffer, and whether another
+-- one follows. Assumes nothing.
 use Prim.Native.Nat.{ℕ, _+_, _-_, _≤_, _<_}
 use mathlib.Core.Path.{_≡_, refl, sym, ap, _∙_}
 use mathlib.Core.List.{List, _++_}
@@ -16,7 +17,8 @@ pub record Stands (text out : List ℕ) (len : ℕ) : Type 0 where
   pub room : len ≤ length out
   pub text-is : take len out ≡ text
 
-module _ (capture : List ℕ) (more : Bool) (at : ℕ) (l out : List ℕ) (len : ℕ) (o : out ≡ outOf capture more at l) (kept : length out ≡ length l) where
+module _ (capture : List ℕ) (more : Bool) (at : ℕ) (l out : List ℕ) (len : ℕ) (o : out ≡ outOf capture more at l)
+    (kept : length out ≡ length l) where
   stands : ltb (length l) 64 ≡ false → len ≡ length (lineOf capture more at) → Stands (lineOf capture more at) out len
   unfolding outOf
   stands e n =
@@ -26,12 +28,14 @@ module _ (capture : List ℕ) (more : Bool) (at : ℕ) (l out : List ℕ) (len :
         text-is = ap (take len) w ∙ take-at (lineOf capture more at) _ len (sym n);
       }
 
-  pub last-told : Last len ≡ answerOf capture more at l → (isLast capture more at ≡ true) × Stands (lineOf capture more at) out len
+  pub last-told : Last len ≡ answerOf capture more at l
+      → (isLast capture more at ≡ true) × Stands (lineOf capture more at) out len
   unfolding answerOf
   last-told = go (ltb (length l) 64) refl (isLast capture more at) refl
     where
       go : (b : Bool) → ltb (length l) 64 ≡ b → (c : Bool) → isLast capture more at ≡ c
-          → Last len ≡ cond b TooSmall (cond c (Last (length (lineOf capture more at))) (More (length (lineOf capture more at)) (nextOf capture at)))
+          → Last len ≡ cond b TooSmall
+          (cond c (Last (length (lineOf capture more at))) (More (length (lineOf capture more at)) (nextOf capture at)))
           → (isLast capture more at ≡ true) × Stands (lineOf capture more at) out len
       go true e c f p = absurd (let z : _≡_ {A = ℕ} 0 1 = cc in omega arith)
       go false e true f p = (f, stands e (cc))
@@ -43,7 +47,8 @@ module _ (capture : List ℕ) (more : Bool) (at : ℕ) (l out : List ℕ) (len :
   more-told next = go (ltb (length l) 64) refl (isLast capture more at) refl
     where
       go : (b : Bool) → ltb (length l) 64 ≡ b → (c : Bool) → isLast capture more at ≡ c
-          → More len next ≡ cond b TooSmall (cond c (Last (length (lineOf capture more at))) (More (length (lineOf capture more at)) (nextOf capture at)))
+          → More len next ≡ cond b TooSmall
+          (cond c (Last (length (lineOf capture more at))) (More (length (lineOf capture more at)) (nextOf capture at)))
           → (isLast capture more at ≡ false) × (next ≡ nextOf capture at) × Stands (lineOf capture more at) out len
       go true e c f p = absurd (let z : _≡_ {A = ℕ} 0 1 = cc in omega arith)
       go false e true f p = absurd (let z : _≡_ {A = ℕ} 0 1 = cc in omega arith)

@@ -20,11 +20,13 @@ use Rattle.listing.proofs.Whole.{There, there}
 abbrev pub Right : List ℕ → Bool → ℕ → List ℕ → Line → List ℕ → Type 0
 Right capture more at l answer out = (answer ≡ answerOf capture more at l) × (out ≡ outOf capture more at l)
 
-pub too-small : (capture : List ℕ) (more : Bool) (at : ℕ) (l : List ℕ) → length l < 64 → Right capture more at l TooSmall l
+pub too-small : (capture : List ℕ) (more : Bool) (at : ℕ) (l : List ℕ) → length l < 64
+    → Right capture more at l TooSmall l
 unfolding answerOf outOf
 too-small capture more at l h = rw (lt-ltb (length l) 64 h) (refl, refl)
 
-module _ (capture : List ℕ) (more : Bool) (at : ℕ) (l out : List ℕ) (len : ℕ) (room : 64 ≤ length l) (w : Wrote l 0 (lineOf capture more at) out len) where
+module _ (capture : List ℕ) (more : Bool) (at : ℕ) (l out : List ℕ) (len : ℕ) (room : 64 ≤ length l)
+    (w : Wrote l 0 (lineOf capture more at) out len) where
   text-out : out ≡ outOf capture more at l
   unfolding outOf
   text-out = rw (le-ltb (length l) 64 room) (w .bytes ∙ put-zero l (lineOf capture more at))
@@ -36,7 +38,8 @@ module _ (capture : List ℕ) (more : Bool) (at : ℕ) (l out : List ℕ) (len :
   unfolding answerOf
   last-line e = (rw (le-ltb (length l) 64 room, e, text-length), text-out)
 
-  pub more-line : isLast capture more at ≡ false → (next : ℕ) → next ≡ nextOf capture at → Right capture more at l (More len next) out
+  pub more-line : isLast capture more at ≡ false → (next : ℕ) → next ≡ nextOf capture at
+      → Right capture more at l (More len next) out
   unfolding answerOf
   more-line e next n = (rw (le-ltb (length l) 64 room, e, text-length, n), text-out)
 
@@ -63,7 +66,8 @@ module _ (capture : List ℕ) (at : ℕ) (inside : at < length capture) (found :
   found-is = f ∙ ap readOf (rest-is capture at)
 
   -- The next place is no further than the capture's end.
-  pub next-fits : goes ≡ true → (n : ℕ) → n ≡ saidIn (take (length capture - at) (drop at capture)) → at + n ≤ length capture
+  pub next-fits : goes ≡ true → (n : ℕ) → n ≡ saidIn (take (length capture - at) (drop at capture))
+      → at + n ≤ length capture
   next-fits e n s =
       let t : There (drop at capture) = there (drop at capture) (ap goesOn (sym found-is) ∙ sym g ∙ e) in
       omega (arith, t .most, s ∙ ap saidIn (rest-is capture at), length-drop at capture)
@@ -81,7 +85,9 @@ module _ (capture : List ℕ) (at : ℕ) (inside : at < length capture) (found :
     pub inside-last : goes ≡ false → Right capture false at l (Last len) out
     inside-last e = last-line capture false at l out len room (rw line-is at w) (last-is ∙ ap not e)
 
-    pub inside-more : goes ≡ true → (n : ℕ) → n ≡ saidIn (take (length capture - at) (drop at capture)) → Right capture false at l (More len (at + n)) out
+    pub inside-more : goes ≡ true → (n : ℕ) → n ≡ saidIn (take (length capture - at) (drop at capture))
+        → Right capture false at l (More len (at + n)) out
     unfolding nextOf
     inside-more e n s =
-        more-line capture false at l out len room (rw line-is at w) (last-is ∙ ap not e) (at + n) (ap (λ (k : ℕ). at + k) (s ∙ ap saidIn (rest-is capture at)))
+        more-line capture false at l out len room (rw line-is at w) (last-is ∙ ap not e) (at + n)
+        (ap (λ (k : ℕ). at + k) (s ∙ ap saidIn (rest-is capture at)))

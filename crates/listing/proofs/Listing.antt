@@ -1,4 +1,5 @@
--- The laws of the listing: each place is further than the one before it, so the fuel of the definition always lasts. Assumes nothing.
+-- The laws of the listing: each place is further than the one before it, so the fuel of the definition always lasts.
+-- Assumes nothing.
 use Prim.Native.Nat.{ℕ, zero, suc, _+_, _-_, _≤_, _<_}
 use mathlib.Core.Path.{_≡_, refl, sym, ap, _∙_}
 use mathlib.Core.List.{List, [], _++_, append-nil}
@@ -23,11 +24,13 @@ module _ (capture : List ℕ) (more : Bool) where
       go false = refl
 
   -- The next place lies behind this one, inside the capture or at its end.
-  pub further : (at : ℕ) → isLast capture more at ≡ false → (at < nextOf capture at) × (nextOf capture at ≤ length capture)
+  pub further : (at : ℕ) → isLast capture more at ≡ false
+      → (at < nextOf capture at) × (nextOf capture at ≤ length capture)
   unfolding isLast nextOf
   further at = go more (leb (length capture) at) refl (goesOn (readOf (drop at capture))) refl
     where
-      go : (m b : Bool) → leb (length capture) at ≡ b → (g : Bool) → goesOn (readOf (drop at capture)) ≡ g → (m || (b || not g)) ≡ false
+      go : (m b : Bool) → leb (length capture) at ≡ b → (g : Bool) → goesOn (readOf (drop at capture)) ≡ g
+          → (m || (b || not g)) ≡ false
           → (at < at + saidIn (drop at capture)) × (at + saidIn (drop at capture) ≤ length capture)
       go true b e g f h = never (sym h)
       go false true e g f h = never (sym h)
@@ -38,21 +41,25 @@ module _ (capture : List ℕ) (more : Bool) where
           let i : at < length capture = leb-false (length capture) at e in
           (omega (arith, t .least), omega (arith, t .most))
 
-  fuel : (f g at : ℕ) → length capture - at ≤ f → length capture - at ≤ g → linesIn f capture more at ≡ linesIn g capture more at
+  fuel : (f g at : ℕ) → length capture - at ≤ f → length capture - at ≤ g
+      → linesIn f capture more at ≡ linesIn g capture more at
   unfolding linesIn
   fuel zero zero at p q = refl
   fuel zero (suc g) at p q = rw (end-last at (omega arith), append-nil)
   fuel (suc f) zero at p q = rw (end-last at (omega arith), append-nil)
   fuel (suc f) (suc g) at p q = go (isLast capture more at) refl (λ n a b. fuel f g n a b)
     where
-      go : (b : Bool) → isLast capture more at ≡ b → ((n : ℕ) → length capture - n ≤ f → length capture - n ≤ g → linesIn f capture more n ≡ linesIn g capture more n)
+      go : (b : Bool) → isLast capture more at ≡ b
+          → ((n : ℕ) → length capture - n ≤ f → length capture - n ≤ g
+          → linesIn f capture more n ≡ linesIn g capture more n)
           → linesIn (suc f) capture more at ≡ linesIn (suc g) capture more at
       go true e ih = rw e
       go false e ih =
           let h = further at e in
           rw e (ap (λ (l : List ℕ). lineOf capture more at ++ l) (ih (nextOf capture at) (omega arith) (omega arith)))
 
-  pub line-and-rest : (at : ℕ) → listingFrom capture more at ≡ lineOf capture more at ++ cond (isLast capture more at) [] (listingFrom capture more (nextOf capture at))
+  pub line-and-rest : (at : ℕ) → listingFrom capture more at ≡ lineOf capture more at ++ cond (isLast capture more at)
+      [] (listingFrom capture more (nextOf capture at))
   unfolding linesIn listingFrom
   line-and-rest at = fuel (length capture) (suc (length capture)) at (omega arith) (omega arith)
 

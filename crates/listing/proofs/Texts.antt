@@ -15,7 +15,8 @@ unfolding put
 put-none l at = rw (append-nil, add-zero) (sym (take-append-drop at l))
 
 -- A text and the text right behind it are one.
-pub wrote-both : {l vs ws o₁ o₂ : List ℕ} {at e₁ e₂ : ℕ} → at ≤ length l → Wrote l at vs o₁ e₁ → Wrote o₁ e₁ ws o₂ e₂ → Wrote l at (vs ++ ws) o₂ e₂
+pub wrote-both : {l vs ws o₁ o₂ : List ℕ} {at e₁ e₂ : ℕ} → at ≤ length l → Wrote l at vs o₁ e₁ → Wrote o₁ e₁ ws o₂ e₂
+    → Wrote l at (vs ++ ws) o₂ e₂
 wrote-both {l} {vs} {ws} {o₁} {o₂} {at} {e₁} {e₂} h a b =
     record {
       bytes = b .bytes ∙ rw (a .bytes, a .place) (put-put l at vs ws h);

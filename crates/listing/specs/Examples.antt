@@ -14,7 +14,8 @@ input =
 unfoldable pub output : List ℕ
 output =
     (48 ∷ []) ++ tab ++ heart ++ newline
-    ++ (54 ∷ []) ++ tab ++ msg ++ tab ++ (48 ∷ 48 ∷ 48 ∷ 48 ∷ 50 ∷ 48 ∷ 48 ∷ 52 ∷ []) ++ tab ++ (83 ∷ []) ++ tab ++ (49 ∷ []) ++ tab ++ (49 ∷ []) ++ tab ++ (48 ∷ []) ++ newline
+    ++ (54 ∷ []) ++ tab ++ msg ++ tab ++ (48 ∷ 48 ∷ 48 ∷ 48 ∷ 50 ∷ 48 ∷ 48 ∷ 52 ∷ []) ++ tab ++ (83 ∷ []) ++ tab
+    ++ (49 ∷ []) ++ tab ++ (49 ∷ []) ++ tab ++ (48 ∷ []) ++ newline
     ++ (50 ∷ 54 ∷ []) ++ tab ++ end ++ newline
 
 pub record Examples : Type 0 where

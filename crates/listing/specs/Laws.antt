@@ -9,6 +9,7 @@ use Rattle.listing.specs.Lines.{lineWith, lineOf, isLast, nextOf, listin
 pub record Listed : Type 0 where
   -- From a place on the listing is the line there and, unless that is the last one, the listing from the next place on.
   pub step : (capture : List ℕ) (more : Bool) (at : ℕ)
-      → listingFrom capture more at ≡ lineOf capture more at ++ cond (isLast capture more at) [] (listingFrom capture more (nextOf capture at))
+      → listingFrom capture more at ≡ lineOf capture more at ++ cond (isLast capture more at) []
+      (listingFrom capture more (nextOf capture at))
   -- Where the input goes on behind the capture there is only the line `long`.
   pub alone : (capture : List ℕ) → listingOf capture true ≡ lineWith 0 long

@@ -12,7 +12,8 @@ use Rattle.ftd.specs.declared.packet.Packet.{Packet}
 use Rattle.ftd.specs.declared.packet.Packet.the-variants.{Short, Link, Skipped, Message, Refused}
 use Rattle.listing.specs.declared.Line.{Line}
 use Rattle.listing.specs.declared.Line.the-variants.{TooSmall, Last, More}
-use Rattle.listing.specs.Text.{decimalOf, hex8Of, tabbed, tab, newline, heart, link, skip, msg, end, short, refused, long}
+use Rattle.listing.specs.Text.{decimalOf, hex8Of, tabbed, tab, newline, heart, link, skip, msg, end, short}
+use Rattle.listing.specs.Text.{refused, long}
 
 -- ─── A line ───
 
@@ -39,7 +40,8 @@ abbrev pub packetText : List ℕ → Packet → List ℕ
 packetText p Short = short
 packetText p (Link kind extension) = linkText p kind (extension .start) (extension .len)
 packetText p (Skipped kind extension body) = skip
-packetText p (Message h extension content) = messageText (h .tid) (chainLetter (h .chain)) (h .series) (h .number) (h .fields)
+packetText p (Message h extension content) =
+    messageText (h .tid) (chainLetter (h .chain)) (h .series) (h .number) (h .fields)
 packetText p (Refused r) = refusedText (numberOf r)
 
 -- A line: offset, tab, the other fields, newline.
@@ -77,7 +79,8 @@ nextOf capture at = at + saidIn (drop at capture)
 unfoldable pub linesIn : ℕ → List ℕ → Bool → ℕ → List ℕ
 linesIn zero capture more at = lineOf capture more at
 linesIn (suc fuel) capture more at =
-    let others = linesIn fuel capture more (nextOf capture at) in lineOf capture more at ++ cond (isLast capture more at) [] others
+    let others =
+    linesIn fuel capture more (nextOf capture at) in lineOf capture more at ++ cond (isLast capture more at) [] others
 
 -- The lines from a place on: a packet has a byte at least, so there are no more of them than bytes.
 unfoldable pub listingFrom : List ℕ → Bool → ℕ → List ℕ

@@ -19,7 +19,8 @@ pub record Wrote (l : List ℕ) (at : ℕ) (text out : List ℕ) (end : ℕ) : T
 -- In decimal, at most `fuel` digits and one.
 unfoldable pub decimalIn : ℕ → ℕ → List ℕ
 decimalIn zero n = (48 + n) ∷ []
-decimalIn (suc fuel) n = let longer = decimalIn fuel (n / 10) ++ ((48 + n % 10) ∷ []) in cond (ltb n 10) ((48 + n) ∷ []) longer
+decimalIn (suc fuel) n =
+    let longer = decimalIn fuel (n / 10) ++ ((48 + n % 10) ∷ []) in cond (ltb n 10) ((48 + n) ∷ []) longer
 
 -- Decimal digits, with no zeros in front (01, Lister: offset, series, number, field count).
 unfoldable pub decimalOf : ℕ → List ℕ

@@ -6,7 +6,8 @@ ghost use Prim.Native.Nat.{_+_, _<_, _≤_};
 ghost use lib.ListN.{length};
 ghost use Rattle.ftd.specs.Packet.Laws.{Inside};
 ghost use Rattle.listing.specs.Text.{Wrote, decimalOf, hexDigit, hexOf, tab, tabbed};
-ghost use Rattle.listing.specs.Lines.{refusedText, startText, messageText, isHeart, linkText, packetText, lineWith, goesOn, answerOf, outOf};
+ghost use Rattle.listing.specs.Lines.{refusedText, startText, messageText, isHeart, linkText, packetText};
+ghost use Rattle.listing.specs.Lines.{lineWith, goesOn, answerOf, outOf};
 ghost use Rattle.listing.specs.Laws.{Listed};
 ghost use Rattle.listing.specs.Examples.{Examples};
 use ftd::bytes::copy_at;
@@ -18,7 +19,8 @@ use ftd::packet::said_length;
 use ftd::refusal::number;
 use ftd::tags::keep_alive;
 
-// What became of a line: too little room for it, the last one with its length, or its length and where the next packet starts.
+// What became of a line: too little room for it, the last one with its length, or its length and where the next packet
+// starts.
 pub enum Line {
     TooSmall,
     Last(usize),
@@ -118,7 +120,8 @@ fn put_message(
     fields: u16,
 ) -> usize
     requires { ⌜ at + 37 ≤ length (now out) ⌝ }
-    ensures { λ r. ⌜ Wrote (now (out .entry)) at (messageText tid letter series number fields) (now (out .exit)) r × (r ≤ at + 37) ⌝ }
+    ensures { λ r. ⌜ Wrote (now (out .entry)) at (messageText tid letter series number fields) (now (out .exit)) r
+        × (r ≤ at + 37) ⌝ }
 {
     let n = put_start(out, at, tid, letter);
     let n = put_tabbed(out, n, series as usize);
@@ -140,7 +143,8 @@ fn is_heart(p: &[u8], kind: u8, start: usize, len: usize) -> bool
 // The field of a link packet.
 fn put_link(out: &mut [u8], at: usize, p: &[u8], kind: u8, start: usize, len: usize) -> usize
     requires { ⌜ (at + 5 ≤ length (now out)) × (start + len ≤ length (now p)) ⌝ }
-    ensures { λ r. ⌜ Wrote (now (out .entry)) at (linkText (now (p .entry)) kind start len) (now (out .exit)) r × (r ≤ at + 5) ⌝ }
+    ensures { λ r. ⌜ Wrote (now (out .entry)) at (linkText (now (p .entry)) kind start len) (now (out .exit)) r
+        × (r ≤ at + 5) ⌝ }
 {
     if is_heart(p, kind, start, len) {
         return put_word(out, at, b"heart");
@@ -202,7 +206,8 @@ fn word_line(out: &mut [u8], offset: usize, word: &[u8]) -> usize
 // The line of a packet.
 fn packet_line(out: &mut [u8], offset: usize, p: &[u8], found: Packet) -> usize
     requires { ⌜ (64 ≤ length (now out)) × Inside (now p) found ⌝ }
-    ensures { λ r. ⌜ Wrote (now (out .entry)) 0 (lineWith offset (packetText (now (p .entry)) found)) (now (out .exit)) r ⌝ }
+    ensures { λ r. ⌜ Wrote (now (out .entry)) 0 (lineWith offset (packetText (now (p .entry)) found)) (now (out .exit)) r
+        ⌝ }
 {
     let n = begin_line(out, offset);
     let n = put_packet(out, n, p, found);
@@ -251,7 +256,8 @@ fn line_inside(capture: &[u8], at: usize, out: &mut [u8]) -> Line
     Line::Last(len)
 }
 
-// Writes the line at a place of a capture to the start of a buffer. `more` says that the input goes on behind the capture: then the line is `long`.
+// Writes the line at a place of a capture to the start of a buffer. `more` says that the input goes on behind the
+// capture: then the line is `long`.
 pub fn write_line(capture: &[u8], more: bool, at: usize, out: &mut [u8]) -> Line
     ensures answer { λ r. ⌜ r ≡ answerOf (now (capture .entry)) more at (now (out .entry)) ⌝ }
     ensures output { λ _. ⌜ now (out .exit) ≡ outOf (now (capture .entry)) more at (now (out .entry)) ⌝ }

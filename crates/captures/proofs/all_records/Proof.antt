@@ -1,4 +1,5 @@
--- `all_records` is safe and ends: no more differ than there are records. The measure is what is left of the million. Assumes nothing.
+-- `all_records` is safe and ends: no more differ than there are records. The measure is what is left of the million.
+-- Assumes nothing.
 use Prim.Native.Nat.{_-_, _≤_}
 use mathlib.Core.Path.{_≡_}
 use borrow.Author.Needs.{needs}
@@ -7,7 +8,8 @@ use Rattle.captures.proofs.all_records.Statement.{statement}
 use Rattle.captures.proofs.all_records.Tie as tie
 
 abbrev Inv-loop : tie.InvT-loop
-Inv-loop fd capture₀ text₀ t₀ capture text t = (65536 ≡ length capture) × (65536 ≡ length text) × (t .differ ≤ t .records)
+Inv-loop fd capture₀ text₀ t₀ capture text t =
+    (65536 ≡ length capture) × (65536 ≡ length text) × (t .differ ≤ t .records)
 
 abbrev μ-loop : tie.MeasureT-loop
 μ-loop fd capture₀ text₀ t₀ capture text t = 1000000 - t .records

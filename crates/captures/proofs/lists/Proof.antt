@@ -1,4 +1,5 @@
--- `lists` meets its contract. The loop's invariant: the text up to `to` and the lines from `at` on are the listing. The measure is what is left of the capture. Assumes nothing.
+-- `lists` meets its contract. The loop's invariant: the text up to `to` and the lines from `at` on are the listing. The
+-- measure is what is left of the capture. Assumes nothing.
 use Prim.Native.Nat.{ℕ, _-_, _≤_}
 use mathlib.Core.Path.{_≡_, refl, sym, _∙_}
 use native.Mathlib.Omega.{arith}
@@ -11,7 +12,8 @@ use Rattle.captures.proofs.lists.Statement.{statement}
 use Rattle.captures.proofs.lists.Tie as tie
 
 abbrev Inv-loop : tie.InvT-loop
-Inv-loop capture more text out₀ at₀ to₀ out at to = (64 ≡ length out) × (to ≤ length text) × SoFar capture more text at to
+Inv-loop capture more text out₀ at₀ to₀ out at to =
+    (64 ≡ length out) × (to ≤ length text) × SoFar capture more text at to
 
 abbrev μ-loop : tie.MeasureT-loop
 μ-loop capture more text out₀ at₀ to₀ out at to = length capture - at
@@ -39,7 +41,9 @@ array-share-prefix-out c =
     let a = c .before .before .before .before .before .before .before .before .before .args in
     let l = c .before .before .before .before .before .before .loop in
     let w = c .before .before .before .before .write-line in
-    let t = last-told (a .capture .now) (a .more) (l .at) (l .out) _ _ (w .ensures .1) (omega arith) (sym (c .before .len .given .1) ∙ w .ensures .0) in
+    let t =
+    last-told (a .capture .now) (a .more) (l .at) (l .out) _ _ (w .ensures .1) (omega arith)
+    (sym (c .before .len .given .1) ∙ w .ensures .0) in
     t .1 .room
 
 slice-aggregate-same : tie.Need-slice-aggregate-same Inv-loop μ-loop
@@ -47,7 +51,9 @@ slice-aggregate-same c =
     let a = c .before .before .before .before .before .before .before .before .before .before .args in
     let l = c .before .before .before .before .before .before .before .loop in
     let w = c .before .before .before .before .before .write-line in
-    let t = last-told (a .capture .now) (a .more) (l .at) (l .out) _ _ (w .ensures .1) (omega arith) (sym (c .before .before .len .given .1) ∙ w .ensures .0) in
+    let t =
+    last-told (a .capture .now) (a .more) (l .at) (l .out) _ _ (w .ensures .1) (omega arith)
+    (sym (c .before .before .len .given .1) ∙ w .ensures .0) in
     sym (length-take-le _ _ (t .1 .room))
 
 sub-same : tie.Need-sub-same Inv-loop μ-loop
@@ -67,8 +73,11 @@ returns-2 c =
     let a = c .before .before .before .before .before .before .before .before .before .before .before .before .args in
     let l = c .before .before .before .before .before .before .before .before .before .loop in
     let w = c .before .before .before .before .before .before .before .write-line in
-    let t = last-told (a .capture .now) (a .more) (l .at) (l .out) _ _ (w .ensures .1) (omega arith) (sym (c .before .before .before .before .len .given .1) ∙ w .ensures .0) in
-    λ e. last-same (a .capture .now) (a .more) (a .text .now) (l .at) (l .to) _ (l .inv .2) (t .1 .text-is) (t .0) (c .same .ensures .0 e)
+    let t =
+    last-told (a .capture .now) (a .more) (l .at) (l .out) _ _ (w .ensures .1) (omega arith)
+    (sym (c .before .before .before .before .len .given .1) ∙ w .ensures .0) in
+    λ e. last-same (a .capture .now) (a .more) (a .text .now) (l .at) (l .to) _ (l .inv .2) (t .1 .text-is) (t .0)
+    (c .same .ensures .0 e)
 
 enum-known-len-2 : tie.Need-enum-known-len-2 Inv-loop μ-loop
 enum-known-len-2 c = search needs
@@ -84,7 +93,9 @@ array-share-prefix-out-2 c =
     let a = c .before .before .before .before .before .before .before .before .before .before .args in
     let l = c .before .before .before .before .before .before .before .loop in
     let w = c .before .before .before .before .before .write-line in
-    let t = more-told (a .capture .now) (a .more) (l .at) (l .out) _ _ (w .ensures .1) (omega arith) _ (sym (c .before .before .len2 .given .1) ∙ w .ensures .0) in
+    let t =
+    more-told (a .capture .now) (a .more) (l .at) (l .out) _ _ (w .ensures .1) (omega arith) _
+    (sym (c .before .before .len2 .given .1) ∙ w .ensures .0) in
     t .2 .room
 
 slice-aggregate-same-2 : tie.Need-slice-aggregate-same-2 Inv-loop μ-loop
@@ -92,7 +103,9 @@ slice-aggregate-same-2 c =
     let a = c .before .before .before .before .before .before .before .before .before .before .before .args in
     let l = c .before .before .before .before .before .before .before .before .loop in
     let w = c .before .before .before .before .before .before .write-line in
-    let t = more-told (a .capture .now) (a .more) (l .at) (l .out) _ _ (w .ensures .1) (omega arith) _ (sym (c .before .before .before .len2 .given .1) ∙ w .ensures .0) in
+    let t =
+    more-told (a .capture .now) (a .more) (l .at) (l .out) _ _ (w .ensures .1) (omega arith) _
+    (sym (c .before .before .before .len2 .given .1) ∙ w .ensures .0) in
     sym (length-take-le _ _ (t .2 .room))
 
 add-same : tie.Need-add-same Inv-loop μ-loop
@@ -115,19 +128,31 @@ add-to c = search needs
 
 loop-less : tie.Need-loop-less Inv-loop μ-loop
 loop-less c =
-    let a = c .before .before .before .before .before .before .before .before .before .before .before .before .before .before .args in
+    let a =
+    c .before .before .before .before .before .before .before .before .before .before .before .before .before
+    .before .args in
     let l = c .before .before .before .before .before .before .before .before .before .before .before .loop in
     let w = c .before .before .before .before .before .before .before .before .before .write-line in
-    let t = onward (a .capture .now) (a .more) (l .at) (l .out) _ _ (w .ensures .1) (omega arith) _ (sym (c .before .before .before .before .before .before .len2 .given .1) ∙ w .ensures .0) in
+    let t =
+    onward (a .capture .now) (a .more) (l .at) (l .out) _ _ (w .ensures .1) (omega arith) _
+    (sym (c .before .before .before .before .before .before .len2 .given .1) ∙ w .ensures .0) in
     omega arith
 
 loop-again : tie.Need-loop-again Inv-loop μ-loop
 loop-again c =
-    let a = c .before .before .before .before .before .before .before .before .before .before .before .before .before .before .args in
+    let a =
+    c .before .before .before .before .before .before .before .before .before .before .before .before .before
+    .before .args in
     let l = c .before .before .before .before .before .before .before .before .before .before .before .loop in
     let w = c .before .before .before .before .before .before .before .before .before .write-line in
-    let t = more-told (a .capture .now) (a .more) (l .at) (l .out) _ _ (w .ensures .1) (omega arith) _ (sym (c .before .before .before .before .before .before .len2 .given .1) ∙ w .ensures .0) in
-    (omega arith, omega arith, more-same (a .capture .now) (a .more) (a .text .now) (l .at) (l .to) _ (l .inv .2) (t .2 .text-is) (t .0) _ _ (t .1) (c .before .same2 .ensures .0 (c .if2 .taken)))
+    let t =
+    more-told (a .capture .now) (a .more) (l .at) (l .out) _ _ (w .ensures .1) (omega arith) _
+    (sym (c .before .before .before .before .before .before .len2 .given .1) ∙ w .ensures .0) in (
+      omega arith,
+      omega arith,
+      more-same (a .capture .now) (a .more) (a .text .now) (l .at) (l .to) _ (l .inv .2)
+          (t .2 .text-is) (t .0) _ _ (t .1) (c .before .same2 .ensures .0 (c .if2 .taken)),
+    )
 
 returns-4 : tie.Need-returns-4 Inv-loop μ-loop
 returns-4 c = λ e. absurd (let z : _≡_ {A = ℕ} 0 1 = cc in omega arith)

@@ -19,10 +19,21 @@ number-requires : tie.Need-number-requires
 number-requires c κs = search needs
 
 returns : tie.Need-returns
-returns c = rw (← (c .before .before .before .before .message-for .ensures), ← (c .before .before .before .chain-size .ensures), c .before .s .given .1)
+returns c =
+    rw (
+      ← (c .before .before .before .before .message-for .ensures),
+      ← (c .before .before .before .chain-size .ensures),
+      c .before .s .given .1,
+    )
 
 returns-2 : tie.Need-returns-2
-returns-2 c = rw (← (c .before .before .before .before .before .message-for .ensures), ← (c .before .before .before .before .chain-size .ensures), c .before .before .r .given .1, c .number .ensures)
+returns-2 c =
+    rw (
+      ← (c .before .before .before .before .before .message-for .ensures),
+      ← (c .before .before .before .before .chain-size .ensures),
+      c .before .before .r .given .1,
+      c .number .ensures,
+    )
 
 pub ftd-size-spec : {M : Type 1} → statement M
 ftd-size-spec =

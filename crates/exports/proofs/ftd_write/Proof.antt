@@ -16,7 +16,11 @@ same-length : tie.Need-same-length
 same-length c = search needs
 
 returns : tie.Need-returns
-returns c = rw (← (c .before .before .before .before .before .message-for .ensures)) (rw (← (c .before .before .before .write-chain .ensures .0)) (c .written .ensures), c .before .before .before .write-chain .ensures .1)
+returns c =
+    rw (← (c .before .before .before .before .before .message-for .ensures)) (
+      rw (← (c .before .before .before .write-chain .ensures .0)) (c .written .ensures),
+      c .before .before .before .write-chain .ensures .1,
+    )
 
 pub ftd-write-spec : {M : Type 1} → statement M
 ftd-write-spec =

@@ -10,10 +10,13 @@ use lib.ListN.{length}
 use lib.Dec.{ltb, leb, eqb}
 use Rattle.ftd.specs.Fields.{mostContent}
 use Rattle.ftd.specs.Bytes.{part, put}
-use Rattle.ftd.specs.Packet.{kindOf, bodyLength, headMissing, restMissing, longExtension, wrongBody, isSkipped, brokenTag, isLink, wrongVersion, wrongLetter, wrongContentLength, wrongFields, span, acceptedOf, messageOf, wholeOf, readOf, withDate, datedOf, notOnePacket}
+use Rattle.ftd.specs.Packet.{kindOf, bodyLength, headMissing, restMissing, longExtension, wrongBody, isSkipped}
+use Rattle.ftd.specs.Packet.{brokenTag, isLink, wrongVersion, wrongLetter, wrongContentLength, wrongFields, span}
+use Rattle.ftd.specs.Packet.{acceptedOf, messageOf, wholeOf, readOf, withDate, datedOf, notOnePacket}
 use Rattle.ftd.specs.Refusal.{numberOf}
 use Rattle.ftd.specs.declared.refusal.Refusal.{Refusal}
-use Rattle.ftd.specs.declared.refusal.Refusal.the-variants.{NotOnePacket, UnknownSeries, NotLoggedIn, OtherDay, OutOfLine, BrokenChain, TooSmall}
+use Rattle.ftd.specs.declared.refusal.Refusal.the-variants.{NotOnePacket, UnknownSeries, NotLoggedIn, OtherDay}
+use Rattle.ftd.specs.declared.refusal.Refusal.the-variants.{OutOfLine, BrokenChain, TooSmall}
 use Rattle.ftd.specs.declared.tags.TradeDate.{TradeDate}
 use Rattle.ftd.specs.declared.packet.Span.{Span}
 use Rattle.ftd.specs.declared.packet.Chain.{Chain}
@@ -28,8 +31,10 @@ use Rattle.flow.specs.declared.receiver.Origin.the-variants.{Packet as F
 use Rattle.flow.specs.declared.receiver.Received.{Received}
 use Rattle.flow.specs.declared.receiver.Received.the-variants.{Idle, Duplicate, Partial, Complete}
 use Rattle.flow.specs.declared.receiver.Received.the-variants.{Refused as NotTaken}
-use Rattle.flow.specs.Ends.{Wrote, wrote, mostMessages, differs, loggedIn, holding, isOpen, keptOf, liveOf, partStart, allParts}
-use Rattle.flow.specs.Receiving.{outOfLine, brokenChain, bufferShort, chainLong, advance, dropped, nextPiece, receiveWith, receiveRead, receiveOf}
+use Rattle.flow.specs.Ends.{Wrote, wrote, mostMessages, differs, loggedIn, holding, isOpen, keptOf, liveOf}
+use Rattle.flow.specs.Ends.{partStart, allParts}
+use Rattle.flow.specs.Receiving.{outOfLine, brokenChain, bufferShort, chainLong, advance, dropped, nextPiece}
+use Rattle.flow.specs.Receiving.{receiveWith, receiveRead, receiveOf}
 use Rattle.flow.proofs.common.Rows.{by-when}
 use Rattle.flow.proofs.common.Bools.{or-neither, and-both}
 
@@ -66,22 +71,28 @@ Later h = (h .chain ≡ Middle) ⊎ (h .chain ≡ Last)
 pub data Why (e : Receiver) (h : Header) (date : TradeDate) (content buffer : List ℕ) : Refusal → Type 0 where
   other-day : differs date (keptOf e (h .series) .date) ≡ true → Why e h date content buffer OtherDay
   out-of-line : outOfLine (keptOf e (h .series) .last) (h .number) ≡ true → Why e h date content buffer OutOfLine
-  broken : Next e h date → Later h → brokenChain (liveOf e (h .series)) h ≡ true → Why e h date content buffer BrokenChain
-  no-room-first : Next e h date → h .chain ≡ First → (bufferShort e buffer || chainLong 0 content) ≡ true → Why e h date content buffer TooSmall
-  no-room-later : Next e h date → Later h → Goes-on (liveOf e (h .series)) h → (bufferShort e buffer || chainLong (liveOf e (h .series) .held) content) ≡ true
+  broken : Next e h date → Later h → brokenChain (liveOf e (h .series)) h ≡ true
+      → Why e h date content buffer BrokenChain
+  no-room-first : Next e h date → h .chain ≡ First → (bufferShort e buffer || chainLong 0 content) ≡ true
+      → Why e h date content buffer TooSmall
+  no-room-later : Next e h date → Later h → Goes-on (liveOf e (h .series)) h
+      → (bufferShort e buffer || chainLong (liveOf e (h .series) .held) content) ≡ true
       → Why e h date content buffer TooSmall
 
-pub data Took (e : Receiver) (h : Header) (date : TradeDate) (at : Span) (content buffer : List ℕ) : Wrote Receiver Received → Type 0 where
+pub data Took (e : Receiver) (h : Header) (date : TradeDate) (at : Span) (content buffer : List ℕ) : Wrote Receiver
+    Received → Type 0 where
   -- Refused below 15: nothing changed.
   unknown : isOpen e (h .series) ≡ false → Took e h date at content buffer (wrote e (NotTaken UnknownSeries) buffer)
   not-in : liveOf e (h .series) .login ≡ false → Took e h date at content buffer (wrote e (NotTaken NotLoggedIn) buffer)
   -- Refused from 15 on, or again: only that series' chain is dropped.
-  refuses : (r : Refusal) → Why e h date content buffer r → Online e h date → Took e h date at content buffer (wrote (dropped e (h .series)) (NotTaken r) buffer)
+  refuses : (r : Refusal) → Why e h date content buffer r → Online e h date
+      → Took e h date at content buffer (wrote (dropped e (h .series)) (NotTaken r) buffer)
   repeats : Online e h date → differs date (keptOf e (h .series) .date) ≡ false → h .number ≤ keptOf e (h .series) .last
       → Took e h date at content buffer (wrote (dropped e (h .series)) (Duplicate (keptOf e (h .series) .last)) buffer)
   -- S handed on.
   hands-single : Next e h date → h .chain ≡ Single
-      → Took e h date at content buffer (wrote (advance e (h .series) (h .number) loggedIn) (Complete (h .number) (h .tid) FromPacket at) buffer)
+      → Took e h date at content buffer
+      (wrote (advance e (h .series) (h .number) loggedIn) (Complete (h .number) (h .tid) FromPacket at) buffer)
   -- F or C held.
   holds-first : Next e h date → h .chain ≡ First → Room e buffer 0 content
       → Took e h date at content buffer (
@@ -89,17 +100,21 @@ pub data Took (e : Receiver) (h : Header) (date : TradeDate) (at : Span) (conten
       (Partial (keptOf e (h .series) .last))
       (put buffer (partStart e (h .series) + 0) content)
       )
-  holds-middle : Next e h date → h .chain ≡ Middle → Goes-on (liveOf e (h .series)) h → Room e buffer (liveOf e (h .series) .held) content
+  holds-middle : Next e h date → h .chain ≡ Middle → Goes-on (liveOf e (h .series)) h
+      → Room e buffer (liveOf e (h .series) .held) content
       → Took e h date at content buffer (
-      wrote (advance e (h .series) (keptOf e (h .series) .last) (holding (h .tid) (liveOf e (h .series) .held + length content)))
+      wrote (advance e (h .series) (keptOf e (h .series) .last)
+      (holding (h .tid) (liveOf e (h .series) .held + length content)))
       (Partial (keptOf e (h .series) .last))
       (put buffer (partStart e (h .series) + liveOf e (h .series) .held) content)
       )
   -- L handed on, from the buffer's part.
-  hands-last : Next e h date → h .chain ≡ Last → Goes-on (liveOf e (h .series)) h → Room e buffer (liveOf e (h .series) .held) content
+  hands-last : Next e h date → h .chain ≡ Last → Goes-on (liveOf e (h .series)) h
+      → Room e buffer (liveOf e (h .series) .held) content
       → Took e h date at content buffer (
       wrote (advance e (h .series) (h .number) loggedIn)
-      (Complete (h .number) (h .tid) FromBuffer (span (partStart e (h .series)) (liveOf e (h .series) .held + length content)))
+      (Complete (h .number) (h .tid) FromBuffer
+      (span (partStart e (h .series)) (liveOf e (h .series) .held + length content)))
       (put buffer (partStart e (h .series) + liveOf e (h .series) .held) content)
       )
 
@@ -113,25 +128,34 @@ module _ (e : Receiver) (h : Header) (date : TradeDate) (at : Span) (content buf
   room : (held : ℕ) → (bufferShort e buffer || chainLong held content) ≡ false → Room e buffer held content
   room held q =
       let b = or-neither (bufferShort e buffer) (chainLong held content) q in
-      record { parts = ltb-false (length buffer) (allParts e) (b .0); chain = ltb-false mostContent (held + length content) (b .1) }
+      record {
+        parts = ltb-false (length buffer) (allParts e) (b .0);
+        chain = ltb-false mostContent
+            (held + length content) (b .1);
+      }
 
   goes-on : brokenChain (liveOf e S) h ≡ false → Goes-on (liveOf e S) h
   goes-on q =
-      let b = and-both (liveOf e S .chain) (eqb (liveOf e S .tid) (h .tid)) (not-false (liveOf e S .chain && eqb (liveOf e S .tid) (h .tid)) q) in
+      let b =
+      and-both (liveOf e S .chain) (eqb (liveOf e S .tid) (h .tid))
+      (not-false (liveOf e S .chain && eqb (liveOf e S .tid) (h .tid)) q) in
       record { chain = b .0; tid = eqb-true (liveOf e S .tid) (h .tid) (b .1) }
 
   next-taken : Next e h date → (x : Chain) → h .chain ≡ x → P (nextPiece e h at content buffer x)
   next-taken n Single q = hands-single n q
   next-taken n First q =
-      by-when P (bufferShort e buffer || chainLong 0 content) (λ b. refuses TooSmall (no-room-first n q b) (n .reached)) λ b.
+      by-when P (bufferShort e buffer || chainLong 0 content) (λ b. refuses TooSmall (no-room-first n q b) (n .reached))
+      λ b.
       holds-first n q (room 0 b)
   next-taken n Middle q =
       by-when P (brokenChain (liveOf e S) h) (λ b. refuses BrokenChain (broken n (inl q) b) (n .reached)) λ b.
-      by-when P (bufferShort e buffer || chainLong (liveOf e S .held) content) (λ c. refuses TooSmall (no-room-later n (inl q) (goes-on b) c) (n .reached)) λ c.
+      by-when P (bufferShort e buffer || chainLong (liveOf e S .held) content)
+      (λ c. refuses TooSmall (no-room-later n (inl q) (goes-on b) c) (n .reached)) λ c.
       holds-middle n q (goes-on b) (room (liveOf e S .held) c)
   next-taken n Last q =
       by-when P (brokenChain (liveOf e S) h) (λ b. refuses BrokenChain (broken n (inr q) b) (n .reached)) λ b.
-      by-when P (bufferShort e buffer || chainLong (liveOf e S .held) content) (λ c. refuses TooSmall (no-room-later n (inr q) (goes-on b) c) (n .reached)) λ c.
+      by-when P (bufferShort e buffer || chainLong (liveOf e S .held) content)
+      (λ c. refuses TooSmall (no-room-later n (inr q) (goes-on b) c) (n .reached)) λ c.
       hands-last n q (goes-on b) (room (liveOf e S .held) c)
 
   in-line : (last k : ℕ) → outOfLine last k ≡ false → leb k last ≡ false → (k ≡ last + 1) × (k ≤ 1000000)
@@ -147,10 +171,12 @@ module _ (e : Receiver) (h : Header) (date : TradeDate) (at : Span) (content buf
   receive-with =
       by-when P (not (isOpen e S)) (λ q. unknown (not-true (isOpen e S) q)) λ q.
       by-when P (not (liveOf e S .login)) (λ r. not-in (not-true (liveOf e S .login) r)) λ r.
-      let reached : Online e h date = record { open-series = not-false (isOpen e S) q; login = not-false (liveOf e S .login) r } in
+      let reached : Online e h date =
+      record { open-series = not-false (isOpen e S) q; login = not-false (liveOf e S .login) r } in
       by-when P (differs date (keptOf e S .date)) (λ a. refuses OtherDay (other-day a) reached) λ a.
       by-when P (outOfLine (keptOf e S .last) (h .number)) (λ b. refuses OutOfLine (out-of-line b) reached) λ b.
-      by-when P (leb (h .number) (keptOf e S .last)) (λ c. repeats reached a (leb-true (h .number) (keptOf e S .last) c)) λ c.
+      by-when P (leb (h .number) (keptOf e S .last))
+      (λ c. repeats reached a (leb-true (h .number) (keptOf e S .last) c)) λ c.
       let n = in-line (keptOf e S .last) (h .number) b c in
       next-taken (record { reached = reached; day = a; number = n .0; few = n .1 }) (h .chain) refl
 
@@ -186,11 +212,13 @@ read-low p =
     by-when Low (wrongContentLength p) (λ q. omega arith) λ q.
     by-when Low (wrongFields p) (λ q. omega arith) λ q. tt
 
-read-as : (e : Receiver) (p buffer : List ℕ) (x : Packet) → datedOf p .packet ≡ x → Low x → Received-as e p buffer (receiveRead e p buffer (datedOf p .date) x)
+read-as : (e : Receiver) (p buffer : List ℕ) (x : Packet) → datedOf p .packet ≡ x → Low x
+    → Received-as e p buffer (receiveRead e p buffer (datedOf p .date) x)
 read-as e p buffer Short q l = unread NotOnePacket (omega arith)
 read-as e p buffer (Link kind extension) q l = idles
 read-as e p buffer (Skipped kind extension body) q l = idles
-read-as e p buffer (Message h extension c) q l = reads h extension c q (receive-with e h (datedOf p .date) c (part p (c .start) (c .len)) buffer)
+read-as e p buffer (Message h extension c) q l =
+    reads h extension c q (receive-with e h (datedOf p .date) c (part p (c .start) (c .len)) buffer)
 read-as e p buffer (Unread r) q l = unread r l
 
 pub receive-as : (e : Receiver) (p buffer : List ℕ) → Received-as e p buffer (receiveOf e p buffer)

@@ -13,7 +13,8 @@ use Rattle.ftd.specs.Items.{wrongWidth, wrongItem}
 use Rattle.ftd.specs.Composition.{composed}
 use Rattle.ftd.specs.declared.composition.Direction.the-variants.{Down}
 use Rattle.ftd.specs.declared.refusal.Refusal.{Refusal}
-use Rattle.ftd.specs.declared.refusal.Refusal.the-variants.{FieldLength, Item, Composition, Opening, NotOnePacket, UnknownSeries, OtherDay, OutOfLine}
+use Rattle.ftd.specs.declared.refusal.Refusal.the-variants.{FieldLength, Item, Composition, Opening, NotOnePacket}
+use Rattle.ftd.specs.declared.refusal.Refusal.the-variants.{UnknownSeries, OtherDay, OutOfLine}
 use Rattle.ftd.specs.declared.tags.TradeDate.{TradeDate}
 use Rattle.ftd.specs.declared.tags.TradeDate.the-variants.{None, At}
 use Rattle.ftd.specs.declared.packet.Header.{Header}
@@ -29,7 +30,8 @@ use Rattle.flow.specs.declared.receiver.Confirmed.the-variants.{Last as 
 use Rattle.flow.specs.declared.receiver.Confirmed.the-variants.{Refused as NotIn}
 use Rattle.flow.specs.Ends.{Left, left, wrongSeries, before, loggedIn, isOpen, keptOf, withSeries}
 use Rattle.flow.specs.Serving.{noLogin, notZero}
-use Rattle.flow.specs.Receiving.{wrongEndOpening, openEndOf, wrongDay, lastAfter, confirmWith, confirmRead, confirmLoginOf}
+use Rattle.flow.specs.Receiving.{wrongEndOpening, openEndOf, wrongDay, lastAfter, confirmWith, confirmRead}
+use Rattle.flow.specs.Receiving.{confirmLoginOf}
 use Rattle.flow.proofs.common.Rows.{by-when}
 use Rattle.flow.proofs.common.Bools.{or-neither}
 use Rattle.flow.proofs.ends.ReceiverOpened.{openedWith}
@@ -55,11 +57,13 @@ pub data Confirmed-as (e : Receiver) (s : ℕ) (date : TradeDate) : Left Receive
   confirms : (d : ℕ) → date ≡ At d → isOpen e s ≡ true → before (At d) (keptOf e s .date) ≡ false
       → Confirmed-as e s date (left (withSeries e s date (lastAfter e s date) loggedIn) (In (lastAfter e s date)))
 
-right-day : (e : Receiver) (s : ℕ) (date : TradeDate) → wrongDay e s date ≡ false → (d : ℕ) × (date ≡ At d) × (before (At d) (keptOf e s .date) ≡ false)
+right-day : (e : Receiver) (s : ℕ) (date : TradeDate) → wrongDay e s date ≡ false
+    → (d : ℕ) × (date ≡ At d) × (before (At d) (keptOf e s .date) ≡ false)
 right-day e s None q = let z : _≡_ {A = ℕ} 0 1 = cc in absurd (omega arith)
 right-day e s (At d) q = (d, refl, q)
 
-confirm-with : (e : Receiver) (s : ℕ) (h : Header) (date : TradeDate) (content : List ℕ) → Confirmed-as e s date (confirmWith e s h date content)
+confirm-with : (e : Receiver) (s : ℕ) (h : Header) (date : TradeDate) (content : List ℕ)
+    → Confirmed-as e s date (confirmWith e s h date content)
 unfolding confirmWith
 confirm-with e s h date content =
     by-when P (wrongWidth content) (λ q. refuses FieldLength) λ q.
@@ -74,7 +78,8 @@ confirm-with e s h date content =
     P : Left Receiver Confirmed → Type 0
     P = Confirmed-as e s date
 
-confirm-read : (e : Receiver) (s : ℕ) (p : List ℕ) (date : TradeDate) (x : Packet) → Confirmed-as e s date (confirmRead e s p date x)
+confirm-read : (e : Receiver) (s : ℕ) (p : List ℕ) (date : TradeDate) (x : Packet)
+    → Confirmed-as e s date (confirmRead e s p date x)
 confirm-read e s p date Short = refuses NotOnePacket
 confirm-read e s p date (Link kind extension) = refuses NotOnePacket
 confirm-read e s p date (Skipped kind extension body) = refuses NotOnePacket

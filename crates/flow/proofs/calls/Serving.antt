@@ -1,5 +1,5 @@
--- What each call of the serving end does: it is refused and nothing changes, or it is taken, with all its tests passed and this effect.
--- Assumes nothing.
+-- What each call of the serving end does: it is refused and nothing changes, or it is taken, with all its tests passed
+-- and this effect. Assumes nothing.
 use Prim.Native.Nat.{ℕ, suc, _+_, _-_, _≤_, _<_}
 use native.Mathlib.Omega.{arith}
 use mathlib.Core.Path.{_≡_, refl}
@@ -17,7 +17,9 @@ use Rattle.ftd.specs.Items.{wrongWidth, wrongItem}
 use Rattle.ftd.specs.Composition.{composed}
 use Rattle.ftd.specs.Resume.{resumeOf, resumeFid}
 use Rattle.ftd.specs.declared.refusal.Refusal.{Refusal}
-use Rattle.ftd.specs.declared.refusal.Refusal.the-variants.{FieldRun, FieldLength, Item, Composition, Opening, NotOnePacket, UnknownSeries, NotLoggedIn, OtherDay, OutOfLine, TooSmall, WrongStart, DamagedLog, DayFull}
+use Rattle.ftd.specs.declared.refusal.Refusal.the-variants.{FieldRun, FieldLength, Item, Composition, Opening}
+use Rattle.ftd.specs.declared.refusal.Refusal.the-variants.{NotOnePacket, UnknownSeries, NotLoggedIn, OtherDay}
+use Rattle.ftd.specs.declared.refusal.Refusal.the-variants.{OutOfLine, TooSmall, WrongStart, DamagedLog, DayFull}
 use Rattle.ftd.specs.declared.composition.Direction.the-variants.{Up, Down}
 use Rattle.ftd.specs.declared.tags.TradeDate.{TradeDate}
 use Rattle.ftd.specs.declared.packet.Header.{Header}
@@ -38,9 +40,12 @@ use Rattle.flow.specs.declared.sender.Sent.{Sent}
 use Rattle.flow.specs.declared.sender.Sent.the-variants.{Drained}
 use Rattle.flow.specs.declared.sender.Sent.the-variants.{Wrote as Message-sent}
 use Rattle.flow.specs.declared.sender.Sent.the-variants.{Refused as NotSent}
-use Rattle.flow.specs.Ends.{Left, Wrote, left, wrote, over, mostMessages, wrongSeries, before, upTo, isServed, publishedOf, placeOf, withEntry, withNext}
+use Rattle.flow.specs.Ends.{Left, Wrote, left, wrote, over, mostMessages, wrongSeries, before, upTo, isServed}
+use Rattle.flow.specs.Ends.{publishedOf, placeOf, withEntry, withNext}
 use Rattle.flow.specs.Log.{entryBytes, logShort, entryFits, entryOf}
-use Rattle.flow.specs.Serving.{wrongDayOpening, wrongRun, noLogin, notZero, startElsewhere, startOf, wrongStart, openDayOf, publishOf, loginWith, loginRead, loginOf, noneLeft, sendBytes, sendEntry, sendOf}
+use Rattle.flow.specs.Serving.{wrongDayOpening, wrongRun, noLogin, notZero, startElsewhere, startOf, wrongStart}
+use Rattle.flow.specs.Serving.{openDayOf, publishOf, loginWith, loginRead, loginOf, noneLeft, sendBytes}
+use Rattle.flow.specs.Serving.{sendEntry, sendOf}
 use Rattle.flow.proofs.common.Bools.{or-neither}
 use Rattle.flow.proofs.common.Rows.{by-when}
 use Rattle.flow.proofs.ends.SenderOpened.{openedSender}
@@ -49,7 +54,8 @@ use Rattle.flow.proofs.ends.SenderOpened.{openedSender}
 
 pub data OpenDone (e : Sender) (date : ℕ) (ss : List ℕ) : Left Sender Opened → Type 0 where
   open-refused : (r : Refusal) → OpenDone e date ss (left e (Refused r))
-  open-taken : wrongSeries ss ≡ false → upTo date (e .day .date) ≡ false → OpenDone e date ss (left (openedSender date ss) Done)
+  open-taken : wrongSeries ss ≡ false → upTo date (e .day .date) ≡ false
+      → OpenDone e date ss (left (openedSender date ss) Done)
 
 pub open-cases : (e : Sender) (date : ℕ) (ss : List ℕ) → OpenDone e date ss (openDayOf e date ss)
 unfolding openDayOf
@@ -74,14 +80,16 @@ pub data PublishDone (e : Sender) (s tid : ℕ) (content log : List ℕ) : Wrote
   publish-refused : (r : Refusal) → PublishDone e s tid content log (wrote e (NotPublished r) log)
   publish-taken : PublishTests e s tid content log →
       PublishDone e s tid content log
-      (wrote (withEntry e s (16 + length content)) (Number (publishedOf e s + 1)) (put log (e .day .used) (entryBytes s tid (publishedOf e s + 1) content)))
+      (wrote (withEntry e s (16 + length content)) (Number (publishedOf e s + 1))
+      (put log (e .day .used) (entryBytes s tid (publishedOf e s + 1) content)))
 
 module _ (e : Sender) (s tid : ℕ) (content log : List ℕ) where
   log-inside : logShort e log ≡ false → e .day .used ≤ length log
   unfolding logShort
   log-inside h = ltb-false (length log) (e .day .used) h
 
-  entry-inside : logShort e log ≡ false → not (entryFits e log content) ≡ false → e .day .used + (16 + length content) ≤ length log
+  entry-inside : logShort e log ≡ false → not (entryFits e log content) ≡ false
+      → e .day .used + (16 + length content) ≤ length log
   unfolding entryFits
   entry-inside g h =
       let a = log-inside g in
@@ -119,7 +127,8 @@ pub record LoginTests (e : Sender) (s : ℕ) (h : Header) (date : TradeDate) (as
   pub run : shaped content packetContent ≡ true
   pub widths : (wrongWidth asked || wrongWidth content) ≡ false
   pub items : (wrongItem asked || wrongItem content) ≡ false
-  pub counts : (noLogin h || not (composed loginTid Up asked) || ltb 1 (countOf resumeFid asked) || not (composed loginTid Down content)) ≡ false
+  pub counts : (noLogin h || not (composed loginTid Up asked) || ltb 1 (countOf resumeFid asked) || not
+      (composed loginTid Down content)) ≡ false
   pub served : isServed e s ≡ true
   pub here : startElsewhere s (resumeOf asked) ≡ false
   pub timely : before (e .day .date) date ≡ false
@@ -131,30 +140,39 @@ pub record LoginTests (e : Sender) (s : ℕ) (h : Header) (date : TradeDate) (as
 -- The answer that was written.
 abbrev pub answered : Sender → ℕ → ℕ → List ℕ → List ℕ → Wrote Sender LoggedIn
 answered e s next content out =
-    wrote (withNext e s next) (Answered (length (loginBytes (e .day .date) content))) (over (loginBytes (e .day .date) content) out)
+    wrote (withNext e s next) (Answered (length (loginBytes (e .day .date) content)))
+    (over (loginBytes (e .day .date) content) out)
 
 pub data LoginDone (e : Sender) (s : ℕ) (p content out : List ℕ) : Wrote Sender LoggedIn → Type 0 where
   login-refused : (r : Refusal) → LoginDone e s p content out (wrote e (NotIn r) out)
-  login-taken : (h : Header) (x c : Span) → notOnePacket p ≡ false → noMessagePacket p ≡ false → datedOf p .packet ≡ Message h x c →
+  login-taken : (h : Header) (x c : Span) → notOnePacket p ≡ false → noMessagePacket p ≡ false
+      → datedOf p .packet ≡ Message h x c →
       LoginTests e s h (datedOf p .date) (part p (c .start) (c .len)) content out →
-      LoginDone e s p content out (answered e s (startOf e (datedOf p .date) (resumeOf (part p (c .start) (c .len)))) content out)
+      LoginDone e s p content out
+      (answered e s (startOf e (datedOf p .date) (resumeOf (part p (c .start) (c .len)))) content out)
 
-module _ (e : Sender) (s : ℕ) (h : Header) (date : TradeDate) (asked content out : List ℕ) (P : Wrote Sender LoggedIn → Type 0) where
+module _ (e : Sender) (s : ℕ) (h : Header) (date : TradeDate) (asked content out : List ℕ)
+    (P : Wrote Sender LoggedIn → Type 0) where
   login-with : ((r : Refusal) → P (wrote e (NotIn r) out)) →
-      (LoginTests e s h date asked content out → P (answered e s (startOf e date (resumeOf asked)) content out)) → P (loginWith e s h date asked content out)
+      (LoginTests e s h date asked content out → P (answered e s (startOf e date (resumeOf asked)) content out))
+      → P (loginWith e s h date asked content out)
   unfolding loginWith
   login-with f g =
       by-when P (wrongRun content packetContent) (λ q. f FieldRun) λ q1.
       by-when P (wrongWidth asked || wrongWidth content) (λ q. f FieldLength) λ q2.
       by-when P (wrongItem asked || wrongItem content) (λ q. f Item) λ q3.
-      by-when P (noLogin h || not (composed loginTid Up asked) || ltb 1 (countOf resumeFid asked) || not (composed loginTid Down content)) (λ q. f Composition) λ q4.
+      by-when P
+      (noLogin h || not (composed loginTid Up asked) || ltb 1 (countOf resumeFid asked) || not
+      (composed loginTid Down content)) (λ q. f Composition) λ q4.
       by-when P (not (isServed e s) || startElsewhere s (resumeOf asked)) (λ q. f UnknownSeries) λ q5.
       by-when P (before (e .day .date) date) (λ q. f OtherDay) λ q6.
       by-when P (notZero h) (λ q. f OutOfLine) λ q7.
       by-when P (ltb (length out) (length (loginBytes (e .day .date) content))) (λ q. f TooSmall) λ q8.
       by-when P (wrongStart e s (startOf e date (resumeOf asked))) (λ q. f WrongStart) λ q9.
       let a = or-neither (not (isServed e s)) (startElsewhere s (resumeOf asked)) q5 in
-      let b = or-neither (eqb (startOf e date (resumeOf asked)) 0) (ltb (publishedOf e s + 1) (startOf e date (resumeOf asked))) q9 in
+      let b =
+      or-neither (eqb (startOf e date (resumeOf asked)) 0) (ltb (publishedOf e s + 1) (startOf e date (resumeOf asked)))
+      q9 in
       g record {
         run = not-false _ q1;
         widths = q2;
@@ -179,7 +197,8 @@ module _ (e : Sender) (s : ℕ) (p content out : List ℕ) where
   login-read (Link kind extension) a b g = login-refused NotOnePacket
   login-read (Skipped kind extension body) a b g = login-refused NotOnePacket
   login-read (Message h x c) a b g =
-      login-with e s h (datedOf p .date) (part p (c .start) (c .len)) content out (LoginDone e s p content out) login-refused (login-taken h x c a b g)
+      login-with e s h (datedOf p .date) (part p (c .start) (c .len)) content out (LoginDone e s p content out)
+      login-refused (login-taken h x c a b g)
   login-read (Unread r) a b g = login-refused r
 
   pub login-cases : LoginDone e s p content out (loginOf e s p content out)
@@ -198,16 +217,20 @@ pub record Seated (e : Sender) (s : ℕ) : Type 0 where
 
 pub data SendDone (e : Sender) (s : ℕ) (log out : List ℕ) : Wrote Sender Sent → Type 0 where
   send-unknown : isServed e s ≡ false → SendDone e s log out (wrote e (NotSent UnknownSeries) out)
-  send-outside : isServed e s ≡ true → placeOf e s .login ≡ false → SendDone e s log out (wrote e (NotSent NotLoggedIn) out)
+  send-outside : isServed e s ≡ true → placeOf e s .login ≡ false
+      → SendDone e s log out (wrote e (NotSent NotLoggedIn) out)
   send-drained : Seated e s → publishedOf e s < placeOf e s .next → SendDone e s log out (wrote e Drained out)
   send-damaged : Seated e s → placeOf e s .next ≤ publishedOf e s → entryOf e log s (placeOf e s .next) ≡ none →
       SendDone e s log out (wrote e (NotSent DamagedLog) out)
-  send-small : (x : List ℕ) → Seated e s → placeOf e s .next ≤ publishedOf e s → entryOf e log s (placeOf e s .next) ≡ some x →
+  send-small : (x : List ℕ) → Seated e s → placeOf e s .next ≤ publishedOf e s
+      → entryOf e log s (placeOf e s .next) ≡ some x →
       length out < length (sendBytes e s x) → SendDone e s log out (wrote e (NotSent TooSmall) out)
-  send-taken : (x : List ℕ) → Seated e s → placeOf e s .next ≤ publishedOf e s → entryOf e log s (placeOf e s .next) ≡ some x →
+  send-taken : (x : List ℕ) → Seated e s → placeOf e s .next ≤ publishedOf e s
+      → entryOf e log s (placeOf e s .next) ≡ some x →
       length (sendBytes e s x) ≤ length out →
       SendDone e s log out
-      (wrote (withNext e s (suc (placeOf e s .next))) (Message-sent (placeOf e s .next) (length (sendBytes e s x))) (over (sendBytes e s x) out))
+      (wrote (withNext e s (suc (placeOf e s .next))) (Message-sent (placeOf e s .next) (length (sendBytes e s x)))
+      (over (sendBytes e s x) out))
 
 module _ (e : Sender) (s : ℕ) (log out : List ℕ) where
   none-left : noneLeft e s ≡ true → publishedOf e s < placeOf e s .next
@@ -218,7 +241,8 @@ module _ (e : Sender) (s : ℕ) (log out : List ℕ) where
   unfolding noneLeft
   some-left h = ltb-false (publishedOf e s) (placeOf e s .next) h
 
-  send-entry : (o : Option (List ℕ)) → Seated e s → placeOf e s .next ≤ publishedOf e s → entryOf e log s (placeOf e s .next) ≡ o →
+  send-entry : (o : Option (List ℕ)) → Seated e s → placeOf e s .next ≤ publishedOf e s
+      → entryOf e log s (placeOf e s .next) ≡ o →
       SendDone e s log out (sendEntry e s out o)
   send-entry none r h g = send-damaged r h g
   send-entry (some x) r h g =
@@ -230,7 +254,8 @@ module _ (e : Sender) (s : ℕ) (log out : List ℕ) where
   unfolding sendOf
   send-cases =
       by-when (SendDone e s log out) (not (isServed e s)) (λ q. send-unknown (not-true _ q)) λ q1.
-      by-when (SendDone e s log out) (not (placeOf e s .login)) (λ q. send-outside (not-false _ q1) (not-true _ q)) λ q2.
+      by-when (SendDone e s log out) (not (placeOf e s .login)) (λ q. send-outside (not-false _ q1) (not-true _ q))
+      λ q2.
       let r : Seated e s = record { served = not-false _ q1; login = not-false _ q2 } in
       by-when (SendDone e s log out) (noneLeft e s) (λ q. send-drained r (none-left q)) λ q3.
       send-entry (entryOf e log s (placeOf e s .next)) r (some-left q3) refl

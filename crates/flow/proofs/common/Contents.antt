@@ -48,13 +48,15 @@ module _ (tid : ℕ) (d : Direction) (content : List ℕ) (limit : ℕ) where
       ≡ onCheck f y (contentCheck tid d content limit)
   unfolding contentCheck checkOf
   content-rows f y =
-      rw (walk-wrong content) (go (shaped content limit) (wrongWidth content) (wrongItem content) (composed tid d content))
+      rw (walk-wrong content)
+      (go (shaped content limit) (wrongWidth content) (wrongItem content) (composed tid d content))
     where
       go : (a w i c : Bool)
           → (f FieldRun when not a else f FieldLength when w else f Item when i else f Composition when not c else y)
           ≡ onCheck f y
           (cond a
-          (passedThen (cond w (Refused FieldLength) (cond i (Refused Item) Passed)) (cond c Passed (Refused Composition)))
+          (passedThen (cond w (Refused FieldLength) (cond i (Refused Item) Passed))
+          (cond c Passed (Refused Composition)))
           (Refused FieldRun))
       go false w i c = refl
       go true true i c = refl
@@ -68,7 +70,8 @@ module _ (tid : ℕ) (d : Direction) (content : List ℕ) (limit : ℕ) where
   content-length h = shaped-facts content limit (shaped content limit) refl (go (shaped content limit) refl h) .0
     where
       go : (a : Bool) → shaped content limit ≡ a
-          → cond a (passedThen (checkOf content) (cond (composed tid d content) Passed (Refused Composition))) (Refused FieldRun)
+          → cond a (passedThen (checkOf content) (cond (composed tid d content) Passed (Refused Composition)))
+          (Refused FieldRun)
           ≡ Passed → shaped content limit ≡ true
       go true p h = p
       go false p h = p ∙ sym (ap isRefused h)

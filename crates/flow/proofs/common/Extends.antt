@@ -45,7 +45,8 @@ module _ {A : Type 0} where
   place-getD (y ∷ a) (suc i) x d h = place-getD a i x d h
 
   -- What stands in a list with one appended is that one, or stood there.
-  pub place-last : (P : A → Type 0) (a : List A) (y : A) → ((i : ℕ) (x : A) → getElem? a i ≡ some x → P x) → P y → (i : ℕ) (x : A) →
+  pub place-last : (P : A → Type 0) (a : List A) (y : A) → ((i : ℕ) (x : A) → getElem? a i ≡ some x → P x) → P y
+      → (i : ℕ) (x : A) →
       getElem? (a ++ (y ∷ [])) i ≡ some x → P x
   place-last P [] y f p zero x h = let e : y ≡ x = cc in rw e at p
   place-last P [] y f p (suc i) x h = absurd (none-some x h)
@@ -58,7 +59,8 @@ module _ {A : Type 0} where
   place-there (y ∷ a) (suc i) h = place-there a i (omega arith)
 
   -- With its place: the one appended stands behind all others.
-  pub place-last-at : (P : ℕ → A → Type 0) (a : List A) (y : A) → ((i : ℕ) (x : A) → getElem? a i ≡ some x → P i x) → P (length a) y → (i : ℕ) (x : A) →
+  pub place-last-at : (P : ℕ → A → Type 0) (a : List A) (y : A) → ((i : ℕ) (x : A) → getElem? a i ≡ some x → P i x)
+      → P (length a) y → (i : ℕ) (x : A) →
       getElem? (a ++ (y ∷ [])) i ≡ some x → P i x
   place-last-at P [] y f p zero x h = let e : y ≡ x = cc in rw e at p
   place-last-at P [] y f p (suc i) x h = absurd (none-some x h)

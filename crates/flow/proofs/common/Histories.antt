@@ -1,4 +1,5 @@
--- Histories of a world that grow at their end: what they hold of a series and a day, and the last of it. Assumes nothing.
+-- Histories of a world that grow at their end: what they hold of a series and a day, and the last of it. Assumes
+-- nothing.
 use Prim.Native.Nat.{ℕ}
 use mathlib.Core.Path.{_≡_, refl, sym, ap, _∙_}
 use mathlib.Core.List.{List, [], _∷_, _++_, map, append-nil}
@@ -22,7 +23,8 @@ module _ {A : Type 0} where
   of-append s d [] k = refl
   of-append s d (x ∷ l) k = go (eqb (x .series) s && isDay d (x .day)) (of-append s d l k)
     where
-      go : (b : Bool) → of s d (l ++ k) ≡ of s d l ++ of s d k → cond b (x .what ∷ of s d (l ++ k)) (of s d (l ++ k)) ≡ cond b (x .what ∷ of s d l) (of s d l) ++ of s d k
+      go : (b : Bool) → of s d (l ++ k) ≡ of s d l ++ of s d k
+          → cond b (x .what ∷ of s d (l ++ k)) (of s d (l ++ k)) ≡ cond b (x .what ∷ of s d l) (of s d l) ++ of s d k
       go true e = ap (λ (r : List A). x .what ∷ r) e
       go false e = e
 
@@ -30,7 +32,8 @@ module _ {A : Type 0} where
   of-all s d [] = refl
   of-all s d (x ∷ xs) = rw (eq-eqb s s refl, eq-eqb d d refl) (ap (λ (r : List A). x ∷ r) (of-all s d xs))
 
-  of-none : (s x : ℕ) (t : ℕ) (day : TradeDate) (xs : List A) → (eqb t s && isDay x day) ≡ false → of s x (map (dated t day) xs) ≡ []
+  of-none : (s x : ℕ) (t : ℕ) (day : TradeDate) (xs : List A) → (eqb t s && isDay x day) ≡ false
+      → of s x (map (dated t day) xs) ≡ []
   of-none s x t day [] q = refl
   of-none s x t day (y ∷ xs) q = rw q (of-none s x t day xs q)
 
@@ -38,16 +41,19 @@ module _ {A : Type 0} where
   pub of-here : (s d : ℕ) (l : List (Dated A)) (xs : List A) → of s d (l ++ map (dated s (At d)) xs) ≡ of s d l ++ xs
   of-here s d l xs = of-append s d l (map (dated s (At d)) xs) ∙ ap (λ (r : List A). of s d l ++ r) (of-all s d xs)
 
-  pub of-away : (s d x : ℕ) (l : List (Dated A)) (xs : List A) → (d ≡ x → ⊥) → of s x (l ++ map (dated s (At d)) xs) ≡ of s x l
+  pub of-away : (s d x : ℕ) (l : List (Dated A)) (xs : List A) → (d ≡ x → ⊥)
+      → of s x (l ++ map (dated s (At d)) xs) ≡ of s x l
   of-away s d x l xs n =
       of-append s x l (map (dated s (At d)) xs)
       ∙ ap (λ (r : List A). of s x l ++ r) (of-none s x s (At d) xs (and-no (eqb s s) (eqb d x) (ne-eqb d x n)))
       ∙ append-nil (of s x l)
 
-  pub of-else : (t s x : ℕ) (day : TradeDate) (l : List (Dated A)) (xs : List A) → (t ≡ s → ⊥) → of t x (l ++ map (dated s day) xs) ≡ of t x l
+  pub of-else : (t s x : ℕ) (day : TradeDate) (l : List (Dated A)) (xs : List A) → (t ≡ s → ⊥)
+      → of t x (l ++ map (dated s day) xs) ≡ of t x l
   of-else t s x day l xs n =
       of-append t x l (map (dated s day) xs)
-      ∙ ap (λ (r : List A). of t x l ++ r) (of-none t x s day xs (ap (λ (b : Bool). b && isDay x day) (ne-eqb s t (λ e. n (sym e)))))
+      ∙ ap (λ (r : List A). of t x l ++ r)
+      (of-none t x s day xs (ap (λ (b : Bool). b && isDay x day) (ne-eqb s t (λ e. n (sym e)))))
       ∙ append-nil (of t x l)
 
 -- ─── The last ───
@@ -61,7 +67,8 @@ module _ {A : Type 0} (s : ℕ) where
   latestOf-same y [] x = rw (eq-eqb s s refl)
   latestOf-same y (z ∷ l) x = latestOf-same (cond (eqb (z .series) s) (z .what) y) l x
 
-  pub latestOf-other : (y : A) (l : List (InSeries A)) (t : ℕ) (x : A) → (s ≡ t → ⊥) → latestOf s y (l ++ (inSeries t x ∷ [])) ≡ latestOf s y l
+  pub latestOf-other : (y : A) (l : List (InSeries A)) (t : ℕ) (x : A) → (s ≡ t → ⊥)
+      → latestOf s y (l ++ (inSeries t x ∷ [])) ≡ latestOf s y l
   latestOf-other y [] t x n = rw (ne-eqb t s (λ e. n (sym e)))
   latestOf-other y (z ∷ l) t x n = latestOf-other (cond (eqb (z .series) s) (z .what) y) l t x n
 

@@ -47,21 +47,24 @@ module _ {A : Type 0} where
   since-same a = drop-length a
 
   pub since-append : (a b m : List A) → Extends a b → since a (b ++ m) ≡ since a b ++ m
-  since-append a b m x = drop-append-le (length a) b m (let k = ap length (x .1) ∙ length-append a (x .0) in omega arith)
+  since-append a b m x =
+      drop-append-le (length a) b m (let k = ap length (x .1) ∙ length-append a (x .0) in omega arith)
 
   pub that-append : (s : ℕ) (l m : List (InSeries A)) → inThat s (l ++ m) ≡ inThat s l ++ inThat s m
   that-append s [] m = refl
   that-append s (x ∷ l) m = go (eqb (x .series) s) (that-append s l m)
     where
       go : (b : Bool) → inThat s (l ++ m) ≡ inThat s l ++ inThat s m →
-          cond b (x .what ∷ inThat s (l ++ m)) (inThat s (l ++ m)) ≡ cond b (x .what ∷ inThat s l) (inThat s l) ++ inThat s m
+          cond b (x .what ∷ inThat s (l ++ m)) (inThat s (l ++ m)) ≡ cond b (x .what ∷ inThat s l)
+          (inThat s l) ++ inThat s m
       go true ih = rw ih
       go false ih = ih
 
 -- One more, in its series or in another.
 pub that-more : {A : Type 0} (s t : ℕ) (a b : List (InSeries A)) (x : A) → Extends a b →
     inThat s (since a (b ++ (inSeries t x ∷ []))) ≡ inThat s (since a b) ++ cond (eqb t s) (x ∷ []) []
-that-more s t a b x e = ap (inThat s) (since-append a b (inSeries t x ∷ []) e) ∙ that-append s (since a b) (inSeries t x ∷ [])
+that-more s t a b x e =
+    ap (inThat s) (since-append a b (inSeries t x ∷ []) e) ∙ that-append s (since a b) (inSeries t x ∷ [])
 
 pub append-empty : {A : Type 0} (a b : List A) → a ++ b ≡ [] → (a ≡ []) × (b ≡ [])
 append-empty [] b q = (refl, q)

@@ -15,7 +15,8 @@ pub index-inside : (s : ℕ) (l : List ℕ) → member s l ≡ true → indexOf 
 index-inside s [] h = let z : _≡_ {A = ℕ} 0 1 = cc in absurd (omega arith)
 index-inside s (x ∷ l) h = go (eqb x s) h (index-inside s l)
   where
-    go : (b : Bool) → (b || member s l) ≡ true → (member s l ≡ true → indexOf s l < length l) → cond b 0 (suc (indexOf s l)) < suc (length l)
+    go : (b : Bool) → (b || member s l) ≡ true → (member s l ≡ true → indexOf s l < length l)
+        → cond b 0 (suc (indexOf s l)) < suc (length l)
     go true h f = omega arith
     go false h f = omega (arith, f h)
 
@@ -24,7 +25,8 @@ pub index-differs : (s t : ℕ) (l : List ℕ) → member t l ≡ true → (s �
 index-differs s t [] h n e = let z : _≡_ {A = ℕ} 0 1 = cc in absurd (omega arith)
 index-differs s t (x ∷ l) h n e = go (eqb x s) refl (eqb x t) refl h e (index-differs s t l)
   where
-    go : (a : Bool) → eqb x s ≡ a → (b : Bool) → eqb x t ≡ b → (b || member t l) ≡ true → cond a 0 (suc (indexOf s l)) ≡ cond b 0 (suc (indexOf t l))
+    go : (a : Bool) → eqb x s ≡ a → (b : Bool) → eqb x t ≡ b → (b || member t l) ≡ true
+        → cond a 0 (suc (indexOf s l)) ≡ cond b 0 (suc (indexOf t l))
         → (member t l ≡ true → (s ≡ t → ⊥) → indexOf s l ≡ indexOf t l → ⊥) → ⊥
     go true p true q h e f = n (sym (eqb-true x s p) ∙ eqb-true x t q)
     go true p false q h e f = omega arith
@@ -42,8 +44,10 @@ module _ {A : Type 0} (f : A → ℕ) where
   numbers-set (suc n) (x ∷ l) s y q h = go (eqb (f x) s) refl h (numbers-set n l s y q)
     where
       go : (b : Bool) → eqb (f x) s ≡ b → (b || member s (map f (take n l))) ≡ true
-          → (member s (map f (take n l)) ≡ true → map f (take n (set l (indexOf s (map f (take n l))) y)) ≡ map f (take n l))
-          → map f (take (suc n) (set (x ∷ l) (cond b 0 (suc (indexOf s (map f (take n l))))) y)) ≡ f x ∷ map f (take n l)
+          → (member s (map f (take n l)) ≡ true
+          → map f (take n (set l (indexOf s (map f (take n l))) y)) ≡ map f (take n l))
+          → map f (take (suc n) (set (x ∷ l) (cond b 0 (suc (indexOf s (map f (take n l))))) y)) ≡ f x ∷ map f
+          (take n l)
       go true p h g = ap (λ (k : ℕ). k ∷ map f (take n l)) (q ∙ sym (eqb-true (f x) s p))
       go false p h g = ap (λ (r : List ℕ). f x ∷ r) (g h)
 

@@ -10,7 +10,8 @@ use Rattle.ftd.specs.declared.tags.TradeDate.{TradeDate}
 use Rattle.flow.specs.declared.receiver.KeptSeries.{KeptSeries}
 use Rattle.flow.specs.declared.receiver.LiveSeries.{LiveSeries}
 use Rattle.flow.specs.declared.receiver.Receiver.{Receiver}
-use Rattle.flow.specs.Ends.{member, indexOf, keptSeries, isOpen, keptOf, liveOf, newKept, noLive, withSeries, partStart, allParts}
+use Rattle.flow.specs.Ends.{member, indexOf, keptSeries, isOpen, keptOf, liveOf, newKept, noLive, withSeries}
+use Rattle.flow.specs.Ends.{partStart, allParts}
 use Rattle.flow.proofs.ends.Lookups.{index-inside, index-differs, numbers-set, numbers-few}
 
 -- Both arrays have 8 places, as in every value of the type.
@@ -26,7 +27,9 @@ module _ (e : Receiver) (eight : Eight e) where
 
     index-kept : indexOf t (keptSeries e) < length (e .kept .series)
     unfolding keptSeries
-    index-kept = let a = index-open in let b = numbers-few (λ (x : KeptSeries). x .series) (e .kept .count) (e .kept .series) in omega arith
+    index-kept =
+        let a = index-open in let b = numbers-few (λ (x : KeptSeries). x .series) (e .kept .count)
+        (e .kept .series) in omega arith
 
     index-live : indexOf t (keptSeries e) < length (e .live .series)
     index-live = omega (arith, index-kept, eight .kept, eight .live)
@@ -40,7 +43,8 @@ module _ (e : Receiver) (eight : Eight e) where
       pub series-stay : keptSeries (withSeries e t date last live) ≡ keptSeries e
       unfolding withSeries keptSeries isOpen
       series-stay =
-          numbers-set (λ (x : KeptSeries). x .series) (e .kept .count) (e .kept .series) t (record { series = t; date = date; last = last }) refl open-t
+          numbers-set (λ (x : KeptSeries). x .series) (e .kept .count) (e .kept .series) t
+          (record { series = t; date = date; last = last }) refl open-t
 
       pub open-stays : (s : ℕ) → isOpen (withSeries e t date last live) s ≡ isOpen e s
       unfolding isOpen
@@ -55,15 +59,21 @@ module _ (e : Receiver) (eight : Eight e) where
       parts-stay = rw series-stay
 
       kept-place : (s : ℕ) → keptOf (withSeries e t date last live) s
-          ≡ getD (set (e .kept .series) (indexOf t (keptSeries e)) (record { series = t; date = date; last = last })) (indexOf s (keptSeries e)) (newKept 0)
+          ≡ getD (set (e .kept .series) (indexOf t (keptSeries e)) (record { series = t; date = date; last = last }))
+          (indexOf s (keptSeries e)) (newKept 0)
       unfolding keptOf withSeries
       kept-place s =
-          ap (λ (l : List ℕ). getD (set (e .kept .series) (indexOf t (keptSeries e)) (record { series = t; date = date; last = last })) (indexOf s l) (newKept 0))
+          ap (λ (l : List ℕ). getD
+          (set (e .kept .series) (indexOf t (keptSeries e)) (record { series = t; date = date; last = last }))
+          (indexOf s l) (newKept 0))
           series-stay
 
-      live-place : (s : ℕ) → liveOf (withSeries e t date last live) s ≡ getD (set (e .live .series) (indexOf t (keptSeries e)) live) (indexOf s (keptSeries e)) noLive
+      live-place : (s : ℕ) → liveOf (withSeries e t date last live) s ≡ getD
+          (set (e .live .series) (indexOf t (keptSeries e)) live) (indexOf s (keptSeries e)) noLive
       unfolding liveOf withSeries
-      live-place s = ap (λ (l : List ℕ). getD (set (e .live .series) (indexOf t (keptSeries e)) live) (indexOf s l) noLive) series-stay
+      live-place s =
+          ap (λ (l : List ℕ). getD (set (e .live .series) (indexOf t (keptSeries e)) live) (indexOf s l) noLive)
+          series-stay
 
       -- The series that was changed.
       pub kept-same : keptOf (withSeries e t date last live) t ≡ record { series = t; date = date; last = last }
@@ -80,11 +90,15 @@ module _ (e : Receiver) (eight : Eight e) where
 
         pub kept-other : keptOf (withSeries e t date last live) s ≡ keptOf e s
         unfolding keptOf
-        kept-other = kept-place s ∙ getD-set-other (e .kept .series) (indexOf t (keptSeries e)) (indexOf s (keptSeries e)) _ (newKept 0) index-other
+        kept-other =
+            kept-place s ∙ getD-set-other (e .kept .series) (indexOf t (keptSeries e)) (indexOf s (keptSeries e)) _
+            (newKept 0) index-other
 
         pub live-other : liveOf (withSeries e t date last live) s ≡ liveOf e s
         unfolding liveOf
-        live-other = live-place s ∙ getD-set-other (e .live .series) (indexOf t (keptSeries e)) (indexOf s (keptSeries e)) live noLive index-other
+        live-other =
+            live-place s ∙ getD-set-other (e .live .series) (indexOf t (keptSeries e)) (indexOf s (keptSeries e)) live
+            noLive index-other
 
       -- The places stay.
       pub eight-stays : Eight (withSeries e t date last live)
@@ -108,7 +122,8 @@ pub record Changed (e after : Receiver) (t : ℕ) (d : TradeDate) (n : ℕ) (l :
   pub all-parts : allParts after ≡ allParts e
   pub eight : Eight after
 
-pub with-changed : (e : Receiver) → Eight e → (t : ℕ) → isOpen e t ≡ true → (date : TradeDate) (last : ℕ) (live : LiveSeries)
+pub with-changed : (e : Receiver) → Eight e → (t : ℕ) → isOpen e t ≡ true
+    → (date : TradeDate) (last : ℕ) (live : LiveSeries)
     → Changed e (withSeries e t date last live) t date last live
 with-changed e eight t o date last live =
     record {

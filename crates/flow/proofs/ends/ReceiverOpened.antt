@@ -11,7 +11,8 @@ use lib.Dec.{ltb, eqb}
 use Rattle.ftd.specs.declared.tags.TradeDate.the-variants.{None}
 use Rattle.flow.specs.declared.receiver.KeptSeries.{KeptSeries}
 use Rattle.flow.specs.declared.receiver.Receiver.{Receiver}
-use Rattle.flow.specs.Ends.{member, indexOf, differing, mostSeries, wrongSeries, newKept, noLive, freshReceiver, keptSeries, isOpen, keptOf, liveOf, receiver, filled}
+use Rattle.flow.specs.Ends.{member, indexOf, differing, mostSeries, wrongSeries, newKept, noLive, freshReceiver}
+use Rattle.flow.specs.Ends.{keptSeries, isOpen, keptOf, liveOf, receiver, filled}
 use Rattle.flow.specs.Receiving.{connectOf}
 use Rattle.flow.proofs.common.Bools.{or-neither}
 use Rattle.flow.proofs.ends.ReceiverLookups.{Eight}
@@ -48,11 +49,15 @@ module _ (ss : List ℕ) where
   pub opened-series : keptSeries (openedWith ss) ≡ ss
   unfolding keptSeries
   opened-series =
-      ap (map (λ (x : KeptSeries). x .series)) (take-at (map newKept ss) (replicate (mostSeries - length (map newKept ss)) (newKept 0)) (length ss) (length-map ss newKept))
+      ap (map (λ (x : KeptSeries). x .series))
+      (take-at (map newKept ss) (replicate (mostSeries - length (map newKept ss)) (newKept 0)) (length ss)
+      (length-map ss newKept))
       ∙ names-new ss
 
-  new-at : (l : List ℕ) (n i : ℕ) → (getD (map newKept l ++ replicate n (newKept 0)) i (newKept 0) .date ≡ None) × (getD (map newKept l ++ replicate n (newKept 0)) i (newKept 0) .last ≡ 0)
-  new-at [] n i = let q = getD-same n i (newKept 0) in (ap (λ (x : KeptSeries). x .date) q, ap (λ (x : KeptSeries). x .last) q)
+  new-at : (l : List ℕ) (n i : ℕ) → (getD (map newKept l ++ replicate n (newKept 0)) i (newKept 0) .date ≡ None)
+      × (getD (map newKept l ++ replicate n (newKept 0)) i (newKept 0) .last ≡ 0)
+  new-at [] n i =
+      let q = getD-same n i (newKept 0) in (ap (λ (x : KeptSeries). x .date) q, ap (λ (x : KeptSeries). x .last) q)
   new-at (x ∷ l) n zero = (refl, refl)
   new-at (x ∷ l) n (suc i) = new-at l n i
 

@@ -8,7 +8,8 @@ use lib.ListN.{length, getD, length-set}
 use lib.Seq.{getD-set-same, getD-set-other}
 use Rattle.flow.specs.declared.sender.DaySeries.{DaySeries}
 use Rattle.flow.specs.declared.sender.Sender.{Sender}
-use Rattle.flow.specs.Ends.{member, indexOf, newSeries, noPlace, daySeries, isServed, publishedOf, placeOf, withEntry, withNext}
+use Rattle.flow.specs.Ends.{member, indexOf, newSeries, noPlace, daySeries, isServed, publishedOf, placeOf}
+use Rattle.flow.specs.Ends.{withEntry, withNext}
 use Rattle.flow.proofs.ends.Lookups.{index-inside, index-differs, numbers-set, numbers-few}
 
 -- Both arrays have 8 places, as in every value of the type.
@@ -36,30 +37,36 @@ module _ (e : Sender) (t : ℕ) (h : isServed e t ≡ true) where
 
   pub series-entry : (size : ℕ) → daySeries (withEntry e t size) ≡ daySeries e
   unfolding withEntry daySeries isServed
-  series-entry size = numbers-set numberIn (e .day .count) (e .day .series) t (record { series = t; published = publishedOf e t + 1 }) refl h
+  series-entry size =
+      numbers-set numberIn (e .day .count) (e .day .series) t (record { series = t; published = publishedOf e t + 1 })
+      refl h
 
   pub served-entry : (size s : ℕ) → isServed (withEntry e t size) s ≡ isServed e s
   unfolding isServed
   served-entry size s = ap (member s) (series-entry size)
 
-  at-entry : (size s : ℕ) → publishedOf (withEntry e t size) s ≡ getD (withEntry e t size .day .series) (indexOf s (daySeries e)) (newSeries 0) .published
+  at-entry : (size s : ℕ) → publishedOf (withEntry e t size) s ≡ getD (withEntry e t size .day .series)
+      (indexOf s (daySeries e)) (newSeries 0) .published
   unfolding publishedOf
   at-entry size s =
-      ap (λ (l : List ℕ). getD (withEntry e t size .day .series) (indexOf s l) (newSeries 0) .published) (series-entry size)
+      ap (λ (l : List ℕ). getD (withEntry e t size .day .series) (indexOf s l) (newSeries 0) .published)
+      (series-entry size)
 
   pub published-entry : (size : ℕ) → publishedOf (withEntry e t size) t ≡ publishedOf e t + 1
   unfolding withEntry
   published-entry size =
       at-entry size t
       ∙ ap (λ (x : DaySeries). x .published)
-      (getD-set-same (e .day .series) (indexOf t (daySeries e)) (record { series = t; published = publishedOf e t + 1 }) (newSeries 0) served-index)
+      (getD-set-same (e .day .series) (indexOf t (daySeries e)) (record { series = t; published = publishedOf e t + 1 })
+      (newSeries 0) served-index)
 
   pub published-other : (size s : ℕ) → (s ≡ t → ⊥) → publishedOf (withEntry e t size) s ≡ publishedOf e s
   unfolding withEntry publishedOf
   published-other size s n =
       at-entry size s
       ∙ ap (λ (x : DaySeries). x .published)
-      (getD-set-other (e .day .series) (indexOf t (daySeries e)) (indexOf s (daySeries e)) (record { series = t; published = publishedOf e t + 1 }) (newSeries 0)
+      (getD-set-other (e .day .series) (indexOf t (daySeries e)) (indexOf s (daySeries e))
+      (record { series = t; published = publishedOf e t + 1 }) (newSeries 0)
       (served-apart s n))
 
   pub place-entry : (size s : ℕ) → placeOf (withEntry e t size) s ≡ placeOf e s
@@ -89,16 +96,25 @@ module _ (e : Sender) (t : ℕ) (h : isServed e t ≡ true) where
   pub place-other : (next s : ℕ) → (s ≡ t → ⊥) → placeOf (withNext e t next) s ≡ placeOf e s
   unfolding placeOf withNext daySeries
   place-other next s n =
-      getD-set-other (e .seat .places) (indexOf t (daySeries e)) (indexOf s (daySeries e)) (record { login = true; next = next }) noPlace (served-apart s n)
+      getD-set-other (e .seat .places) (indexOf t (daySeries e)) (indexOf s (daySeries e))
+      (record { login = true; next = next }) noPlace (served-apart s n)
 
   -- ─── Both keep the places ───
 
   pub eight-entry : Eight e → (size : ℕ) → Eight (withEntry e t size)
   unfolding withEntry
   eight-entry z size =
-      record { series = length-set (e .day .series) (indexOf t (daySeries e)) (record { series = t; published = publishedOf e t + 1 }) ∙ z .series; places = z .places }
+      record {
+        series = length-set (e .day .series) (indexOf t (daySeries e))
+            (record { series = t; published = publishedOf e t + 1 }) ∙ z .series;
+        places = z .places;
+      }
 
   pub eight-next : Eight e → (next : ℕ) → Eight (withNext e t next)
   unfolding withNext
   eight-next z next =
-      record { series = z .series; places = length-set (e .seat .places) (indexOf t (daySeries e)) (record { login = true; next = next }) ∙ z .places }
+      record {
+        series = z .series;
+        places = length-set (e .seat .places) (indexOf t (daySeries e))
+            (record { login = true; next = next }) ∙ z .places;
+      }

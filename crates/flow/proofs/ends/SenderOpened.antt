@@ -11,13 +11,15 @@ use lib.Dec.{ltb, eqb}
 use Rattle.ftd.specs.declared.tags.TradeDate.the-variants.{At}
 use Rattle.flow.specs.declared.sender.DaySeries.{DaySeries}
 use Rattle.flow.specs.declared.sender.Sender.{Sender}
-use Rattle.flow.specs.Ends.{mostSeries, member, indexOf, differing, wrongSeries, filled, newSeries, noPlace, sender, freshSender, daySeries, publishedOf, placeOf}
+use Rattle.flow.specs.Ends.{mostSeries, member, indexOf, differing, wrongSeries, filled, newSeries, noPlace}
+use Rattle.flow.specs.Ends.{sender, freshSender, daySeries, publishedOf, placeOf}
 use Rattle.flow.proofs.common.Bools.{or-neither}
 use Rattle.flow.proofs.ends.SenderLookups.{Eight}
 
 -- What an opening leaves.
 abbrev pub openedSender : ℕ → List ℕ → Sender
-openedSender date ss = sender (At date) (length ss) (filled (newSeries 0) (map newSeries ss)) 0 (replicate mostSeries noPlace)
+openedSender date ss =
+    sender (At date) (length ss) (filled (newSeries 0) (map newSeries ss)) 0 (replicate mostSeries noPlace)
 
 -- ─── Fresh ───
 
@@ -34,10 +36,13 @@ numbers-back (s ∷ ss) = ap (λ (l : List ℕ). s ∷ l) (numbers-back ss)
 pub opened-series : (date : ℕ) (ss : List ℕ) → daySeries (openedSender date ss) ≡ ss
 unfolding daySeries
 opened-series date ss =
-    ap (map (λ (x : DaySeries). x .series)) (take-at (map newSeries ss) (replicate (mostSeries - length (map newSeries ss)) (newSeries 0)) (length ss) (length-map ss newSeries))
+    ap (map (λ (x : DaySeries). x .series))
+    (take-at (map newSeries ss) (replicate (mostSeries - length (map newSeries ss)) (newSeries 0)) (length ss)
+    (length-map ss newSeries))
     ∙ numbers-back ss
 
-none-published : (ss : List ℕ) (n i : ℕ) → getD (map newSeries ss ++ replicate n (newSeries 0)) i (newSeries 0) .published ≡ 0
+none-published : (ss : List ℕ) (n i : ℕ) → getD (map newSeries ss ++ replicate n (newSeries 0)) i
+    (newSeries 0) .published ≡ 0
 none-published [] zero i = refl
 none-published [] (suc n) zero = refl
 none-published [] (suc n) (suc i) = none-published [] n i
@@ -46,7 +51,8 @@ none-published (s ∷ ss) n (suc i) = none-published ss n i
 
 pub opened-published : (date : ℕ) (ss : List ℕ) (s : ℕ) → publishedOf (openedSender date ss) s ≡ 0
 unfolding publishedOf
-opened-published date ss s = none-published ss (mostSeries - length (map newSeries ss)) (indexOf s (daySeries (openedSender date ss)))
+opened-published date ss s =
+    none-published ss (mostSeries - length (map newSeries ss)) (indexOf s (daySeries (openedSender date ss)))
 
 no-login : (n i : ℕ) → getD (replicate n noPlace) i noPlace ≡ noPlace
 no-login zero i = refl

@@ -6,7 +6,10 @@ use lib.ListN.{length}
 use Rattle.ftd.specs.Bench.{same}
 use Rattle.flow.specs.World.{inRuns}
 use Rattle.flow.specs.Agreement.{publishedOn, reported}
-use Rattle.flow.specs.Examples.{refusals, twoDays, twoDaysStart, twoDaysEnd, twoDaysRefusals, twoDaysShown, twoLogins, twoLoginsStart, beforeOne, behindOne, beforeThree, behindThree, twoLoginsEnd, twoLoginsRefusals, twoLoginsShown, lastAnswer, chainDropped, Examples}
+use Rattle.flow.specs.Examples.{refusals, twoDays, twoDaysStart, twoDaysEnd, twoDaysRefusals, twoDaysShown}
+use Rattle.flow.specs.Examples.{twoLogins, twoLoginsStart, beforeOne, behindOne, beforeThree, behindThree}
+use Rattle.flow.specs.Examples.{twoLoginsEnd, twoLoginsRefusals, twoLoginsShown, lastAnswer, chainDropped}
+use Rattle.flow.specs.Examples.{Examples}
 use Rattle.flow.proofs.examples.Tests.{holdAll, each, isCaughtUp, caught-up}
 use Rattle.flow.proofs.examples.Opened.{opened}
 

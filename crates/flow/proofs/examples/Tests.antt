@@ -65,7 +65,8 @@ module _ {A : Type 0} (like : A → A → Bool) where
     within-sub (x ∷ xs) [] t = absurd t
     within-sub (x ∷ xs) (y ∷ ys) t = go (like x y) refl (within-sub xs ys) (within-sub (x ∷ xs) ys) t
       where
-        go : (b : Bool) → like x y ≡ b → (T (isWithin xs ys) → Subsequence xs ys) → (T (isWithin (x ∷ xs) ys) → Subsequence (x ∷ xs) ys) →
+        go : (b : Bool) → like x y ≡ b → (T (isWithin xs ys) → Subsequence xs ys)
+            → (T (isWithin (x ∷ xs) ys) → Subsequence (x ∷ xs) ys) →
             T (cond b (isWithin xs ys) (isWithin (x ∷ xs) ys)) → Subsequence (x ∷ xs) (y ∷ ys)
         go true q f g u = let h : T (like x y) = rw q tt in rw (sound x y h) (keep (f u))
         go false q f g u = skip (g u)

@@ -23,7 +23,8 @@ use Rattle.flow.proofs.steps.Turns.{confirm-turn, turn-eight}
 use Rattle.flow.proofs.common.Days.{upto-same}
 use Rattle.flow.specs.Agreement.{EachDated}
 
-module _ (P : List (Dated Message)) (ms : List (InSeries (List (List ℕ)))) (v : ReceiverSide) (h : Safe P ms v) (s : ℕ) (p : List ℕ) where
+module _ (P : List (Dated Message)) (ms : List (InSeries (List (List ℕ)))) (v : ReceiverSide) (h : Safe P ms v) (s : ℕ)
+    (p : List ℕ) where
   abbrev r : Left Receiver Confirmed
   r = confirmLoginOf (v .end) s p
 
@@ -34,7 +35,8 @@ module _ (P : List (Dated Message)) (ms : List (InSeries (List (List ℕ)))) (v 
   confirmed-days : (t : ℕ) → dayOf (r .end) t ≡ latestOf t None (days r)
   confirmed-days t = go (confirmLoginOf (v .end) s p) (confirm-as (v .end) s p)
     where
-      go : (a : Left Receiver Confirmed) → Confirmed-as (v .end) s (datedOf p .date) a → dayOf (a .end) t ≡ latestOf t None (days a)
+      go : (a : Left Receiver Confirmed) → Confirmed-as (v .end) s (datedOf p .date) a
+          → dayOf (a .end) t ≡ latestOf t None (days a)
       go a (Confirmed-as.refuses x) = rw (append-nil (v .days)) (h .days t)
       go a (confirms d i o b) = here (eqb t s) refl
         where
@@ -45,18 +47,24 @@ module _ (P : List (Dated Message)) (ms : List (InSeries (List (List ℕ)))) (v 
           moves = moves-with (v .end) (h .eight) s o (datedOf p .date) last loggedIn
 
           here : (c : Bool) → eqb t s ≡ c → dayOf (a .end) t ≡ latestOf t None (days a)
-          here true q = let x : t ≡ s = eqb-true t s q in rw x (moves .date ∙ sym (latestOf-same s None (v .days) (datedOf p .date)))
+          here true q =
+              let x : t ≡ s = eqb-true t s q in rw x
+              (moves .date ∙ sym (latestOf-same s None (v .days) (datedOf p .date)))
           here false q =
               let n = eqb-false t s q in
               moves .other t n .0 ∙ h .days t ∙ sym (latestOf-other t None (v .days) s (datedOf p .date) n)
 
-  confirmed-right : EndRight P (v .handed) (v .reports ++ map (dated s (latestOf s None (days r))) (reportIn (confirmedSaid (r .answer)))) (r .end) (v .buffer)
-  confirmed-right = rw (confirmed-days s) at (confirm-right P (v .handed) (v .reports) (v .end) (v .buffer) (h .right) (h .eight) s p)
+  confirmed-right : EndRight P (v .handed)
+      (v .reports ++ map (dated s (latestOf s None (days r))) (reportIn (confirmedSaid (r .answer)))) (r .end)
+      (v .buffer)
+  confirmed-right =
+      rw (confirmed-days s) at (confirm-right P (v .handed) (v .reports) (v .end) (v .buffer) (h .right) (h .eight) s p)
 
   confirmed-dated : EachDated (map (dated s (latestOf s None (days r))) (reportIn (confirmedSaid (r .answer))))
   confirmed-dated = rw (← (confirmed-days s)) (go (confirmLoginOf (v .end) s p) (confirm-as (v .end) s p))
     where
-      go : (a : Left Receiver Confirmed) → Confirmed-as (v .end) s (datedOf p .date) a → EachDated (map (dated s (dayOf (a .end) s)) (reportIn (confirmedSaid (a .answer))))
+      go : (a : Left Receiver Confirmed) → Confirmed-as (v .end) s (datedOf p .date) a
+          → EachDated (map (dated s (dayOf (a .end) s)) (reportIn (confirmedSaid (a .answer))))
       go a (Confirmed-as.refuses x) = tt
       go a (confirms d i o b) =
           let last : ℕ = lastAfter (v .end) s (datedOf p .date) in
@@ -64,4 +72,12 @@ module _ (P : List (Dated Message)) (ms : List (InSeries (List (List ℕ)))) (v 
           (moves-with (v .end) (h .eight) s o (datedOf p .date) last loggedIn .date ∙ i)
 
   pub safe-confirm : Safe P ms (afterConfirm v s p (confirmLoginOf (v .end) s p))
-  safe-confirm = record { eight = turn-eight (datedOf p .date) false (v .end) (h .eight) (r .end) _ _ (confirm-turn (datedOf p .date) false (v .end) s p (upto-same (datedOf p .date))); days = confirmed-days; right = confirmed-right; dated = (h .dated .0, each-append (v .reports) _ (h .dated .1) confirmed-dated); chained = tt }
+  safe-confirm =
+      record {
+        eight = turn-eight (datedOf p .date) false (v .end) (h .eight) (r .end) _ _
+            (confirm-turn (datedOf p .date) false (v .end) s p (upto-same (datedOf p .date)));
+        days = confirmed-days;
+        right = confirmed-right;
+        dated = (h .dated .0, each-append (v .reports) _ (h .dated .1) confirmed-dated);
+        chained = tt;
+      }

@@ -1,4 +1,5 @@
--- Receive of a packet of a genuine message keeps what holds of the receiving end's side, by the line's rule. Assumes nothing.
+-- Receive of a packet of a genuine message keeps what holds of the receiving end's side, by the line's rule. Assumes
+-- nothing.
 use Prim.Native.Nat.{ℕ, zero, suc, _+_, _<_}
 use native.Mathlib.Omega.{arith}
 use mathlib.Core.Path.{_≡_, refl, sym, ap, _∙_}
@@ -18,13 +19,15 @@ use Rattle.flow.specs.declared.receiver.Received.{Received}
 use Rattle.flow.specs.Ends.{Wrote, dayOf, liveOf}
 use Rattle.flow.specs.Answers.{Message, receivedSaid, messageIn, reportIn}
 use Rattle.flow.specs.Receiving.{receiveOf}
-use Rattle.flow.specs.World.{came, borne, InSeries, Dated, dated, latestOf, other, seriesIn, ReceiverSide, afterReceive}
+use Rattle.flow.specs.World.{came, borne, InSeries, Dated, dated, latestOf, other, seriesIn, ReceiverSide}
+use Rattle.flow.specs.World.{afterReceive}
 use Rattle.flow.proofs.steps.Moves.{Moves}
 use Rattle.flow.proofs.pieces.Outcomes.{Delivered, keeps, reports, hands}
 use Rattle.flow.proofs.right.End.{EndRight, receive-right}
 use Rattle.flow.proofs.pieces.Completes.{Wants}
 use Rattle.flow.proofs.packets.Genuine.{headed, Genuine}
-use Rattle.flow.proofs.pieces.Takes.{PacketAt, Before, take-within, take-series, take-date, take-holds, take-opens, take-delivers, take-completes}
+use Rattle.flow.proofs.pieces.Takes.{PacketAt, Before, take-within, take-series, take-date, take-holds}
+use Rattle.flow.proofs.pieces.Takes.{take-opens, take-delivers, take-completes}
 use Rattle.flow.proofs.first.Safe.{Safe}
 use Rattle.flow.proofs.pieces.Runs.{Run, Behind}
 use Rattle.flow.proofs.common.Extends.{same-some}
@@ -35,20 +38,23 @@ use Rattle.flow.specs.Agreement.{EachDated}
 use Rattle.flow.proofs.common.Histories.{each-append, each-at}
 
 -- A packet moves no day.
-same-days : (e after : Receiver) (s : ℕ) (date : TradeDate) (last : ℕ) → Moves e after s date last → date ≡ dayOf e s → (t : ℕ) → dayOf after t ≡ dayOf e t
+same-days : (e after : Receiver) (s : ℕ) (date : TradeDate) (last : ℕ) → Moves e after s date last → date ≡ dayOf e s
+    → (t : ℕ) → dayOf after t ≡ dayOf e t
 same-days e after s date last m q t = go (eqb t s) refl
   where
     go : (b : Bool) → eqb t s ≡ b → dayOf after t ≡ dayOf e t
     go true z = let y : t ≡ s = eqb-true t s z in rw y (m .date ∙ q)
     go false z = m .other t (eqb-false t s z) .0
 
-delivered-day : (e : Receiver) (s d k : ℕ) (x : Message) (after : Receiver) (ms : List Message) (ks : List ℕ) → Delivered e s d k x after ms ks → (t : ℕ) → dayOf after t ≡ dayOf e t
+delivered-day : (e : Receiver) (s d k : ℕ) (x : Message) (after : Receiver) (ms : List Message) (ks : List ℕ)
+    → Delivered e s d k x after ms ks → (t : ℕ) → dayOf after t ≡ dayOf e t
 delivered-day e s d k x after ms ks (keeps m) = same-days e after s _ _ m refl
 delivered-day e s d k x after ms ks (reports m q l) = same-days e after s _ _ m refl
 delivered-day e s d k x after ms ks (hands m q l w) = same-days e after s _ _ m (sym q)
 
 -- What it reports is of the kept day, which is the packet's.
-delivered-dated : (e : Receiver) (s d k : ℕ) (x : Message) (after : Receiver) (ms : List Message) (ks : List ℕ) → Delivered e s d k x after ms ks → EachDated (map (dated s (dayOf e s)) ks)
+delivered-dated : (e : Receiver) (s d k : ℕ) (x : Message) (after : Receiver) (ms : List Message) (ks : List ℕ)
+    → Delivered e s d k x after ms ks → EachDated (map (dated s (dayOf e s)) ks)
 delivered-dated e s d k x after ms ks (keeps m) = tt
 delivered-dated e s d k x after ms ks (reports {n = n} m q l) = each-at s d (dayOf e s) (n ∷ []) q
 delivered-dated e s d k x after ms ks (hands m q l w) = each-at s d (dayOf e s) (k ∷ []) q
@@ -70,7 +76,8 @@ module _ (P : List (Dated Message)) (ms : List (InSeries (List (List ℕ)))) (v 
       s = m .series
 
       -- By the line's rule the packet before it came right before it.
-      run-behind : (t k d : ℕ) (c : List ℕ) → m .what ≡ packetsOf (headed s t k d) c → shaped c mostContent ≡ true → 0 < j → Run e (v .buffer) s t k d c j
+      run-behind : (t k d : ℕ) (c : List ℕ) → m .what ≡ packetsOf (headed s t k d) c → shaped c mostContent ≡ true
+          → 0 < j → Run e (v .buffer) s t k d c j
       run-behind t k d c w q = go j refl
         where
           go : (n : ℕ) → j ≡ n → 0 < n → Run e (v .buffer) s t k d c n
@@ -78,44 +85,77 @@ module _ (P : List (Dated Message)) (ms : List (InSeries (List (List ℕ)))) (v 
           go (suc n) z l =
               let b : Behind ms e (v .buffer) (came i n) = rw (line n z) at (h .chained) in
               let x = same-some (getElem? ms i) (b .0) m (b .1) at in
-              let f : (t k d : ℕ) (c : List ℕ) → m .what ≡ packetsOf (headed (m .series) t k d) c → shaped c mostContent ≡ true → Run e (v .buffer) (m .series) t k d c (suc n) = rw x at (b .2) in
+              let f : (t k d : ℕ) (c : List ℕ) → m .what ≡ packetsOf (headed (m .series) t k d) c
+              → shaped c mostContent ≡ true → Run e (v .buffer) (m .series) t k d c (suc n) =
+              rw x at (b .2) in
               f t k d c w q
 
-      run-before : (t k d : ℕ) (c : List ℕ) → m .what ≡ packetsOf (headed s t k d) c → shaped c mostContent ≡ true → j < length (piecesOf c) → Before e (v .buffer) s t k d c j
+      run-before : (t k d : ℕ) (c : List ℕ) → m .what ≡ packetsOf (headed s t k d) c → shaped c mostContent ≡ true
+          → j < length (piecesOf c) → Before e (v .buffer) s t k d c j
       run-before t k d c w q within =
-          record { held = λ l x n. run-behind t k d c w q l .holding; opens = λ l. run-behind t k d c w q l .opens within }
+          record {
+            held = λ l x n. run-behind t k d c w q l .holding;
+            opens = λ l. run-behind t k d c w q l .opens
+                within;
+          }
 
       -- One packet more of it has come.
-      received-run : (t k d : ℕ) (b : List ℕ) → m .what ≡ packetsOf (headed s t k d) b → shaped b mostContent ≡ true → Run (r .end) (r .bytes) s t k d b (suc j)
+      received-run : (t k d : ℕ) (b : List ℕ) → m .what ≡ packetsOf (headed s t k d) b → shaped b mostContent ≡ true
+          → Run (r .end) (r .bytes) s t k d b (suc j)
       received-run t k d b w q =
           let a : PacketAt s t k d b j p = record { good = q; here = rw w at here } in
           let before = run-before t k d b w q (take-within a) in
-          record { holding = take-holds a e (h .eight) (v .buffer) before; opens = take-opens a e (h .eight) (v .buffer) before }
+          record {
+            holding = take-holds a e (h .eight) (v .buffer) before;
+            opens = take-opens a e (h .eight) (v .buffer)
+                before;
+          }
 
       found : PacketAt s (g .what .tid) (suc (g .place)) (g .day) (g .what .content) j p
       found = record { good = g .good; here = rw (g .packets) at here }
 
       before : Before e (v .buffer) s (g .what .tid) (suc (g .place)) (g .day) (g .what .content) j
-      before = run-before (g .what .tid) (suc (g .place)) (g .day) (g .what .content) (g .packets) (g .good) (take-within found)
+      before =
+          run-before (g .what .tid) (suc (g .place)) (g .day) (g .what .content) (g .packets) (g .good)
+          (take-within found)
 
       counted : 0 < j → Chain-open e s → liveOf e s .held ≡ length (firstPieces (g .what .content) j)
-      counted l o = run-behind (g .what .tid) (suc (g .place)) (g .day) (g .what .content) (g .packets) (g .good) l .holding o .held
+      counted l o =
+          run-behind (g .what .tid) (suc (g .place)) (g .day) (g .what .content) (g .packets) (g .good) l .holding
+          o .held
 
-      delivered : Delivered e s (g .day) (suc (g .place)) (g .what) (r .end) (messageIn (receivedSaid p (r .bytes) (r .answer))) (reportIn (receivedSaid p (r .bytes) (r .answer)))
+      delivered : Delivered e s (g .day) (suc (g .place)) (g .what) (r .end)
+          (messageIn (receivedSaid p (r .bytes) (r .answer))) (reportIn (receivedSaid p (r .bytes) (r .answer)))
       delivered = take-delivers found e (h .eight) (v .buffer) before
 
-      received-right : EndRight P (v .handed ++ map (dated (seriesIn (datedOf p .packet)) (borne (datedOf p .date) (latestOf (seriesIn (datedOf p .packet)) None (v .days)))) (messageIn (receivedSaid p (r .bytes) (r .answer))))
-          (v .reports ++ map (dated (seriesIn (datedOf p .packet)) (latestOf (seriesIn (datedOf p .packet)) None (v .days))) (reportIn (receivedSaid p (r .bytes) (r .answer)))) (r .end) (r .bytes)
+      received-right : EndRight P
+          (v .handed ++ map
+          (dated (seriesIn (datedOf p .packet))
+          (borne (datedOf p .date) (latestOf (seriesIn (datedOf p .packet)) None (v .days))))
+          (messageIn (receivedSaid p (r .bytes) (r .answer))))
+          (v .reports ++ map
+          (dated (seriesIn (datedOf p .packet)) (latestOf (seriesIn (datedOf p .packet)) None (v .days)))
+          (reportIn (receivedSaid p (r .bytes) (r .answer)))) (r .end) (r .bytes)
       received-right =
           rw (take-series found, take-date found, ← (h .days s))
-          (receive-right P (v .handed) (v .reports) e (v .buffer) (h .right) (h .eight) s (g .day) (g .place) (g .what) j p (g .placed) found counted (before .opens))
+          (receive-right P (v .handed) (v .reports) e (v .buffer) (h .right) (h .eight) s (g .day) (g .place) (g .what)
+          j p (g .placed) found counted (before .opens))
 
-      received-dated : EachDated (v .handed ++ map (dated (seriesIn (datedOf p .packet)) (borne (datedOf p .date) (latestOf (seriesIn (datedOf p .packet)) None (v .days)))) (messageIn (receivedSaid p (r .bytes) (r .answer))))
-          × EachDated (v .reports ++ map (dated (seriesIn (datedOf p .packet)) (latestOf (seriesIn (datedOf p .packet)) None (v .days))) (reportIn (receivedSaid p (r .bytes) (r .answer))))
+      received-dated : EachDated
+          (v .handed ++ map
+          (dated (seriesIn (datedOf p .packet))
+          (borne (datedOf p .date) (latestOf (seriesIn (datedOf p .packet)) None (v .days))))
+          (messageIn (receivedSaid p (r .bytes) (r .answer))))
+          × EachDated
+          (v .reports ++ map
+          (dated (seriesIn (datedOf p .packet)) (latestOf (seriesIn (datedOf p .packet)) None (v .days)))
+          (reportIn (receivedSaid p (r .bytes) (r .answer))))
       received-dated =
           rw (take-series found, take-date found, ← (h .days s)) (
-            each-append (v .handed) _ (h .dated .0) (each-at s (g .day) (At (g .day)) (messageIn (receivedSaid p (r .bytes) (r .answer))) refl),
-            each-append (v .reports) _ (h .dated .1) (delivered-dated e s (g .day) (suc (g .place)) (g .what) (r .end) _ _ delivered),
+            each-append (v .handed) _ (h .dated .0)
+                (each-at s (g .day) (At (g .day)) (messageIn (receivedSaid p (r .bytes) (r .answer))) refl),
+            each-append (v .reports) _ (h .dated .1)
+                (delivered-dated e s (g .day) (suc (g .place)) (g .what) (r .end) _ _ delivered),
           )
 
       pub safe-receive : Safe P ms (afterReceive v (m .what) i j p r)

@@ -1,5 +1,5 @@
--- What holds of the receiving end's side beside what was published and sent; kept by what the serving end does, and by Opening, Connect
--- and Ask. Assumes nothing.
+-- What holds of the receiving end's side beside what was published and sent; kept by what the serving end does, and by
+-- Opening, Connect and Ask. Assumes nothing.
 use Prim.Native.Nat.{ℕ}
 use mathlib.Core.Path.{_≡_, _∙_}
 use mathlib.Core.List.{List, _++_, []}
@@ -34,24 +34,43 @@ module _ (P : List (Dated Message)) (ms : List (InSeries (List (List ℕ)))) (v 
   -- ─── The serving end's events: more is published, more is sent ───
 
   pub safe-published : (Q : List (Dated Message)) → Safe (P ++ Q) ms v
-  safe-published Q = record { eight = h .eight; days = h .days; right = grown-right P (v .handed) (v .reports) (v .end) (v .buffer) (h .right) Q; dated = h .dated; chained = h .chained }
+  safe-published Q =
+      record {
+        eight = h .eight;
+        days = h .days;
+        right = grown-right P (v .handed) (v .reports) (v .end) (v .buffer)
+            (h .right) Q;
+        dated = h .dated;
+        chained = h .chained;
+      }
 
   pub safe-sent : (ns : List (InSeries (List (List ℕ)))) → Safe P (ms ++ ns) v
-  safe-sent ns = record { eight = h .eight; days = h .days; right = h .right; dated = h .dated; chained = behind-grows ms ns (v .end) (v .buffer) (v .previous) (h .chained) }
+  safe-sent ns =
+      record {
+        eight = h .eight;
+        days = h .days;
+        right = h .right;
+        dated = h .dated;
+        chained = behind-grows ms ns
+            (v .end) (v .buffer) (v .previous) (h .chained);
+      }
 
   -- ─── Opening, Connect and Ask ───
 
   pub safe-reopen : (ss : List ℕ) → Safe P ms (afterReopen v (openEndOf (v .end) ss))
   safe-reopen ss =
       record {
-        eight = turn-eight None false (v .end) (h .eight) (openEndOf (v .end) ss .end) [] [] (open-turn None false (v .end) ss);
+        eight =
+            turn-eight None false (v .end) (h .eight) (openEndOf (v .end) ss .end) [] []
+            (open-turn None false (v .end) ss);
         days = λ s. still s (openEndOf (v .end) ss) (open-as (v .end) ss);
         right = open-right P (v .handed) (v .reports) (v .end) (v .buffer) (h .right) ss;
         dated = h .dated;
         chained = tt;
       }
     where
-      still : (s : ℕ) (r : Left Receiver Opened) → Opened-as (v .end) ss r → dayOf (r .end) s ≡ latestOf s None (v .days)
+      still : (s : ℕ) (r : Left Receiver Opened) → Opened-as (v .end) ss r
+          → dayOf (r .end) s ≡ latestOf s None (v .days)
       still s r Opened-as.refuses = h .days s
       still s r (opens z q) = opened-same (v .end) ss z s .0 ∙ h .days s
 
@@ -69,4 +88,11 @@ module _ (P : List (Dated Message)) (ms : List (InSeries (List (List ℕ)))) (v 
   safe-request s content out = go (requestLoginOf (v .end) s content out) (request-end (v .end) s content out)
     where
       go : (r : Wrote Receiver Requested) → r .end ≡ v .end → Safe P ms (afterRequest v r)
-      go r q = record { eight = rw q (h .eight); days = rw q (h .days); right = rw q (h .right); dated = h .dated; chained = tt }
+      go r q =
+          record {
+            eight = rw q (h .eight);
+            days = rw q (h .days);
+            right = rw q (h .right);
+            dated = h .dated;
+            chained = tt;
+          }

@@ -21,7 +21,8 @@ use Rattle.flow.specs.declared.log.EntryPlace.the-variants.{Damaged, At}
 use Rattle.flow.specs.declared.log.EntryStep.{EntryStep}
 use Rattle.flow.specs.declared.log.EntryStep.the-variants.{Wrong, Wanted, Passed}
 use Rattle.flow.specs.Ends.{_when_else_, indexOf, daySeries, isServed}
-use Rattle.flow.specs.Log.{entry, entrySeries, entryNumber, times, nonzero, misnumbered, misshapen, isWanted, walk, logShort, entriesOf, entryOf}
+use Rattle.flow.specs.Log.{entry, entrySeries, entryNumber, times, nonzero, misnumbered, misshapen, isWanted}
+use Rattle.flow.specs.Log.{walk, logShort, entriesOf, entryOf}
 use Rattle.flow.specs.Helpers.{checked, PlaceInside, EntryIn}
 use Rattle.flow.proofs.log.Heads.{part-size}
 use Rattle.flow.proofs.ends.SenderLookups.{served-index, served-apart}

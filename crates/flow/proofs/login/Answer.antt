@@ -49,12 +49,14 @@ start-above published next h = rw (ne-eqb next 0 h) (go (ltb published (next - 1
 
 -- ─── 18, 19, and the answer written ───
 
-module _ (e : Sender) (i next : ℕ) (content out : List ℕ) (n : ℕ) (size : n ≡ length (loginBytes (e .day .date) content)) where
+module _ (e : Sender) (i next : ℕ) (content out : List ℕ) (n : ℕ)
+    (size : n ≡ length (loginBytes (e .day .date) content)) where
   pub answer-small : length out < n → wrote e (NotIn TooSmall) out ≡ loginAnswer e i next content out
   unfolding loginAnswer
   answer-small h = rw (← size, lt-ltb (length out) n h)
 
-  module _ (room : n ≤ length out) (b : Bool) (q : b ≡ startOutside (getD (e .day .series) i (newSeries 0) .published) next) where
+  module _ (room : n ≤ length out) (b : Bool)
+      (q : b ≡ startOutside (getD (e .day .series) i (newSeries 0) .published) next) where
     pub answer-outside : b ≡ true → wrote e (NotIn WrongStart) out ≡ loginAnswer e i next content out
     unfolding loginAnswer
     answer-outside x = rw (← size, le-ltb (length out) n room, ← q, x)
@@ -66,8 +68,10 @@ module _ (e : Sender) (i next : ℕ) (content out : List ℕ) (n : ℕ) (size : 
     answer-written x f g o k = rw (g, k, ← size, le-ltb (length out) n room, ← q, x)
 
 -- What the writer leaves of content that 7 lets pass, in an output with room.
-pub written-over : (date : TradeDate) (content out o : List ℕ) (n : ℕ) → n ≡ length (loginBytes date content) → n ≤ length out
-    → shaped content 4080 ≡ true → o ≡ writtenOutput (loginVerdict content Nothing) (loginBytes date (content ++ [])) out
+pub written-over : (date : TradeDate) (content out o : List ℕ) (n : ℕ) → n ≡ length (loginBytes date content)
+    → n ≤ length out
+    → shaped content 4080 ≡ true → o ≡ writtenOutput (loginVerdict content Nothing) (loginBytes date (content ++ []))
+    out
     → o ≡ over (loginBytes date content) out
 unfolding writtenOutput loginVerdict
 written-over date content out o n size room whole e =

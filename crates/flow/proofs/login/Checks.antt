@@ -1,5 +1,5 @@
--- What each way through Login's checks decides, over plain variables: what each test gave, and what that is by definition.
--- Assumes nothing.
+-- What each way through Login's checks decides, over plain variables: what each test gave, and what that is by
+-- definition. Assumes nothing.
 use Prim.Native.Nat.{ℕ, _<_, _≤_}
 use mathlib.Core.Path.{_≡_}
 use mathlib.Core.List.{List}
@@ -8,7 +8,8 @@ use borrow.Author.Tests.{lt-ltb, le-ltb}
 use Rattle.ftd.specs.Fields.{shaped, countOf}
 use Rattle.ftd.specs.Items.{wrongWidth, wrongItem}
 use Rattle.ftd.specs.Composition.{composed}
-use Rattle.ftd.specs.declared.refusal.Refusal.the-variants.{FieldRun, FieldLength, Item, Composition, UnknownSeries, OtherDay, OutOfLine}
+use Rattle.ftd.specs.declared.refusal.Refusal.the-variants.{FieldRun, FieldLength, Item, Composition, UnknownSeries}
+use Rattle.ftd.specs.declared.refusal.Refusal.the-variants.{OtherDay, OutOfLine}
 use Rattle.ftd.specs.declared.composition.Direction.the-variants.{Up, Down}
 use Rattle.ftd.specs.declared.items.Checked.the-variants.{Passed, Refused}
 use Rattle.ftd.specs.declared.tags.TradeDate.{TradeDate}

@@ -9,7 +9,8 @@ use Rattle.ftd.specs.Fields.{shaped, packetContent}
 use Rattle.ftd.specs.Items.{wrongWidth, wrongItem}
 use Rattle.ftd.specs.Resume.{resumeOf}
 use Rattle.ftd.specs.declared.refusal.Refusal.{Refusal}
-use Rattle.ftd.specs.declared.refusal.Refusal.the-variants.{FieldRun, FieldLength, Item, Composition, UnknownSeries, OtherDay, OutOfLine}
+use Rattle.ftd.specs.declared.refusal.Refusal.the-variants.{FieldRun, FieldLength, Item, Composition, UnknownSeries}
+use Rattle.ftd.specs.declared.refusal.Refusal.the-variants.{OtherDay, OutOfLine}
 use Rattle.ftd.specs.declared.items.Checked.{Checked}
 use Rattle.ftd.specs.declared.items.Checked.the-variants.{Passed, Refused}
 use Rattle.ftd.specs.declared.tags.TradeDate.{TradeDate}
@@ -20,7 +21,8 @@ use Rattle.flow.specs.declared.series.SeriesPlace.the-variants.{Unknown,
 use Rattle.flow.specs.declared.sender.Sender.{Sender}
 use Rattle.flow.specs.declared.sender.LoggedIn.{LoggedIn}
 use Rattle.flow.specs.declared.sender.LoggedIn.the-variants.{Refused as NotIn}
-use Rattle.flow.specs.Ends.{_when_else_, Wrote, wrote, before, indexOf, daySeries, isServed, publishedOf, withNext}
+use Rattle.flow.specs.Ends.{_when_else_, Wrote, wrote, before, indexOf, daySeries, isServed, publishedOf}
+use Rattle.flow.specs.Ends.{withNext}
 use Rattle.flow.specs.Serving.{wrongRun, notZero, startElsewhere, wanted, startOf, loginWith}
 use Rattle.flow.specs.Helpers.{Finds}
 use Rattle.flow.specs.LoginHelpers.{wrongLogin, loginContents, loginLine, loginAnswer}
@@ -41,7 +43,8 @@ module _ (e : Sender) (out : List ℕ) where
       refused Composition when d else
       refused UnknownSeries when f || g else refused OtherDay when h else refused OutOfLine when k else w)
       ≡ unless e out
-      (Refused FieldRun when a else Refused FieldLength when b else Refused Item when c else Refused Composition when d else Passed)
+      (Refused FieldRun when a else Refused FieldLength when b else Refused Item when c else Refused Composition when d
+      else Passed)
       (refused UnknownSeries when f else
       unless e out
       (Refused UnknownSeries when g else Refused OtherDay when h else Refused OutOfLine when k else Passed) w)

@@ -1,5 +1,5 @@
--- What start a login takes, and why it is at most last + 1 of the end that hears its answer: of any serving end, of a receiving end in any
--- state and of any login packet that it asked for, then or before. Assumes nothing.
+-- What start a login takes, and why it is at most last + 1 of the end that hears its answer: of any serving end, of a
+-- receiving end in any state and of any login packet that it asked for, then or before. Assumes nothing.
 use Prim.Native.Nat.{ℕ, _+_}
 use mathlib.Core.Path.{_≡_, refl, sym, ap, _∙_}
 use mathlib.Core.List.{List}
@@ -53,7 +53,9 @@ asked-request r s c out z =
     (q, tt)
 
 -- It stays one, whatever the end that asked is called for.
-pub request-onward : (o : TradeDate) (c : Bool) (r : Receiver) → Eight r → (r′ : Receiver) (ms : List Message) (ks : List ℕ) → Turn o c r r′ ms ks → (p : List ℕ) → Request r p → Request r′ p
+pub request-onward : (o : TradeDate) (c : Bool) (r : Receiver) → Eight r
+    → (r′ : Receiver) (ms : List Message) (ks : List ℕ) → Turn o c r r′ ms ks → (p : List ℕ) → Request r p
+    → Request r′ p
 request-onward o c r eight r′ ms ks t p q =
     record {
       series = q .series;
@@ -64,7 +66,8 @@ request-onward o c r eight r′ ms ks t p q =
       asking = q .asking;
       opens = turn-open o c r eight r′ ms ks t (q .series) (q .opens);
       timed =
-          timed-onward (q .date) (q .next) (dayOf r (q .series)) (lastOf r (q .series)) (dayOf r′ (q .series)) (lastOf r′ (q .series))
+          timed-onward (q .date) (q .next) (dayOf r (q .series)) (lastOf r (q .series)) (dayOf r′ (q .series))
+          (lastOf r′ (q .series))
           (turn-onward o c r eight r′ ms ks t (q .series)) (q .timed);
     }
 
@@ -73,7 +76,8 @@ request-onward o c r eight r′ ms ks t p q =
 span-same : (g h : Header) (a b x y : Span) → Accepted g a b ≡ Accepted h x y → b ≡ y
 span-same g h a b x y q = cc
 
-module _ (e : Sender) (d : ℕ) (day : e .day .date ≡ At d) (r : Receiver) (p : List ℕ) (q : Request r p) (s : ℕ) (content out : List ℕ) (h : Header) (x body : Span)
+module _ (e : Sender) (d : ℕ) (day : e .day .date ≡ At d) (r : Receiver) (p : List ℕ) (q : Request r p) (s : ℕ)
+    (content out : List ℕ) (h : Header) (x body : Span)
     (read : datedOf p .packet ≡ Accepted h x body)
     (tests : LoginTests e s h (datedOf p .date) (part p (body .start) (body .len)) content out)
   where
@@ -88,7 +92,10 @@ module _ (e : Sender) (d : ℕ) (day : e .day .date ≡ At d) (r : Receiver) (p 
 
     content-is : part p (body .start) (body .len) ≡ full
     content-is =
-        let b = span-same _ _ _ _ _ _ (sym read ∙ ap (λ (p : List ℕ). datedOf p .packet) (q .is) ∙ ap (λ (x : Read). x .packet) (login-back (q .date) full good)) in
+        let b =
+        span-same _ _ _ _ _ _
+        (sym read ∙ ap (λ (p : List ℕ). datedOf p .packet) (q .is)
+        ∙ ap (λ (x : Read). x .packet) (login-back (q .date) full good)) in
         ap (λ (x : Span). part p (x .start) (x .len)) b
         ∙ ap (λ (p : List ℕ). part p (4 + length (extensionBytes (tagsFor (q .date))) + 16) (length full)) (q .is)
         ∙ login-content (q .date) full
@@ -99,14 +106,18 @@ module _ (e : Sender) (d : ℕ) (day : e .day .date ≡ At d) (r : Receiver) (p 
     series-is : q .series ≡ s
     series-is = eqb-true (q .series) s (not-false _ (ap (startElsewhere s) (sym start-is) ∙ tests .here))
 
-    -- The series is open at the end that asked, and it wants this number of day d or a later one, or it has passed the day.
+    -- The series is open at the end that asked, and it wants this number of day d or a later one, or it has passed the
+    -- day.
     pub taken-opens : isOpen r s ≡ true
     taken-opens = ap (isOpen r) (sym series-is) ∙ q .opens
 
-    pub taken-reached : Reached d (startOf e (datedOf p .date) (resumeOf (part p (body .start) (body .len)))) (dayOf r s) (lastOf r s)
+    pub taken-reached : Reached d (startOf e (datedOf p .date) (resumeOf (part p (body .start) (body .len))))
+        (dayOf r s) (lastOf r s)
     taken-reached =
         let b = ap (before (e .day .date)) (sym date-is) ∙ tests .timely in
-        let k = start-reached e d day (q .series) (q .date) (q .next) (dayOf r (q .series)) (lastOf r (q .series)) (q .timed) b in
+        let k =
+        start-reached e d day (q .series) (q .date) (q .next) (dayOf r (q .series)) (lastOf r (q .series)) (q .timed)
+        b in
         rw (date-is, start-is) (back (q .series) series-is k)
       where
         back : (x : ℕ) → x ≡ s → Reached d (startOf e (q .date) (Next (q .series) (q .next))) (dayOf r x) (lastOf r x)

@@ -1,5 +1,6 @@
--- The start of a login over the world: every login packet on the line is timed, after every list of events; so where a login is taken
--- on day d with start k, at any later time at which the receiving end keeps d, k is at most last + 1. Assumes nothing.
+-- The start of a login over the world: every login packet on the line is timed, after every list of events; so where a
+-- login is taken on day d with start k, at any later time at which the receiving end keeps d, k is at most last + 1.
+-- Assumes nothing.
 use Prim.Native.Nat.{ℕ, _+_, _≤_}
 use native.Mathlib.Omega.{arith}
 use mathlib.Core.Path.{_≡_, refl, sym, ap, _∙_}
@@ -17,7 +18,8 @@ use Rattle.flow.proofs.logins.Timely.{Reached, reached-onward, reached-
 use Rattle.flow.proofs.source.Moves.{step-moves}
 use Rattle.flow.proofs.logins.Taken.{LoginTaken, startAt}
 use Rattle.flow.proofs.steps.Turns.{turn-onward}
-use Rattle.flow.proofs.logins.Consistent.{isConnect, Turned, step-turn, Consistent, turn-behind, turn-consistent, fresh-consistent}
+use Rattle.flow.proofs.logins.Consistent.{isConnect, Turned, step-turn, Consistent, turn-behind, turn-consistent}
+use Rattle.flow.proofs.logins.Consistent.{fresh-consistent}
 use Rattle.flow.proofs.common.Rows.{by-given}
 use Rattle.flow.proofs.common.Days.{Upto, upto-along}
 use Rattle.flow.proofs.source.Days.{day-rises}
@@ -49,13 +51,16 @@ module _ (w : World) (h : Timely w) where
       record {
         all =
             rw e
-            (every-map _ _ (request-onward (w .serving .day) c (w .receiving .end) (h .receiving .eight) (v .receiving .end) _ _ (t .turn)) (w .receiving .requests) (h .requests-ok));
+            (every-map _ _
+            (request-onward (w .serving .day) c (w .receiving .end) (h .receiving .eight) (v .receiving .end) _ _
+            (t .turn)) (w .receiving .requests) (h .requests-ok));
       }
 
   requests-step : (e : Event) → Then (isConnect e) (step w e)
   requests-step (World.openSender date ss) = on false _ refl
   requests-step (World.publish s tid content) = on false _ refl
-  requests-step (World.login s i content out) = by-given (Then false) w (getElem? (w .receiving .requests) i) (on false w refl) (λ p e. on false _ refl)
+  requests-step (World.login s i content out) =
+      by-given (Then false) w (getElem? (w .receiving .requests) i) (on false w refl) (λ p e. on false _ refl)
   requests-step (World.send s out) = on false _ refl
   requests-step (World.openReceiver ss) = on false _ refl
   requests-step World.connect = on true _ refl
@@ -67,7 +72,8 @@ module _ (w : World) (h : Timely w) where
             (every-append (Request r) (w .receiving .requests) _ (h .requests-ok)
             (asked-request r s c out (h .receiving .undated s)));
       }
-  requests-step (World.confirmLogin i) = by-given (Then false) w (getElem? (w .serving .answers) i) (on false w refl) (λ a e. on false _ refl)
+  requests-step (World.confirmLogin i) =
+      by-given (Then false) w (getElem? (w .serving .answers) i) (on false w refl) (λ a e. on false _ refl)
   requests-step (World.receive i j) =
       by-given (Then false) w (getElem? (w .serving .messages) i) (on false w refl)
       (λ m e. by-given (Then false) w (getElem? (m .what) j) (on false w refl) (λ p f. on false _ refl))
@@ -83,7 +89,8 @@ module _ (w : World) (h : Timely w) where
         receiving = turn-consistent o (isConnect e) r (h .receiving) (step w e .receiving .end) _ _ (t .turn);
         behind =
             λ s. upto-along (keptOf (step w e .receiving .end) s .date) o (step w e .serving .day)
-            (turn-behind o (isConnect e) r (h .receiving) (h .behind) (step w e .receiving .end) _ _ (t .turn) s) (day-rises (w .serving) (step w e .serving) m (h .source .served));
+            (turn-behind o (isConnect e) r (h .receiving) (h .behind) (step w e .receiving .end) _ _ (t .turn) s)
+            (day-rises (w .serving) (step w e .serving) m (h .source .served));
         requests-ok = requests-step e t .all;
       }
 
@@ -93,17 +100,21 @@ timely-run w h (e ∷ es) = timely-run (step w e) (timely-step w h e) es
 
 pub timely-start : (log buffer : List ℕ) → Timely (start log buffer)
 unfolding start freshReceiver keptOf keptSeries
-timely-start log buffer = record { source = run-source log buffer []; receiving = fresh-consistent; behind = λ s. tt; requests-ok = tt }
+timely-start log buffer =
+    record { source = run-source log buffer []; receiving = fresh-consistent; behind = λ s. tt; requests-ok = tt }
 
 -- ─── A login that is taken ───
 
 -- On day d; it starts no later than the receiving end wants, in a series that is open there.
-module _ (u : World) (h : Timely u) (e : Event) (s d : ℕ) (a : List ℕ) (t : LoginTaken u e s a) (day : step u e .serving .day ≡ At d) where
+module _ (u : World) (h : Timely u) (e : Event) (s d : ℕ) (a : List ℕ) (t : LoginTaken u e s a)
+    (day : step u e .serving .day ≡ At d) where
   pub login-day : u .serving .end .day .date ≡ At d
   login-day = h .source .served .same-day ∙ sym (ap (λ (w : World). w .serving .day) (t .effect)) ∙ day
 
   abbrev q : Request (u .receiving .end) (t .packet)
-  q = every-at (Request (u .receiving .end)) (u .receiving .requests) (t .place) (t .packet) (h .requests-ok) (t .on-line)
+  q =
+      every-at (Request (u .receiving .end)) (u .receiving .requests) (t .place) (t .packet) (h .requests-ok)
+      (t .on-line)
 
   same-end : step u e .receiving .end ≡ u .receiving .end
   same-end = ap (λ (w : World). w .receiving .end) (t .effect)
@@ -111,17 +122,20 @@ module _ (u : World) (h : Timely u) (e : Event) (s d : ℕ) (a : List ℕ) (t : 
   pub login-opens : isOpen (step u e .receiving .end) s ≡ true
   login-opens =
       ap (λ (r : Receiver). isOpen r s) same-end
-      ∙ taken-opens (u .serving .end) d login-day (u .receiving .end) (t .packet) q s (t .content) (t .out) (t .header) (t .extension) (t .body) (t .read) (t .tests)
+      ∙ taken-opens (u .serving .end) d login-day (u .receiving .end) (t .packet) q s (t .content) (t .out) (t .header)
+      (t .extension) (t .body) (t .read) (t .tests)
 
   pub login-reached : Reached d (startAt t) (dayOf (step u e .receiving .end) s) (lastOf (step u e .receiving .end) s)
   login-reached =
       rw same-end
-      (taken-reached (u .serving .end) d login-day (u .receiving .end) (t .packet) q s (t .content) (t .out) (t .header) (t .extension) (t .body) (t .read) (t .tests))
+      (taken-reached (u .serving .end) d login-day (u .receiving .end) (t .packet) q s (t .content) (t .out) (t .header)
+      (t .extension) (t .body) (t .read) (t .tests))
 
 -- ─── Over lists of events ───
 
 -- What is reached stays reached.
-pub reached-run : (s d k : ℕ) (w : World) → Timely w → (es : List Event) → Reached d k (dayOf (w .receiving .end) s) (lastOf (w .receiving .end) s)
+pub reached-run : (s d k : ℕ) (w : World) → Timely w → (es : List Event)
+    → Reached d k (dayOf (w .receiving .end) s) (lastOf (w .receiving .end) s)
     → Reached d k (dayOf (run w es .receiving .end) s) (lastOf (run w es .receiving .end) s)
 reached-run s d k w h [] r = r
 reached-run s d k w h (e ∷ es) r =
@@ -129,10 +143,12 @@ reached-run s d k w h (e ∷ es) r =
     let b = step w e .receiving .end in
     reached-run s d k (step w e) (timely-step w h e) es
     (reached-onward d k (dayOf a s) (lastOf a s) (dayOf b s) (lastOf b s)
-    (turn-onward (w .serving .day) (isConnect e) a (h .receiving .eight) b _ _ (step-turn w (h .source .answers) e .turn) s) r)
+    (turn-onward (w .serving .day) (isConnect e) a (h .receiving .eight) b _ _
+    (step-turn w (h .source .answers) e .turn) s) r)
 
 -- At any later time at which the receiving end keeps the login's day, the start is at most last + 1.
-pub start-within : (u : World) → Timely u → (e : Event) (s d : ℕ) (a : List ℕ) (t : LoginTaken u e s a) → step u e .serving .day ≡ At d → (fs : List Event)
+pub start-within : (u : World) → Timely u → (e : Event) (s d : ℕ) (a : List ℕ) (t : LoginTaken u e s a)
+    → step u e .serving .day ≡ At d → (fs : List Event)
     → let w = run (step u e) fs in
     dayOf (w .receiving .end) s ≡ At d → startAt t ≤ lastOf (w .receiving .end) s + 1
 start-within u h e s d a t day fs q =

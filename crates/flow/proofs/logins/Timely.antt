@@ -1,5 +1,5 @@
--- The start of a login: what a login packet on the line asks for is at most the next number of the receiving end, while that keeps
--- the packet's day. Assumes nothing.
+-- The start of a login: what a login packet on the line asks for is at most the next number of the receiving end, while
+-- that keeps the packet's day. Assumes nothing.
 use Prim.Native.Nat.{ℕ, suc, _≤_, _<_}
 use native.Mathlib.Omega.{arith}
 use mathlib.Core.Path.{_≡_, refl, _∙_, ap}
@@ -22,19 +22,22 @@ use Rattle.flow.proofs.steps.Turns.{Onward, same-day, later-day}
 
 -- ─── A number is reached ───
 
--- Number k of day d is at most the next one of a series that keeps this day and last, or it is the first, or the day is over.
+-- Number k of day d is at most the next one of a series that keeps this day and last, or it is the first, or the day is
+-- over.
 pub data Reached (d k : ℕ) (date : TradeDate) (last : ℕ) : Type 0 where
   first : k ≡ 1 → Reached d k date last
   here : date ≡ At d → k ≤ suc last → Reached d k date last
   past : (e : ℕ) → date ≡ At e → d < e → Reached d k date last
 
 -- Days only rise and within a day last only grows, so it stays reached.
-pub reached-onward : (d k : ℕ) (date : TradeDate) (last : ℕ) (after : TradeDate) (n : ℕ) → Onward date last after n → Reached d k date last → Reached d k after n
+pub reached-onward : (d k : ℕ) (date : TradeDate) (last : ℕ) (after : TradeDate) (n : ℕ) → Onward date last after n
+    → Reached d k date last → Reached d k after n
 reached-onward d k date last after n o (first e) = first e
 reached-onward d k date last after n (same-day q m) (here e h) = here (q ∙ e) (omega arith)
 reached-onward d k date last after n (same-day q m) (past c e h) = past c (q ∙ e) h
 reached-onward d k date last after n (later-day x q m) (here e h) = past x q (rw e at m)
-reached-onward d k date last after n (later-day x q m) (past c e h) = let j : c < x = rw e at m in past x q (omega arith)
+reached-onward d k date last after n (later-day x q m) (past c e h) =
+    let j : c < x = rw e at m in past x q (omega arith)
 
 -- On that day it is at most the next one.
 pub reached-here : (d k : ℕ) (date : TradeDate) (last : ℕ) → date ≡ At d → Reached d k date last → k ≤ suc last
@@ -48,7 +51,8 @@ abbrev pub Timed : TradeDate → ℕ → TradeDate → ℕ → Type 0
 Timed None k date last = k ≡ 1
 Timed (At d) k date last = Reached d k date last
 
-pub timed-onward : (asked : TradeDate) (k : ℕ) (date : TradeDate) (last : ℕ) (after : TradeDate) (n : ℕ) → Onward date last after n → Timed asked k date last → Timed asked k after n
+pub timed-onward : (asked : TradeDate) (k : ℕ) (date : TradeDate) (last : ℕ) (after : TradeDate) (n : ℕ)
+    → Onward date last after n → Timed asked k date last → Timed asked k after n
 timed-onward None k date last after n o h = h
 timed-onward (At d) k date last after n o h = reached-onward d k date last after n o h
 
@@ -77,7 +81,8 @@ pub record Request (r : Receiver) (p : List ℕ) : Type 0 where
 -- ─── The login that takes it ───
 
 -- Where it starts, on day d.
-pub start-reached : (e : Sender) (d : ℕ) → e .day .date ≡ At d → (s : ℕ) (date : TradeDate) (next : ℕ) (day : TradeDate) (last : ℕ) → Timed date next day last
+pub start-reached : (e : Sender) (d : ℕ) → e .day .date ≡ At d
+    → (s : ℕ) (date : TradeDate) (next : ℕ) (day : TradeDate) (last : ℕ) → Timed date next day last
     → before (e .day .date) date ≡ false → Reached d (startOf e date (Next s next)) day last
 unfolding startOf
 start-reached e d q s None next day last h b = first h

@@ -1,4 +1,5 @@
--- An answer that Login wrote, as Answer reads it: only the series and the trade date are left to refuse. Assumes nothing.
+-- An answer that Login wrote, as Answer reads it: only the series and the trade date are left to refuse. Assumes
+-- nothing.
 use Prim.Native.Nat.{ℕ}
 use mathlib.Core.Path.{_≡_, _∙_}
 use mathlib.Core.List.{List, [], _∷_}
@@ -53,29 +54,39 @@ confirm-by-login date content a r s = confirm-given date content (a .shape) r s 
 
 -- ─── An answer that Login wrote ───
 
-pub tests-content : (e : Sender) (s : ℕ) (h : Header) (date : TradeDate) (asked content out : List ℕ) → LoginTests e s h date asked content out → Answering content
+pub tests-content : (e : Sender) (s : ℕ) (h : Header) (date : TradeDate) (asked content out : List ℕ)
+    → LoginTests e s h date asked content out → Answering content
 tests-content e s h date asked content out t =
     record {
       shape = t .run;
       widths = or-neither (wrongWidth asked) (wrongWidth content) (t .widths) .1;
       items = or-neither (wrongItem asked) (wrongItem content) (t .items) .1;
-      composes = not-false _ (or-neither (noLogin h || not (composed loginTid Up asked) || ltb 1 (countOf resumeFid asked)) (not (composed loginTid Down content)) (t .counts) .1);
+      composes =
+          not-false _
+          (or-neither (noLogin h || not (composed loginTid Up asked) || ltb 1 (countOf resumeFid asked))
+          (not (composed loginTid Down content)) (t .counts) .1);
     }
 
 module _ (e : Sender) (t : ℕ) (content out : List ℕ) where
   abbrev answer : List ℕ
   answer = loginBytes (e .day .date) content
 
-  taken-answer : (p : List ℕ) (r : Wrote Sender LoggedIn) → LoginDone e t p content out r → T (isTaken (loginSaid (r .answer)))
+  taken-answer : (p : List ℕ) (r : Wrote Sender LoggedIn) → LoginDone e t p content out r
+      → T (isTaken (loginSaid (r .answer)))
       → Answering content × (written (r .bytes) (loginSaid (r .answer)) ≡ answer ∷ [])
   taken-answer p r (login-refused x) k = absurd k
-  taken-answer p r (login-taken h x c a b g z) k = (tests-content e t h _ _ content out z, rw (take-append-seam answer (drop (length answer) out)))
+  taken-answer p r (login-taken h x c a b g z) k =
+      (tests-content e t h _ _ content out z, rw (take-append-seam answer (drop (length answer) out)))
 
   -- Taken, the bytes written are the answer, and every receiving end reads them as meant.
   pub login-written : (p : List ℕ) → T (isTaken (loginSaid (loginOf e t p content out .answer)))
-      → written (loginOf e t p content out .bytes) (loginSaid (loginOf e t p content out .answer)) ≡ loginBytes (e .day .date) content ∷ []
+      → written (loginOf e t p content out .bytes) (loginSaid (loginOf e t p content out .answer)) ≡ loginBytes
+      (e .day .date) content ∷ []
   login-written p k = taken-answer p (loginOf e t p content out) (login-cases e t p content out) k .1
 
-  pub login-confirmed : (p : List ℕ) → T (isTaken (loginSaid (loginOf e t p content out .answer))) → (r : Receiver) (s : ℕ)
+  pub login-confirmed : (p : List ℕ) → T (isTaken (loginSaid (loginOf e t p content out .answer)))
+      → (r : Receiver) (s : ℕ)
       → confirmLoginOf r s (loginBytes (e .day .date) content) ≡ confirmByLogin r s (e .day .date)
-  login-confirmed p k r s = confirm-by-login (e .day .date) content (taken-answer p (loginOf e t p content out) (login-cases e t p content out) k .0) r s
+  login-confirmed p k r s =
+      confirm-by-login (e .day .date) content
+      (taken-answer p (loginOf e t p content out) (login-cases e t p content out) k .0) r s

@@ -31,14 +31,16 @@ pub record Genuine (P : List (Dated Message)) (s : ℕ) (ps : List (List ℕ)) :
   pub few : suc place ≤ mostMessages
 
 -- It stays so when more is published.
-unfoldable pub genuine-grows : (P Q : List (Dated Message)) (s : ℕ) (ps : List (List ℕ)) → Extends P Q → Genuine P s ps → Genuine Q s ps
+unfoldable pub genuine-grows : (P Q : List (Dated Message)) (s : ℕ) (ps : List (List ℕ)) → Extends P Q → Genuine P s ps
+    → Genuine Q s ps
 genuine-grows P Q s ps x g =
     record {
       day = g .day;
       place = g .place;
       what = g .what;
       placed =
-          rw (x .1, of-append s (g .day) P (x .0)) (place-append (of s (g .day) P) (of s (g .day) (x .0)) (g .place) (g .what) (g .placed));
+          rw (x .1, of-append s (g .day) P (x .0))
+          (place-append (of s (g .day) P) (of s (g .day) (x .0)) (g .place) (g .what) (g .placed));
       packets = g .packets;
       good = g .good;
       few = g .few;
@@ -46,4 +48,6 @@ genuine-grows P Q s ps x g =
 
 -- All messages that a serving end put on the line are.
 abbrev pub AllGenuine : SenderSide → Type 0
-AllGenuine v = (i : ℕ) (m : InSeries (List (List ℕ))) → getElem? (v .messages) i ≡ some m → Genuine (v .published) (m .series) (m .what)
+AllGenuine v =
+    (i : ℕ) (m : InSeries (List (List ℕ))) → getElem? (v .messages) i ≡ some m
+    → Genuine (v .published) (m .series) (m .what)

@@ -1,4 +1,5 @@
--- A login packet or its answer that was written: Login and Answer go on with header, trade date and content. Assumes nothing.
+-- A login packet or its answer that was written: Login and Answer go on with header, trade date and content. Assumes
+-- nothing.
 use Prim.Native.Nat.{ℕ}
 use mathlib.Core.Path.{_≡_}
 use mathlib.Core.List.{List}
@@ -13,7 +14,8 @@ use Rattle.flow.specs.Serving.{loginWith, loginOf}
 use Rattle.flow.specs.Receiving.{confirmWith, confirmLoginOf}
 
 module _ (d : TradeDate) (c : List ℕ) (h : shaped c 4080 ≡ true) where
-  pub login-given : (e : Sender) (t : ℕ) (content out : List ℕ) → loginOf e t (loginBytes d c) content out ≡ loginWith e t (loginHeader c) d c content out
+  pub login-given : (e : Sender) (t : ℕ) (content out : List ℕ)
+      → loginOf e t (loginBytes d c) content out ≡ loginWith e t (loginHeader c) d c content out
   unfolding loginOf
   login-given e t content out = rw (login-one d c h, login-message d c h, login-back d c h, login-content d c)
 

@@ -34,12 +34,15 @@ module _ (m : Message) (c : List ℕ) (j : ℕ) (inside : j < length (packetsOf 
   packet-piece = rw append-nil at (chain-laws .piece-back m c j [] inside)
 
   module _ (limit : ℕ) (good : shaped c limit ≡ true) where
-    pub packet-dated : datedOf (packetAtPlace m c j) ≡ record { packet = Accepted headerAt (span 4 tags) spanAt; date = m .date }
+    pub packet-dated : datedOf (packetAtPlace m c j) ≡ record
+        { packet = Accepted headerAt (span 4 tags) spanAt; date = m .date }
     packet-dated = rw append-nil at (chain-laws .dated-back m c limit j [] good inside)
 
-    -- To Receive it is a message packet of the message's series, number and TID, with the letter of its place and its piece.
+    -- To Receive it is a message packet of the message's series, number and TID, with the letter of its place and its
+    -- piece.
     pub packet-received : (e : Receiver) (buffer : List ℕ)
-        → receiveOf e (packetAtPlace m c j) buffer ≡ receiveWith e headerAt (m .date) spanAt (pieceAtPlace c j .bytes) buffer
+        → receiveOf e (packetAtPlace m c j) buffer ≡ receiveWith e headerAt (m .date) spanAt (pieceAtPlace c j .bytes)
+        buffer
     unfolding receiveOf
     packet-received e buffer =
         rw (chain-laws .one-packet m c limit j good inside .0)

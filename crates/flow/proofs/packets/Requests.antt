@@ -1,5 +1,5 @@
--- A login packet that Ask wrote, as Login reads it: of the row of tests only those of the answer's content, the series, the trade
--- dates, the output and the start are left. Assumes nothing.
+-- A login packet that Ask wrote, as Login reads it: of the row of tests only those of the answer's content, the series,
+-- the trade dates, the output and the start are left. Assumes nothing.
 use Prim.Native.Nat.{ℕ, _+_, _≤_}
 use native.Mathlib.Omega.{arith}
 use mathlib.Core.Path.{_≡_, refl, _∙_}
@@ -15,7 +15,8 @@ use Rattle.ftd.specs.Items.{wrongWidth, wrongItem}
 use Rattle.ftd.specs.Composition.{composed}
 use Rattle.ftd.specs.Resume.{resumeOf, resumeBytes, resumeFid}
 use Rattle.ftd.specs.declared.refusal.Refusal.{Refusal}
-use Rattle.ftd.specs.declared.refusal.Refusal.the-variants.{FieldRun, FieldLength, Item, Composition, UnknownSeries, OtherDay, TooSmall, WrongStart}
+use Rattle.ftd.specs.declared.refusal.Refusal.the-variants.{FieldRun, FieldLength, Item, Composition, UnknownSeries}
+use Rattle.ftd.specs.declared.refusal.Refusal.the-variants.{OtherDay, TooSmall, WrongStart}
 use Rattle.ftd.specs.declared.composition.Direction.the-variants.{Up, Down}
 use Rattle.ftd.specs.declared.tags.TradeDate.{TradeDate}
 use Rattle.ftd.specs.declared.resume.Resume.the-variants.{Next}
@@ -88,7 +89,8 @@ loginByAsk e t s date next content out =
     answer : List ℕ
     answer = loginBytes (e .day .date) content
 
-pub login-by-ask : (s next : ℕ) (date : TradeDate) (c : List ℕ) → Asking s next c → (e : Sender) (t : ℕ) (content out : List ℕ)
+pub login-by-ask : (s next : ℕ) (date : TradeDate) (c : List ℕ) → Asking s next c
+    → (e : Sender) (t : ℕ) (content out : List ℕ)
     → loginOf e t (loginBytes date (fullOf s next c)) content out ≡ loginByAsk e t s date next content out
 unfolding loginWith loginHeader loginByAsk
 login-by-ask s next date c a e t content out =
@@ -115,13 +117,21 @@ module _ (e : Receiver) (s : ℕ) (c out : List ℕ) where
       by-when P (wrongRun c 4068) (λ q. f FieldRun) λ h7.
       by-when P (wrongWidth (requestOf e s c)) (λ q. f FieldLength) λ h8.
       by-when P (wrongItem (requestOf e s c)) (λ q. f Item) λ h9.
-      by-when P (ltb 0 (countOf resumeFid c) || not (composed loginTid Up (requestOf e s c))) (λ q. f Composition) λ h10.
+      by-when P (ltb 0 (countOf resumeFid c) || not (composed loginTid Up (requestOf e s c))) (λ q. f Composition)
+      λ h10.
       by-when P (not (isOpen e s)) (λ q. f UnknownSeries) λ h13.
       by-when P (ltb (length out) (length (requestBytes e s c))) (λ q. f TooSmall) λ h18.
       let n = or-neither (ltb 0 (countOf resumeFid c)) (not (composed loginTid Up (requestOf e s c))) h10 in
       let z = ltb-false 0 (countOf resumeFid c) (n .0) in
       g (record {
-        asking = record { shape = not-false (shaped c 4068) h7; widths = h8; items = h9; none = omega arith; composes = not-false _ (n .1) };
+        asking =
+            record {
+              shape = not-false (shaped c 4068) h7;
+              widths = h8;
+              items = h9;
+              none = omega arith;
+              composes = not-false _ (n .1);
+            };
         opens = not-false (isOpen e s) h13;
         room = ltb-false (length out) (length (requestBytes e s c)) h18;
       })
@@ -132,10 +142,13 @@ module _ (e : Receiver) (s : ℕ) (c out : List ℕ) where
 
   -- Taken, its tests passed.
   pub request-taken : T (isTaken (requestedSaid (Result .answer))) → Asks e s c out
-  request-taken = by-request (λ (w : Wrote Receiver Requested). T (isTaken (requestedSaid (w .answer))) → Asks e s c out) (λ r t. absurd t) (λ a t. a)
+  request-taken =
+      by-request (λ (w : Wrote Receiver Requested). T (isTaken (requestedSaid (w .answer))) → Asks e s c out)
+      (λ r t. absurd t) (λ a t. a)
 
   -- What it puts on the line: nothing, or the login packet.
-  pub by-written : (P : List (List ℕ) → Type 0) → P [] → (Asks e s c out → P (loginBytes (keptOf e s .date) (fullOf s (nextWanted (keptOf e s .last)) c) ∷ []))
+  pub by-written : (P : List (List ℕ) → Type 0) → P []
+      → (Asks e s c out → P (loginBytes (keptOf e s .date) (fullOf s (nextWanted (keptOf e s .last)) c) ∷ []))
       → P (written (Result .bytes) (requestedSaid (Result .answer)))
   unfolding requestBytes requestOf
   by-written P f g =

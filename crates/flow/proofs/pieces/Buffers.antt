@@ -20,7 +20,8 @@ use Rattle.flow.proofs.calls.Receive.{Room}
 -- ─── Bytes ───
 
 -- What is put behind n bytes of a part stands behind them.
-pub part-put : (l vs : List ℕ) (a n : ℕ) → a + n ≤ length l → part (put l (a + n) vs) a (n + length vs) ≡ part l a n ++ vs
+pub part-put : (l vs : List ℕ) (a n : ℕ) → a + n ≤ length l
+    → part (put l (a + n) vs) a (n + length vs) ≡ part l a n ++ vs
 unfolding put
 part-put l vs a n h =
     let x = part l a n in
@@ -35,7 +36,8 @@ part-put l vs a n h =
 module _ (l vs : List ℕ) (at b n : ℕ) (h : at + length vs ≤ length l) where
   part-take : b + n ≤ at → part (take at l) b n ≡ part l b n
   part-take k =
-      sym (part-append (take at l) (drop at l) b n (rw (length-take-le at l (omega arith)) k)) ∙ ap (λ (q : List ℕ). part q b n) (take-append-drop at l)
+      sym (part-append (take at l) (drop at l) b n (rw (length-take-le at l (omega arith)) k))
+      ∙ ap (λ (q : List ℕ). part q b n) (take-append-drop at l)
 
   -- What lies before it stays, and what lies behind it.
   pub part-before : b + n ≤ at → part (put l at vs) b n ≡ part l b n
@@ -70,7 +72,8 @@ module _ (e : Receiver) (eight : Eight e) (s t : ℕ) (open-t : isOpen e t ≡ t
       d = index-differs s t (keptSeries e) open-t other
 
       go : (b : Bool) → leb (suc (indexOf s (keptSeries e))) (indexOf t (keptSeries e)) ≡ b
-          → (32768 * indexOf s (keptSeries e) + 32768 ≤ 32768 * indexOf t (keptSeries e)) ⊎ (32768 * indexOf t (keptSeries e) + 32768 ≤ 32768 * indexOf s (keptSeries e))
+          → (32768 * indexOf s (keptSeries e) + 32768 ≤ 32768 * indexOf t (keptSeries e))
+          ⊎ (32768 * indexOf t (keptSeries e) + 32768 ≤ 32768 * indexOf s (keptSeries e))
       go true q = inl (omega (arith, leb-true (suc (indexOf s (keptSeries e))) (indexOf t (keptSeries e)) q))
       go false q = inr (omega (arith, leb-false (suc (indexOf s (keptSeries e))) (indexOf t (keptSeries e)) q, d))
 
@@ -84,4 +87,5 @@ module _ (e : Receiver) (eight : Eight e) (s t : ℕ) (open-t : isOpen e t ≡ t
       go : (partStart e s + 32768 ≤ partStart e t) ⊎ (partStart e t + 32768 ≤ partStart e s)
           → part (put buffer (partStart e t + held) content) (partStart e s) n ≡ part buffer (partStart e s) n
       go (inl x) = part-before buffer content (partStart e t + held) (partStart e s) n inside (omega arith)
-      go (inr x) = part-behind buffer content (partStart e t + held) (partStart e s) n inside (omega (arith, room .chain))
+      go (inr x) =
+          part-behind buffer content (partStart e t + held) (partStart e s) n inside (omega (arith, room .chain))

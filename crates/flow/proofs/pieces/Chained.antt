@@ -20,7 +20,8 @@ use Rattle.flow.specs.declared.receiver.Received.{Received}
 use Rattle.flow.specs.Ends.{Wrote, isOpen, keptOf, liveOf, loggedIn, holding, withSeries, partStart}
 use Rattle.flow.proofs.common.Bools.{clash}
 use Rattle.flow.proofs.ends.ReceiverLookups.{Eight, part-inside, part-stays, kept-same, live-same}
-use Rattle.flow.proofs.calls.Receive.{Next, Room, Goes-on, Took, unknown, not-in, refuses, repeats, hands-single, holds-first, holds-middle, hands-last}
+use Rattle.flow.proofs.calls.Receive.{Next, Room, Goes-on, Took, unknown, not-in, refuses, repeats, hands-single}
+use Rattle.flow.proofs.calls.Receive.{holds-first, holds-middle, hands-last}
 use Rattle.flow.proofs.pieces.Pieces.{firstPieces, first-suc, at-first, at-middle}
 use Rattle.flow.proofs.pieces.Buffers.{part-put}
 use Rattle.flow.proofs.common.Days.{day-same}
@@ -31,7 +32,8 @@ pub record Chain-open (e : Receiver) (s : ℕ) : Type 0 where
   pub login : liveOf e s .login ≡ true
   pub chain : liveOf e s .chain ≡ true
 
--- Of the message of a series s, TID t and number k, with day d and content c, the first n pieces are held; it is the next one of the kept day.
+-- Of the message of a series s, TID t and number k, with day d and content c, the first n pieces are held; it is the
+-- next one of the kept day.
 pub record Held (e : Receiver) (buffer : List ℕ) (s t k d : ℕ) (c : List ℕ) (n : ℕ) : Type 0 where
   pub tid : liveOf e s .tid ≡ t
   pub held : liveOf e s .held ≡ length (firstPieces c n)
@@ -53,25 +55,32 @@ module _ (e : Receiver) (eight : Eight e) (h : Header) (d : ℕ) (at : Span) (bu
     s = h .series
 
     -- A chain that is dropped is none.
-    no-chain : (date : TradeDate) (last : ℕ) (b : List ℕ) → isOpen e s ≡ true → Holding (withSeries e s date last loggedIn) b (h .series) (h .tid) (h .number) d c (suc j)
+    no-chain : (date : TradeDate) (last : ℕ) (b : List ℕ) → isOpen e s ≡ true
+        → Holding (withSeries e s date last loggedIn) b (h .series) (h .tid) (h .number) d c (suc j)
     no-chain date last b o x =
-        clash (liveOf (withSeries e s date last loggedIn) s .chain) (x .chain) (ap (λ (l : LiveSeries). l .chain) (live-same e eight s o date last loggedIn))
+        clash (liveOf (withSeries e s date last loggedIn) s .chain) (x .chain)
+        (ap (λ (l : LiveSeries). l .chain) (live-same e eight s o date last loggedIn))
 
     -- Behind the first n pieces in its part, piece j is put.
-    piece-put : (n : ℕ) → n ≡ j → isOpen e s ≡ true → (held : ℕ) → held ≡ length (firstPieces c n) → part buffer (partStart e s) held ≡ firstPieces c n
+    piece-put : (n : ℕ) → n ≡ j → isOpen e s ≡ true → (held : ℕ) → held ≡ length (firstPieces c n)
+        → part buffer (partStart e s) held ≡ firstPieces c n
         → Room e buffer held (pieceAtPlace c j .bytes)
         → (held + length (pieceAtPlace c j .bytes) ≡ length (firstPieces c (suc j)))
-        × (part (put buffer (partStart e s + held) (pieceAtPlace c j .bytes)) (partStart e s) (held + length (pieceAtPlace c j .bytes)) ≡ firstPieces c (suc j))
+        × (part (put buffer (partStart e s + held) (pieceAtPlace c j .bytes)) (partStart e s)
+        (held + length (pieceAtPlace c j .bytes)) ≡ firstPieces c (suc j))
     piece-put n q o held k b room =
         let f : firstPieces c (suc j) ≡ firstPieces c n ++ pieceAtPlace c j .bytes = rw q (first-suc c j inside) in
-        let g : partStart e s + held ≤ length buffer = omega (arith, part-inside e eight s o, room .parts, room .chain) in (
+        let g : partStart e s + held ≤ length buffer =
+        omega (arith, part-inside e eight s o, room .parts, room .chain) in (
           rw (f, length-append (firstPieces c n) (pieceAtPlace c j .bytes)) (omega arith),
           part-put buffer (pieceAtPlace c j .bytes) (partStart e s) held g ∙ rw (b, f),
         )
 
     -- A piece that was held.
-    now-holding : Next e h (At d) → (held : ℕ) (b : List ℕ) → held ≡ length (firstPieces c (suc j)) → part b (partStart e s) held ≡ firstPieces c (suc j)
-        → Holding (withSeries e s (keptOf e s .date) (keptOf e s .last) (holding (h .tid) held)) b (h .series) (h .tid) (h .number) d c (suc j)
+    now-holding : Next e h (At d) → (held : ℕ) (b : List ℕ) → held ≡ length (firstPieces c (suc j))
+        → part b (partStart e s) held ≡ firstPieces c (suc j)
+        → Holding (withSeries e s (keptOf e s .date) (keptOf e s .last) (holding (h .tid) held)) b (h .series) (h .tid)
+        (h .number) d c (suc j)
     now-holding n held b k q x =
         let date = keptOf e s .date in
         let last = keptOf e s .last in
@@ -88,16 +97,20 @@ module _ (e : Receiver) (eight : Eight e) (h : Header) (d : ℕ) (at : Span) (bu
 
     -- What is held where a chain goes on.
     held-here : 0 < j → Next e h (At d) → Goes-on (liveOf e s) h → Held e buffer (h .series) (h .tid) (h .number) d c j
-    held-here p n g = before p n (record { open-series = n .reached .open-series; login = n .reached .login; chain = g .chain })
+    held-here p n g =
+        before p n (record { open-series = n .reached .open-series; login = n .reached .login; chain = g .chain })
 
-    pub goes-on-put : 0 < j → Next e h (At d) → Goes-on (liveOf e s) h → Room e buffer (liveOf e s .held) (pieceAtPlace c j .bytes)
+    pub goes-on-put : 0 < j → Next e h (At d) → Goes-on (liveOf e s) h
+        → Room e buffer (liveOf e s .held) (pieceAtPlace c j .bytes)
         → (liveOf e s .held + length (pieceAtPlace c j .bytes) ≡ length (firstPieces c (suc j)))
-        × (part (put buffer (partStart e s + liveOf e s .held) (pieceAtPlace c j .bytes)) (partStart e s) (liveOf e s .held + length (pieceAtPlace c j .bytes)) ≡ firstPieces c (suc j))
+        × (part (put buffer (partStart e s + liveOf e s .held) (pieceAtPlace c j .bytes)) (partStart e s)
+        (liveOf e s .held + length (pieceAtPlace c j .bytes)) ≡ firstPieces c (suc j))
     goes-on-put p n g room =
         let x = held-here p n g in
         piece-put j refl (n .reached .open-series) (liveOf e s .held) (x .held) (rw (x .held) (x .bytes)) room
 
-    pub took-holding : (r : Wrote Receiver Received) → Took e h (At d) at (pieceAtPlace c j .bytes) buffer r → Holding (r .end) (r .bytes) (h .series) (h .tid) (h .number) d c (suc j)
+    pub took-holding : (r : Wrote Receiver Received) → Took e h (At d) at (pieceAtPlace c j .bytes) buffer r
+        → Holding (r .end) (r .bytes) (h .series) (h .tid) (h .number) d c (suc j)
     took-holding r (unknown q) = λ x. clash (isOpen e s) (x .open-series) q
     took-holding r (not-in q) = λ x. clash (liveOf e s .login) (x .login) q
     took-holding r (refuses f q n) = no-chain _ _ _ (n .open-series)

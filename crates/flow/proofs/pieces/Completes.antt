@@ -1,4 +1,5 @@
--- Where the end is ready for a message, none of its packets is refused: each piece is held, and the last packet hands it on. Assumes nothing.
+-- Where the end is ready for a message, none of its packets is refused: each piece is held, and the last packet hands
+-- it on. Assumes nothing.
 use Prim.Native.Nat.{ℕ, suc, _+_, _<_, _≤_}
 use native.Mathlib.Omega.{arith}
 use mathlib.Core.Path.{_≡_, refl, sym, ap, _∙_}
@@ -20,13 +21,17 @@ use Rattle.ftd.specs.declared.packet.Header.{Header}
 use Rattle.flow.specs.declared.receiver.LiveSeries.{LiveSeries}
 use Rattle.flow.specs.declared.receiver.Receiver.{Receiver}
 use Rattle.flow.specs.declared.receiver.Received.{Received}
-use Rattle.flow.specs.Ends.{Wrote, mostMessages, differs, isOpen, keptOf, liveOf, loggedIn, holding, withSeries, allParts}
+use Rattle.flow.specs.Ends.{Wrote, mostMessages, differs, isOpen, keptOf, liveOf, loggedIn, holding, withSeries}
+use Rattle.flow.specs.Ends.{allParts}
 use Rattle.flow.specs.Receiving.{outOfLine, brokenChain, bufferShort, chainLong}
 use Rattle.flow.specs.Answers.{Message, receivedSaid, messageIn}
 use Rattle.flow.proofs.common.Bools.{clash}
 use Rattle.flow.proofs.ends.ReceiverLookups.{Eight, with-changed}
-use Rattle.flow.proofs.calls.Receive.{Later, Why, other-day, out-of-line, broken, no-room-first, no-room-later, Took, unknown, not-in, refuses, repeats, hands-single, holds-first, holds-middle, hands-last, Next}
-use Rattle.flow.proofs.pieces.Pieces.{firstPieces, first-suc, first-inside, at-single, at-first, at-middle, at-last}
+use Rattle.flow.proofs.calls.Receive.{Later, Why, other-day, out-of-line, broken, no-room-first, no-room-later}
+use Rattle.flow.proofs.calls.Receive.{Took, unknown, not-in, refuses, repeats, hands-single, holds-first}
+use Rattle.flow.proofs.calls.Receive.{holds-middle, hands-last, Next}
+use Rattle.flow.proofs.pieces.Pieces.{firstPieces, first-suc, first-inside, at-single, at-first, at-middle}
+use Rattle.flow.proofs.pieces.Pieces.{at-last}
 use Rattle.flow.proofs.pieces.Chained.{Chain-open, Holding}
 use Rattle.flow.proofs.pieces.Outcomes.{content-single, content-last}
 
@@ -40,7 +45,8 @@ pub record Wants (e : Receiver) (buffer : List ℕ) (s k d : ℕ) : Type 0 where
   pub room : allParts e ≤ length buffer
 
 -- As it was before a call that left day and last, and no shorter buffer.
-ready-before : (e : Receiver) → Eight e → (s k d : ℕ) (live : LiveSeries) (buffer after : List ℕ) → isOpen e s ≡ true → liveOf e s .login ≡ true → length after ≡ length buffer
+ready-before : (e : Receiver) → Eight e → (s k d : ℕ) (live : LiveSeries) (buffer after : List ℕ) → isOpen e s ≡ true
+    → liveOf e s .login ≡ true → length after ≡ length buffer
     → Wants (withSeries e s (keptOf e s .date) (keptOf e s .last) live) after s k d → Wants e buffer s k d
 ready-before e eight s k d live buffer after o l n r =
     let c = with-changed e eight s o (keptOf e s .date) (keptOf e s .last) live in
@@ -80,8 +86,11 @@ module _ (e : Receiver) (eight : Eight e) (h : Header) (d : ℕ) (at : Span) (p 
     later (inl q) = at-middle j (length (piecesOf c)) (sym letter ∙ q) .0
     later (inr q) = at-last j (length (piecesOf c)) (sym letter ∙ q) .0
 
-    roomy : Wants e buffer s (h .number) d → (held : ℕ) → held ≡ length (firstPieces c j) → (bufferShort e buffer || chainLong held (pieceAtPlace c j .bytes)) ≡ false
-    roomy r held q = rw (le-ltb (length buffer) (allParts e) (r .room)) (le-ltb 32768 (held + length (pieceAtPlace c j .bytes)) (fits held q))
+    roomy : Wants e buffer s (h .number) d → (held : ℕ) → held ≡ length (firstPieces c j)
+        → (bufferShort e buffer || chainLong held (pieceAtPlace c j .bytes)) ≡ false
+    roomy r held q =
+        rw (le-ltb (length buffer) (allParts e) (r .room))
+        (le-ltb 32768 (held + length (pieceAtPlace c j .bytes)) (fits held q))
 
     -- Wants, it is not refused from 15 on.
     not-refused : Wants e buffer s (h .number) d → (r : Refusal) → Why e h (At d) (pieceAtPlace c j .bytes) buffer r → ⊥
@@ -90,7 +99,8 @@ module _ (e : Receiver) (eight : Eight e) (h : Header) (d : ℕ) (at : Span) (p 
         let last = keptOf e s .last in
         let k = h .number in
         let n = r .number in
-        clash (outOfLine last k) q (rw (ne-eqb k 0 (λ z. omega arith), le-ltb (last + 1) k (omega arith)) (le-ltb mostMessages k (r .few)))
+        clash (outOfLine last k) q
+        (rw (ne-eqb k 0 (λ z. omega arith), le-ltb (last + 1) k (omega arith)) (le-ltb mostMessages k (r .few)))
     not-refused r f (broken n l q) =
         let o = opens (later l) r in
         let x = before (later l) n o in
@@ -100,38 +110,57 @@ module _ (e : Receiver) (eight : Eight e) (h : Header) (d : ℕ) (at : Span) (p 
         clash (bufferShort e buffer || chainLong 0 (pieceAtPlace c j .bytes)) q (roomy r 0 (rw z))
     not-refused r f (no-room-later n l g q) =
         let x = before (later l) n (opens (later l) r) in
-        clash (bufferShort e buffer || chainLong (liveOf e s .held) (pieceAtPlace c j .bytes)) q (roomy r (liveOf e s .held) (x .held))
+        clash (bufferShort e buffer || chainLong (liveOf e s .held) (pieceAtPlace c j .bytes)) q
+        (roomy r (liveOf e s .held) (x .held))
 
     -- ─── Before the last packet: behind it there is a chain ───
 
-    chain-there : (held : ℕ) → isOpen e s ≡ true → Chain-open (withSeries e s (keptOf e s .date) (keptOf e s .last) (holding (h .tid) held)) s
+    chain-there : (held : ℕ) → isOpen e s ≡ true
+        → Chain-open (withSeries e s (keptOf e s .date) (keptOf e s .last) (holding (h .tid) held)) s
     chain-there held o =
         let x = with-changed e eight s o (keptOf e s .date) (keptOf e s .last) (holding (h .tid) held) in
-        record { open-series = x .opens s ∙ o; login = ap (λ (l : LiveSeries). l .login) (x .live); chain = ap (λ (l : LiveSeries). l .chain) (x .live) }
+        record {
+          open-series = x .opens s
+              ∙ o;
+          login = ap (λ (l : LiveSeries). l .login) (x .live);
+          chain = ap (λ (l : LiveSeries). l .chain)
+              (x .live);
+        }
 
-    pub took-opens : j + 1 < length (piecesOf c) → (r : Wrote Receiver Received) → Took e h (At d) at (pieceAtPlace c j .bytes) buffer r
+    pub took-opens : j + 1 < length (piecesOf c) → (r : Wrote Receiver Received)
+        → Took e h (At d) at (pieceAtPlace c j .bytes) buffer r
         → Wants (r .end) (r .bytes) s (h .number) d → Chain-open (r .end) s
     took-opens more r (unknown q) = λ y. clash (isOpen e s) (y .open-series) q
     took-opens more r (not-in q) = λ y. clash (liveOf e s .login) (y .login) q
     took-opens more r (refuses f w n) = λ y.
-        absurd (not-refused (ready-before e eight s (h .number) d loggedIn buffer buffer (n .open-series) (n .login) refl y) f w)
+        absurd (not-refused
+        (ready-before e eight s (h .number) d loggedIn buffer buffer (n .open-series) (n .login) refl y) f w)
     took-opens more r (repeats n q l) = λ y.
-        let z = ready-before e eight s (h .number) d loggedIn buffer buffer (n .open-series) (n .login) refl y .number in
+        let z =
+        ready-before e eight s (h .number) d loggedIn buffer buffer (n .open-series) (n .login) refl y .number in
         absurd (omega arith)
-    took-opens more r (hands-single n q) = λ y. let z = at-single j (length (piecesOf c)) (sym letter ∙ q) .1 in absurd (omega arith)
+    took-opens more r (hands-single n q) =
+        λ y. let z = at-single j (length (piecesOf c)) (sym letter ∙ q) .1 in absurd (omega arith)
     took-opens more r (holds-first n q room) = λ y. chain-there _ (n .reached .open-series)
     took-opens more r (holds-middle n q g room) = λ y. chain-there _ (n .reached .open-series)
-    took-opens more r (hands-last n q g room) = λ y. let z = at-last j (length (piecesOf c)) (sym letter ∙ q) .1 in absurd (omega arith)
+    took-opens more r (hands-last n q g room) =
+        λ y. let z = at-last j (length (piecesOf c)) (sym letter ∙ q) .1 in absurd (omega arith)
 
     -- ─── The last packet: it is handed on ───
 
-    pub took-completes : j + 1 ≡ length (piecesOf c) → Wants e buffer s (h .number) d → (r : Wrote Receiver Received) → Took e h (At d) at (pieceAtPlace c j .bytes) buffer r
+    pub took-completes : j + 1 ≡ length (piecesOf c) → Wants e buffer s (h .number) d → (r : Wrote Receiver Received)
+        → Took e h (At d) at (pieceAtPlace c j .bytes) buffer r
         → messageIn (receivedSaid p (r .bytes) (r .answer)) ≡ record { tid = h .tid; content = c } ∷ []
     took-completes end y r (unknown q) = clash (isOpen e s) (y .open-series) q
     took-completes end y r (not-in q) = clash (liveOf e s .login) (y .login) q
     took-completes end y r (refuses f w n) = absurd (not-refused y f w)
     took-completes end y r (repeats n q l) = let z = y .number in absurd (omega arith)
-    took-completes end y r (hands-single n q) = ap (λ (x : Message). x ∷ []) (content-single e eight h d at p buffer c 32768 j good letter inside piece before q)
+    took-completes end y r (hands-single n q) =
+        ap (λ (x : Message). x ∷ [])
+        (content-single e eight h d at p buffer c 32768 j good letter inside piece before q)
     took-completes end y r (holds-first n q room) = absurd (at-first j (length (piecesOf c)) (sym letter ∙ q) .1 end)
-    took-completes end y r (holds-middle n q g room) = absurd (at-middle j (length (piecesOf c)) (sym letter ∙ q) .1 end)
-    took-completes end y r (hands-last n q g room) = ap (λ (x : Message). x ∷ []) (content-last e eight h d at p buffer c 32768 j good letter inside piece before n q g room)
+    took-completes end y r (holds-middle n q g room) =
+        absurd (at-middle j (length (piecesOf c)) (sym letter ∙ q) .1 end)
+    took-completes end y r (hands-last n q g room) =
+        ap (λ (x : Message). x ∷ [])
+        (content-last e eight h d at p buffer c 32768 j good letter inside piece before n q g room)

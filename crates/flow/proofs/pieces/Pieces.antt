@@ -28,7 +28,8 @@ module _ (c : List ℕ) where
   first-suc j h =
       ap joined (take-suc all j [] (rw (length-map (piecesOf c) (λ (p : Piece). p .bytes)) h))
       ∙ joined-append (take j all) (getD all j [] ∷ [])
-      ∙ ap (λ (l : List ℕ). firstPieces c j ++ l) (append-nil (getD all j []) ∙ List·getD-map (λ (p : Piece). p .bytes) (piecesOf c) j noFields)
+      ∙ ap (λ (l : List ℕ). firstPieces c j ++ l)
+      (append-nil (getD all j []) ∙ List·getD-map (λ (p : Piece). p .bytes) (piecesOf c) j noFields)
 
   pub first-all : (limit n : ℕ) → shaped c limit ≡ true → n ≡ length (piecesOf c) → firstPieces c n ≡ c
   first-all limit n h e =
@@ -36,21 +37,27 @@ module _ (c : List ℕ) where
       ∙ chain-laws .pieces-joined c limit h
 
   first-rest : (limit n : ℕ) → shaped c limit ≡ true → firstPieces c n ++ joined (drop n all) ≡ c
-  first-rest limit n h = sym (joined-append (take n all) (drop n all)) ∙ ap joined (take-append-drop n all) ∙ chain-laws .pieces-joined c limit h
+  first-rest limit n h =
+      sym (joined-append (take n all) (drop n all)) ∙ ap joined (take-append-drop n all)
+      ∙ chain-laws .pieces-joined c limit h
 
   pub first-inside : (limit n : ℕ) → shaped c limit ≡ true → length (firstPieces c n) ≤ length c
   first-inside limit n h = omega (arith, rw length-append at (ap length (first-rest limit n h)))
 
   -- Their number of bytes tells which they are.
-  pub first-same : (limit n k : ℕ) → shaped c limit ≡ true → length (firstPieces c n) ≡ length (firstPieces c k) → firstPieces c n ≡ firstPieces c k
+  pub first-same : (limit n k : ℕ) → shaped c limit ≡ true → length (firstPieces c n) ≡ length (firstPieces c k)
+      → firstPieces c n ≡ firstPieces c k
   first-same limit n k h q = sym (front n) ∙ ap (λ (m : ℕ). take m c) q ∙ front k
     where
       front : (m : ℕ) → take (length (firstPieces c m)) c ≡ firstPieces c m
-      front m = ap (take (length (firstPieces c m))) (sym (first-rest limit m h)) ∙ take-append-seam (firstPieces c m) (joined (drop m all))
+      front m =
+          ap (take (length (firstPieces c m))) (sym (first-rest limit m h))
+          ∙ take-append-seam (firstPieces c m) (joined (drop m all))
 
 -- ─── Letters ───
 
-by-letter : (a b : Bool) → (chainAt a b ≡ Single → (a ≡ true) × (b ≡ true)) × (chainAt a b ≡ First → (a ≡ true) × (b ≡ false))
+by-letter : (a b : Bool) → (chainAt a b ≡ Single → (a ≡ true) × (b ≡ true))
+    × (chainAt a b ≡ First → (a ≡ true) × (b ≡ false))
     × (chainAt a b ≡ Middle → (a ≡ false) × (b ≡ false)) × (chainAt a b ≡ Last → (a ≡ false) × (b ≡ true))
 by-letter true true = (λ q. (refl, refl), λ q. (cc, cc), λ q. (cc, cc), λ q. (cc, cc))
 by-letter true false = (λ q. (cc, cc), λ q. (refl, refl), λ q. (cc, cc), λ q. (cc, cc))

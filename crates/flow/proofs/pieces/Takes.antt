@@ -38,7 +38,8 @@ pub record PacketAt (s t k d : ℕ) (c : List ℕ) (j : ℕ) (p : List ℕ) : Ty
   pub good : shaped c mostContent ≡ true
   pub here : getElem? (packetsOf (headed s t k d) c) j ≡ some p
 
--- Where it is the next piece, a chain holds the pieces before it; and there is a chain where the end is ready for the message.
+-- Where it is the next piece, a chain holds the pieces before it; and there is a chain where the end is ready for the
+-- message.
 pub record Before (e : Receiver) (buffer : List ℕ) (s t k d : ℕ) (c : List ℕ) (j : ℕ) : Type 0 where
   pub held : 0 < j → keptOf e s .date ≡ At d → k ≡ keptOf e s .last + 1 → Holding e buffer s t k d c j
   pub opens : 0 < j → Wants e buffer s k d → Chain-open e s
@@ -64,10 +65,13 @@ module _ {s t k d : ℕ} {c : List ℕ} {j : ℕ} {p : List ℕ} (at : PacketAt 
   pub take-date : datedOf p .date ≡ At d
   take-date = rw (← is) (ap (λ (x : Dated). x .date) (packet-dated m c j inside mostContent (at .good)))
 
-  took : (e : Receiver) (buffer : List ℕ) → Took e (headerAt m c j inside) (At d) (spanAt m c j inside) (pieceAtPlace c j .bytes) buffer (receiveOf e p buffer)
+  took : (e : Receiver) (buffer : List ℕ)
+      → Took e (headerAt m c j inside) (At d) (spanAt m c j inside) (pieceAtPlace c j .bytes) buffer
+      (receiveOf e p buffer)
   took e buffer =
       rw (← is)
-      (rw (packet-received m c j inside mostContent (at .good) e buffer) (receive-with e (headerAt m c j inside) (At d) (spanAt m c j inside) (pieceAtPlace c j .bytes) buffer))
+      (rw (packet-received m c j inside mostContent (at .good) e buffer)
+      (receive-with e (headerAt m c j inside) (At d) (spanAt m c j inside) (pieceAtPlace c j .bytes) buffer))
 
   piece : part p (spanAt m c j inside .start) (spanAt m c j inside .len) ≡ pieceAtPlace c j .bytes
   piece = rw is at (packet-piece m c j inside)
@@ -79,9 +83,12 @@ module _ {s t k d : ℕ} {c : List ℕ} {j : ℕ} {p : List ℕ} (at : PacketAt 
   -- Received by an end in any state, with any buffer.
   module _ (e : Receiver) (eight : Eight e) (buffer : List ℕ) where
     -- Another series' part of the buffer, chain, trade date and last stay.
-    pub take-elsewhere : (u : ℕ) → (u ≡ s → ⊥) → Elsewhere e buffer (receiveOf e p buffer .end) (receiveOf e p buffer .bytes) u
+    pub take-elsewhere : (u : ℕ) → (u ≡ s → ⊥)
+        → Elsewhere e buffer (receiveOf e p buffer .end) (receiveOf e p buffer .bytes) u
     unfolding headerFor
-    take-elsewhere u n = took-elsewhere e eight (headerAt m c j inside) (At d) (spanAt m c j inside) (pieceAtPlace c j .bytes) buffer (receiveOf e p buffer) (took e buffer) u n
+    take-elsewhere u n =
+        took-elsewhere e eight (headerAt m c j inside) (At d) (spanAt m c j inside) (pieceAtPlace c j .bytes) buffer
+        (receiveOf e p buffer) (took e buffer) u n
 
     module _ (before : Before e buffer s t k d c j) where
       held : 0 < j → Next e (headerAt m c j inside) (At d) → Holding e buffer s t k d c j
@@ -91,27 +98,36 @@ module _ {s t k d : ℕ} {c : List ℕ} {j : ℕ} {p : List ℕ} (at : PacketAt 
       -- One more piece is held,
       pub take-holds : Holding (receiveOf e p buffer .end) (receiveOf e p buffer .bytes) s t k d c (suc j)
       unfolding headerFor
-      take-holds = took-holding e eight (headerAt m c j inside) d (spanAt m c j inside) buffer c j letter take-within held (receiveOf e p buffer) (took e buffer)
+      take-holds =
+          took-holding e eight (headerAt m c j inside) d (spanAt m c j inside) buffer c j letter take-within held
+          (receiveOf e p buffer) (took e buffer)
 
       -- where the end is still ready for the message, before its last packet.
-      pub take-opens : suc j < length (piecesOf c) → Wants (receiveOf e p buffer .end) (receiveOf e p buffer .bytes) s k d → Chain-open (receiveOf e p buffer .end) s
+      pub take-opens : suc j < length (piecesOf c)
+          → Wants (receiveOf e p buffer .end) (receiveOf e p buffer .bytes) s k d
+          → Chain-open (receiveOf e p buffer .end) s
       unfolding headerFor
       take-opens l =
-          took-opens e eight (headerAt m c j inside) d (spanAt m c j inside) p buffer c j (at .good) letter take-within piece held (before .opens) (omega arith) (receiveOf e p buffer)
+          took-opens e eight (headerAt m c j inside) d (spanAt m c j inside) p buffer c j (at .good) letter take-within
+          piece held (before .opens) (omega arith) (receiveOf e p buffer)
           (took e buffer)
 
       pub take-delivers :
           let r = receiveOf e p buffer in
-          Delivered e s d k (record { tid = t; content = c }) (r .end) (messageIn (receivedSaid p (r .bytes) (r .answer))) (reportIn (receivedSaid p (r .bytes) (r .answer)))
+          Delivered e s d k (record { tid = t; content = c }) (r .end)
+          (messageIn (receivedSaid p (r .bytes) (r .answer))) (reportIn (receivedSaid p (r .bytes) (r .answer)))
       unfolding headerFor
       take-delivers =
-          took-delivered e eight (headerAt m c j inside) d (spanAt m c j inside) p buffer c mostContent j (at .good) letter take-within piece held (receiveOf e p buffer) (took e buffer)
+          took-delivered e eight (headerAt m c j inside) d (spanAt m c j inside) p buffer c mostContent j (at .good)
+          letter take-within piece held (receiveOf e p buffer) (took e buffer)
 
       -- The last packet hands it on where the end is ready for it.
       pub take-completes :
           let r = receiveOf e p buffer in
-          j + 1 ≡ length (packetsOf m c) → Wants e buffer s k d → messageIn (receivedSaid p (r .bytes) (r .answer)) ≡ record { tid = t; content = c } ∷ []
+          j + 1 ≡ length (packetsOf m c) → Wants e buffer s k d
+          → messageIn (receivedSaid p (r .bytes) (r .answer)) ≡ record { tid = t; content = c } ∷ []
       unfolding headerFor
       take-completes n y =
-          took-completes e eight (headerAt m c j inside) d (spanAt m c j inside) p buffer c j (at .good) letter take-within piece held (before .opens)
+          took-completes e eight (headerAt m c j inside) d (spanAt m c j inside) p buffer c j (at .good) letter
+          take-within piece held (before .opens)
           (n ∙ chain-laws .as-many m c .0) y (receiveOf e p buffer) (took e buffer)

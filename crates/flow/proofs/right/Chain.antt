@@ -1,5 +1,6 @@
--- Right for a source, of a chain: what a series holds is the first pieces of the message that is next, as it was published. A predicate of
--- the end, its buffer and the published lists alone, not of how the chain came about. Assumes nothing.
+-- Right for a source, of a chain: what a series holds is the first pieces of the message that is next, as it was
+-- published. A predicate of the end, its buffer and the published lists alone, not of how the chain came about. Assumes
+-- nothing.
 use Prim.Native.Nat.{ℕ, _+_}
 use native.Mathlib.Omega.{arith}
 use mathlib.Core.Path.{_≡_, refl, sym, ap, _∙_}
@@ -42,33 +43,41 @@ ChainRight P e buffer s = Chain-open e s → NextHeld P e buffer s
 -- ─── Kept ───
 
 -- More is published.
-pub chain-grows : (P Q : List (Dated Message)) (e : Receiver) (buffer : List ℕ) (s : ℕ) → ChainRight P e buffer s → ChainRight (P ++ Q) e buffer s
+pub chain-grows : (P Q : List (Dated Message)) (e : Receiver) (buffer : List ℕ) (s : ℕ) → ChainRight P e buffer s
+    → ChainRight (P ++ Q) e buffer s
 chain-grows P Q e buffer s f o =
     let n = f o in
     record {
       day = n .day;
       message = n .message;
       pieces = n .pieces;
-      placed = rw (of-append s (n .day) P Q) (place-append (of s (n .day) P) (of s (n .day) Q) (keptOf e s .last) (n .message) (n .placed));
+      placed =
+          rw (of-append s (n .day) P Q)
+          (place-append (of s (n .day) P) (of s (n .day) Q) (keptOf e s .last) (n .message) (n .placed));
       good = n .good;
       held = n .held;
     }
 
 -- No chain.
-pub chain-none : (P : List (Dated Message)) (e : Receiver) (buffer : List ℕ) (s : ℕ) → liveOf e s .chain ≡ false → ChainRight P e buffer s
+pub chain-none : (P : List (Dated Message)) (e : Receiver) (buffer : List ℕ) (s : ℕ) → liveOf e s .chain ≡ false
+    → ChainRight P e buffer s
 chain-none P e buffer s q o = clash (liveOf e s .chain) (o .chain) q
 
 -- Of a series of which nothing changed.
-pub chain-elsewhere : (P : List (Dated Message)) (e : Receiver) (buffer : List ℕ) (after : Receiver) (bytes : List ℕ) (s : ℕ) → Elsewhere e buffer after bytes s
+pub chain-elsewhere : (P : List (Dated Message)) (e : Receiver) (buffer : List ℕ) (after : Receiver) (bytes : List ℕ)
+    (s : ℕ) → Elsewhere e buffer after bytes s
     → ChainRight P e buffer s → ChainRight P after bytes s
 chain-elsewhere P e buffer after bytes s x f o =
     let l = x .live in
     let k = x .kept in
-    let n = f (record { open-series = sym (x .opens) ∙ o .open-series; login = rw l at (o .login); chain = rw l at (o .chain) }) in
+    let n =
+    f (record
+    { open-series = sym (x .opens) ∙ o .open-series; login = rw l at (o .login); chain = rw l at (o .chain) }) in
     let h = n .held in
     let last : keptOf after s .last ≡ keptOf e s .last = ap (λ (y : KeptSeries). y .last) k in
     let inside = first-inside (n .message .content) mostContent (n .pieces) (n .good) in
-    let few = shaped-facts (n .message .content) mostContent (shaped (n .message .content) mostContent) refl (n .good) .0 in
+    let few =
+    shaped-facts (n .message .content) mostContent (shaped (n .message .content) mostContent) refl (n .good) .0 in
     record {
       day = n .day;
       message = n .message;
@@ -91,9 +100,11 @@ same-at : (t : TradeDate) (a b : ℕ) → t ≡ At a → t ≡ At b → a ≡ b
 same-at t a b p q = cc
 
 -- Where message x of day d is next, and a chain holds as many bytes as its first j pieces have, it holds these.
-pub counted-holding : (P : List (Dated Message)) (e : Receiver) (buffer : List ℕ) (s : ℕ) → ChainRight P e buffer s → (d k : ℕ) (x : Message)
+pub counted-holding : (P : List (Dated Message)) (e : Receiver) (buffer : List ℕ) (s : ℕ) → ChainRight P e buffer s
+    → (d k : ℕ) (x : Message)
     → getElem? (of s d P) (keptOf e s .last) ≡ some x → keptOf e s .date ≡ At d → k ≡ keptOf e s .last + 1 → (j : ℕ)
-    → (Chain-open e s → liveOf e s .held ≡ length (firstPieces (x .content) j)) → Holding e buffer s (x .tid) k d (x .content) j
+    → (Chain-open e s → liveOf e s .held ≡ length (firstPieces (x .content) j))
+    → Holding e buffer s (x .tid) k d (x .content) j
 counted-holding P e buffer s f d k x placed date number j count o =
     let n = f o in
     let h = n .held in
@@ -102,8 +113,11 @@ counted-holding P e buffer s f d k x placed date number j count o =
     let same : n .message ≡ x = same-some (getElem? (of s d P) (keptOf e s .last)) (n .message) x there placed in
     let tid : liveOf e s .tid ≡ x .tid = h .tid ∙ ap (λ (y : Message). y .tid) same in
     let good : shaped (x .content) mostContent ≡ true = rw same at (n .good) in
-    let holds : liveOf e s .held ≡ length (firstPieces (x .content) (n .pieces)) = h .held ∙ ap (λ (y : Message). length (firstPieces (y .content) (n .pieces))) same in
+    let holds : liveOf e s .held ≡ length (firstPieces (x .content) (n .pieces)) =
+    h .held ∙ ap (λ (y : Message). length (firstPieces (y .content) (n .pieces))) same in
     let c = count o in
     let eq = first-same (x .content) mostContent j (n .pieces) good (sym c ∙ holds) in
-    let bytes : part buffer (partStart e s) (length (firstPieces (x .content) (n .pieces))) ≡ firstPieces (x .content) (n .pieces) = rw same at (h .bytes) in
+    let bytes : part buffer (partStart e s) (length (firstPieces (x .content) (n .pieces))) ≡ firstPieces (x .content)
+    (n .pieces) =
+    rw same at (h .bytes) in
     record { tid = tid; held = c; bytes = rw eq bytes; date = date; number = number }

@@ -1,5 +1,6 @@
--- A receiving end that is right for a source, of each series: what it handed on and reported, and what its chains hold. Each of its calls keeps
--- it so, in any state and of any bytes, if Receive is handed packets of published messages, each behind the pieces before it. Assumes nothing.
+-- A receiving end that is right for a source, of each series: what it handed on and reported, and what its chains hold.
+-- Each of its calls keeps it so, in any state and of any bytes, if Receive is handed packets of published messages,
+-- each behind the pieces before it. Assumes nothing.
 use Prim.Native.Nat.{ℕ, suc, _+_, _<_}
 use native.Mathlib.Omega.{arith}
 use mathlib.Core.Path.{_≡_, refl, ap}
@@ -16,7 +17,8 @@ use Rattle.flow.specs.declared.sender.Opened.{Opened}
 use Rattle.flow.specs.declared.receiver.LiveSeries.{LiveSeries}
 use Rattle.flow.specs.declared.receiver.Receiver.{Receiver}
 use Rattle.flow.specs.declared.receiver.Confirmed.{Confirmed}
-use Rattle.flow.specs.Ends.{Left, before, dayOf, lastOf, freshReceiver, isOpen, keptOf, liveOf, loggedIn, withSeries}
+use Rattle.flow.specs.Ends.{Left, before, dayOf, lastOf, freshReceiver, isOpen, keptOf, liveOf, loggedIn}
+use Rattle.flow.specs.Ends.{withSeries}
 use Rattle.flow.specs.Answers.{Message, confirmedSaid, receivedSaid, messageIn, reportIn}
 use Rattle.flow.specs.Receiving.{openEndOf, connectOf, lastAfter, confirmLoginOf, receiveOf}
 use Rattle.flow.specs.World.{Dated, dated}
@@ -43,27 +45,35 @@ pub record EndRight (P H : List (Dated Message)) (R : List (Dated ℕ)) (e : Rec
 -- ─── Fresh; more is published ───
 
 pub fresh-right : (buffer : List ℕ) → EndRight [] [] [] freshReceiver buffer
-fresh-right buffer = record { right = λ s. rw (fresh-closed s) (right-start s []); chains = λ s o. absurd (closed s (o .open-series)) }
+fresh-right buffer =
+    record { right = λ s. rw (fresh-closed s) (right-start s []); chains = λ s o. absurd (closed s (o .open-series)) }
   where
     closed : (s : ℕ) → isOpen freshReceiver s ≡ true → ⊥
     closed s q = let f = fresh-closed s in let z : _≡_ {A = ℕ} 0 1 = cc in omega arith
 
-module _ (P H : List (Dated Message)) (R : List (Dated ℕ)) (e : Receiver) (buffer : List ℕ) (h : EndRight P H R e buffer) where
+module _ (P H : List (Dated Message)) (R : List (Dated ℕ)) (e : Receiver) (buffer : List ℕ)
+    (h : EndRight P H R e buffer) where
   pub grown-right : (Q : List (Dated Message)) → EndRight (P ++ Q) H R e buffer
   grown-right Q =
-      record { right = λ s. right-grows s P H R (dayOf e s) (lastOf e s) Q (h .right s); chains = λ s. chain-grows P Q e buffer s (h .chains s) }
+      record {
+        right = λ s. right-grows s P H R (dayOf e s) (lastOf e s) Q (h .right s);
+        chains = λ s. chain-grows P Q e
+            buffer s (h .chains s);
+      }
 
   -- ─── Opening and Connect: no day and no number moves, and there is no chain ───
 
   cleared : (after : Receiver) → Same e after → ((s : ℕ) → liveOf after s .chain ≡ false) → EndRight P H R after buffer
-  cleared after m f = record { right = right-stays P H R e after m (h .right); chains = λ s. chain-none P after buffer s (f s) }
+  cleared after m f =
+      record { right = right-stays P H R e after m (h .right); chains = λ s. chain-none P after buffer s (f s) }
 
   pub open-right : (ss : List ℕ) → EndRight P H R (openEndOf e ss .end) buffer
   open-right ss = go (openEndOf e ss) (open-as e ss)
     where
       go : (r : Left Receiver Opened) → Opened-as e ss r → EndRight P H R (r .end) buffer
       go r Opened-as.refuses = h
-      go r (opens z w) = cleared (openedWith ss) (opened-same e ss z) λ s. ap (λ (l : LiveSeries). l .chain) (opened-live ss s)
+      go r (opens z w) =
+          cleared (openedWith ss) (opened-same e ss z) λ s. ap (λ (l : LiveSeries). l .chain) (opened-live ss s)
 
   pub connect-right : EndRight P H R (connectOf e) buffer
   connect-right = cleared (connectOf e) (connect-same e) λ s. ap (λ (l : LiveSeries). l .chain) (connect-live e s)
@@ -72,16 +82,19 @@ module _ (P H : List (Dated Message)) (R : List (Dated ℕ)) (e : Receiver) (buf
 
   module _ (eight : Eight e) (s : ℕ) where
     -- One series changed, and it has no chain.
-    others : (date : TradeDate) (last : ℕ) → isOpen e s ≡ true → (u : ℕ) → ChainRight P (withSeries e s date last loggedIn) buffer u
+    others : (date : TradeDate) (last : ℕ) → isOpen e s ≡ true → (u : ℕ)
+        → ChainRight P (withSeries e s date last loggedIn) buffer u
     others date last o u = go (eqb u s) refl
       where
         go : (b : Bool) → eqb u s ≡ b → ChainRight P (withSeries e s date last loggedIn) buffer u
         go true q =
             chain-none P (withSeries e s date last loggedIn) buffer u
-            (rw (eqb-true u s q) (ap (λ (l : LiveSeries). l .chain) (with-changed e eight s o date last loggedIn .live)))
+            (rw (eqb-true u s q)
+            (ap (λ (l : LiveSeries). l .chain) (with-changed e eight s o date last loggedIn .live)))
         go false q =
             chain-elsewhere P e buffer (withSeries e s date last loggedIn) buffer u
-            (with-elsewhere e eight s o date last loggedIn u (eqb-false u s q) buffer buffer (λ k l. refl)) (h .chains u)
+            (with-elsewhere e eight s o date last loggedIn u (eqb-false u s q) buffer buffer (λ k l. refl))
+            (h .chains u)
 
     module _ (d : ℕ) (o : isOpen e s ≡ true) (b : before (At d) (keptOf e s .date) ≡ false) where
       abbrev last : ℕ
@@ -95,12 +108,16 @@ module _ (P H : List (Dated Message)) (R : List (Dated ℕ)) (e : Receiver) (buf
 
       here : Right s (At d) last P (H ++ map (dated s None) []) (R ++ map (dated s (dayOf after s)) (last ∷ []))
       unfolding lastAfter
-      here = rw (moves .date, append-nil H) (right-confirmed s d (keptOf e s .date) (keptOf e s .last) P H R b (rw o at (h .right s)))
+      here =
+          rw (moves .date, append-nil H)
+          (right-confirmed s d (keptOf e s .date) (keptOf e s .last) P H R b (rw o at (h .right s)))
 
       confirmed : EndRight P H (R ++ map (dated s (dayOf after s)) (last ∷ [])) after buffer
       confirmed =
           record {
-            right = rw (append-nil H) at (right-moves e after s (At d) last P H R None (dayOf after s) [] (last ∷ []) moves (h .right) here);
+            right =
+                rw (append-nil H) at (right-moves e after s (At d) last P H R None (dayOf after s) [] (last ∷ []) moves
+                (h .right) here);
             chains = others (At d) last o;
           }
 
@@ -111,7 +128,8 @@ module _ (P H : List (Dated Message)) (R : List (Dated ℕ)) (e : Receiver) (buf
     confirm-right p = go (datedOf p .date) (confirmLoginOf e s p) (confirm-as e s p)
       where
         go : (date : TradeDate) (r : Left Receiver Confirmed) → Confirmed-as e s date r
-            → EndRight P H (R ++ map (dated s (dayOf (r .end) s)) (reportIn (confirmedSaid (r .answer)))) (r .end) buffer
+            → EndRight P H (R ++ map (dated s (dayOf (r .end) s)) (reportIn (confirmedSaid (r .answer)))) (r .end)
+            buffer
         go date r (Confirmed-as.refuses x) = rw (append-nil R) h
         go date r (confirms d i o b) = rw i (confirmed d o b)
 
@@ -134,7 +152,8 @@ module _ (P H : List (Dated Message)) (R : List (Dated ℕ)) (e : Receiver) (buf
 
         pub receive-delivers :
             let r = receiveOf e p buffer in
-            Delivered e s d (suc place) x (r .end) (messageIn (receivedSaid p (r .bytes) (r .answer))) (reportIn (receivedSaid p (r .bytes) (r .answer)))
+            Delivered e s d (suc place) x (r .end) (messageIn (receivedSaid p (r .bytes) (r .answer)))
+            (reportIn (receivedSaid p (r .bytes) (r .answer)))
         receive-delivers = take-delivers at e eight buffer before-it
 
         here-held : ChainRight P (receiveOf e p buffer .end) (receiveOf e p buffer .bytes) s
@@ -157,7 +176,8 @@ module _ (P H : List (Dated Message)) (R : List (Dated ℕ)) (e : Receiver) (buf
             go : (b : Bool) → eqb u s ≡ b → ChainRight P (receiveOf e p buffer .end) (receiveOf e p buffer .bytes) u
             go true q = let y : u ≡ s = eqb-true u s q in rw y here-held
             go false q =
-                chain-elsewhere P e buffer (receiveOf e p buffer .end) (receiveOf e p buffer .bytes) u (take-elsewhere at e eight buffer u (eqb-false u s q)) (h .chains u)
+                chain-elsewhere P e buffer (receiveOf e p buffer .end) (receiveOf e p buffer .bytes) u
+                (take-elsewhere at e eight buffer u (eqb-false u s q)) (h .chains u)
 
         -- What is handed on is of the packet's day, a report of the kept one.
         pub receive-right :
@@ -165,4 +185,8 @@ module _ (P H : List (Dated Message)) (R : List (Dated ℕ)) (e : Receiver) (buf
             EndRight P (H ++ map (dated s (At d)) (messageIn (receivedSaid p (r .bytes) (r .answer))))
             (R ++ map (dated s (dayOf e s)) (reportIn (receivedSaid p (r .bytes) (r .answer)))) (r .end) (r .bytes)
         receive-right =
-            record { right = right-delivered e s d place x P H R placed (h .right) (receiveOf e p buffer .end) _ _ receive-delivers; chains = held }
+            record {
+              right = right-delivered e s d place x P H R placed (h .right) (receiveOf e p buffer .end) _ _
+                  receive-delivers;
+              chains = held;
+            }

@@ -1,7 +1,8 @@
--- The second half of demand 3: where a login's answer and then every message sent were delivered, and none is left, the receiving end
--- has all that was published, and so the report is the published count. The chain: the event is a login (`answer-taken`), its start is at
--- most the receiving end's next number on that day (`login-reached`), from there start, start + 1, .. are sent (`login-sends`), the answer
--- and these are taken event by event (`due-run`), and they reach to the last one published (`all-sent`). Assumes nothing.
+-- The second half of demand 3: where a login's answer and then every message sent were delivered, and none is left, the
+-- receiving end has all that was published, and so the report is the published count. The chain: the event is a login
+-- (`answer-taken`), its start is at most the receiving end's next number on that day (`login-reached`), from there
+-- start, start + 1, .. are sent (`login-sends`), the answer and these are taken event by event (`due-run`), and they
+-- reach to the last one published (`all-sent`). Assumes nothing.
 use Prim.Native.Nat.{ℕ, _+_, _≤_}
 use native.Mathlib.Omega.{arith}
 use mathlib.Core.Path.{_≡_, refl, ap, _∙_}
@@ -22,7 +23,8 @@ use Rattle.flow.proofs.second.SentFrom.{sentIn}
 use Rattle.flow.proofs.second.SentSince.{login-sends, all-sent}
 use Rattle.flow.proofs.first.Half.{SafeWorld, start-safe, step-safe, run-safe, safe-agreed}
 use Rattle.flow.proofs.packets.Answers.{tests-content}
-use Rattle.flow.proofs.logins.Starts.{Timely, timely-step, timely-run, timely-start, login-day, login-opens, login-reached}
+use Rattle.flow.proofs.logins.Starts.{Timely, timely-step, timely-run, timely-start, login-day, login-opens}
+use Rattle.flow.proofs.logins.Starts.{login-reached}
 use Rattle.flow.proofs.second.Sending.{sent-whole, numbered-each}
 use Rattle.flow.proofs.second.Due.{Due, waiting, due-run, room-back}
 use Rattle.flow.proofs.source.Sources.{start-source}
@@ -33,7 +35,8 @@ pub run-append : (w : World) (es fs : List Event) → run w (es ++ fs) ≡ run (
 run-append w [] fs = refl
 run-append w (e ∷ es) fs = run-append (step w e) es fs
 
-pub line-parts : (w : World) (es fs : List Event) → inRuns w (es ++ fs) ≡ true → (inRuns w es ≡ true) × (inRuns (run w es) fs ≡ true)
+pub line-parts : (w : World) (es fs : List Event) → inRuns w (es ++ fs) ≡ true
+    → (inRuns w es ≡ true) × (inRuns (run w es) fs ≡ true)
 line-parts w [] fs l = (refl, l)
 line-parts w (e ∷ es) fs l =
     let b = and-both (inRun w e) (inRuns (step w e) (es ++ fs)) l in
@@ -48,7 +51,8 @@ pub record AllThere (w : World) (s d : ℕ) : Type 0 where
   pub date : keptOf (w .receiving .end) s .date ≡ At d
   pub last : length (publishedOn w s d) ≤ keptOf (w .receiving .end) s .last
 
-pub caught-up : (u : World) (e : Event) (fs : List Event) (s d : ℕ) (a out : List ℕ) → Timely u → SafeWorld (step u e) → inRuns (step u e) fs ≡ true
+pub caught-up : (u : World) (e : Event) (fs : List Event) (s d : ℕ) (a out : List ℕ) → Timely u → SafeWorld (step u e)
+    → inRuns (step u e) fs ≡ true
     → CaughtUp u (step u e) (run (step u e) fs) s d a out → AllThere (run (step u e) fs) s d
 caught-up u e fs s d a out h safe l c =
     let v = step u e in
@@ -56,16 +60,19 @@ caught-up u e fs s d a out h safe l c =
     let t = answer-taken u e s a (c .login) in
     let served = h .source .served in
     let answering = tests-content (u .serving .end) s (t .header) _ _ (t .content) (t .out) (t .tests) in
-    let is : a ≡ loginBytes (At d) (t .content) = t .answer ∙ ap (λ (x : TradeDate). loginBytes x (t .content)) (login-day u h e s d a t (c .day)) in
+    let is : a ≡ loginBytes (At d) (t .content) =
+    t .answer ∙ ap (λ (x : TradeDate). loginBytes x (t .content)) (login-day u h e s d a t (c .day)) in
     let opens = login-opens u h e s d a t (c .day) in
     let g = login-sends u served e s d a t (c .day) fs (c .no-opening) (c .last) in
     let all = all-sent u served e s d a t (c .day) fs (c .no-opening) (c .last) out (c .drained) in
     let sent = sentIn (v .serving) (w .serving) s in
     let n = startAt t + length sent in
-    let numbered = numbered-each s d (startAt t) sent λ j ps q. sent-whole (w .serving) s d (startAt t + j) ps (g .each j ps q) in
+    let numbered =
+    numbered-each s d (startAt t) sent λ j ps q. sent-whole (w .serving) s d (startAt t + j) ps (g .each j ps q) in
     let h′ = timely-step u h e in
     let room = room-back s d n (t .content) answering v h′ opens fs (c .room) in
-    let due : Due s d n (t .content) answering (since (v .receiving .delivered) (w .receiving .delivered)) (v .receiving .end) =
+    let due : Due s d n (t .content) answering (since (v .receiving .delivered) (w .receiving .delivered))
+    (v .receiving .end) =
     waiting (startAt t) sent opens (login-reached u h e s d a t (c .day)) numbered refl (rw is at (c .delivered)) in
     let ready = due-run s d n (t .content) answering v fs h′ safe l (c .day) (c .no-opening) (c .no-restart) room due in
     let reached = ready .reached in
@@ -81,17 +88,21 @@ settled w s d x safe =
     let now : keptOf (w .receiving .end) s .last ≡ reported w s d = current (x .date) in
     let m = x .last in
     let f = agreed .exactly in
-    let g : length (handedOn w s d) ≡ _ = ap length (agreed .first) ∙ length-take (reported w s d) (publishedOn w s d) in
+    let g : length (handedOn w s d) ≡ _ =
+    ap length (agreed .first) ∙ length-take (reported w s d) (publishedOn w s d) in
     omega arith
 
-pub safe-run : (log buffer : List ℕ) (es : List Event) → T (inRuns (start log buffer) es) → SafeWorld (run (start log buffer) es)
-safe-run log buffer es l = run-safe (start log buffer) (start-source log buffer) (start-safe log buffer) es (is-true _ l)
+pub safe-run : (log buffer : List ℕ) (es : List Event) → T (inRuns (start log buffer) es)
+    → SafeWorld (run (start log buffer) es)
+safe-run log buffer es l =
+    run-safe (start log buffer) (start-source log buffer) (start-safe log buffer) es (is-true _ l)
 
 pub complete : (log buffer : List ℕ) (es fs : List Event) (e : Event) (s d : ℕ) (a out : List ℕ)
     → let u = run (start log buffer) es in
     let v = step u e in
     let w = run v fs in
-    T (inRuns (start log buffer) (es ++ (e ∷ fs))) → CaughtUp u v w s d a out → reported w s d ≡ length (publishedOn w s d)
+    T (inRuns (start log buffer) (es ++ (e ∷ fs))) → CaughtUp u v w s d a out
+    → reported w s d ≡ length (publishedOn w s d)
 complete log buffer es fs e s d a out l c =
     let o = start log buffer in
     let u = run o es in
@@ -100,4 +111,5 @@ complete log buffer es fs e s d a out l c =
     let h = timely-run o (timely-start log buffer) es in
     let safe = step-safe u e (h .source .genuine) (b .0) (safe-run log buffer es (rw (parts .0) tt)) in
     let q : run o (es ++ (e ∷ fs)) ≡ run (step u e) fs = run-append o es (e ∷ fs) in
-    settled (run (step u e) fs) s d (caught-up u e fs s d a out h safe (b .1) c) (rw q at (safe-run log buffer (es ++ (e ∷ fs)) l))
+    settled (run (step u e) fs) s d (caught-up u e fs s d a out h safe (b .1) c)
+    (rw q at (safe-run log buffer (es ++ (e ∷ fs)) l))

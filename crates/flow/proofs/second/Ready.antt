@@ -1,5 +1,5 @@
--- A receiving end that is logged in to a series on the serving end's day, and wants a number next: it stays so, whatever comes but a
--- connection. Assumes nothing.
+-- A receiving end that is logged in to a series on the serving end's day, and wants a number next: it stays so,
+-- whatever comes but a connection. Assumes nothing.
 use Prim.Native.Nat.{ℕ, suc, _+_, _≤_}
 use native.Mathlib.Omega.{arith}
 use mathlib.Core.Path.{_≡_, refl, ap}
@@ -22,9 +22,11 @@ use Rattle.flow.specs.Ends.{Wrote, before, loggedIn, isOpen, keptOf, liv
 use Rattle.flow.specs.Receiving.{lastAfter, receiveOf}
 use Rattle.flow.proofs.common.Bools.{clash}
 use Rattle.flow.proofs.ends.ReceiverLookups.{Eight, part-inside}
-use Rattle.flow.proofs.calls.Receive.{Room, Took, unknown, not-in, repeats, hands-single, holds-first, holds-middle, hands-last, Received-as, unread, idles, reads, receive-as}
+use Rattle.flow.proofs.calls.Receive.{Room, Took, unknown, not-in, repeats, hands-single, holds-first}
+use Rattle.flow.proofs.calls.Receive.{holds-middle, hands-last, Received-as, unread, idles, reads, receive-as}
 use Rattle.flow.proofs.ends.ReceiverOpened.{none-open}
-use Rattle.flow.proofs.steps.Turns.{Turn, stays, opens, connects, confirms, receives, got-grows, got-in, by-series}
+use Rattle.flow.proofs.steps.Turns.{Turn, stays, opens, connects, confirms, receives, got-grows, got-in}
+use Rattle.flow.proofs.steps.Turns.{by-series}
 use Rattle.flow.proofs.common.Days.{Upto}
 use Rattle.flow.specs.Answers.{Message}
 
@@ -58,7 +60,8 @@ unfolding lastAfter
 confirm-last e t d q = rw (q, eq-eqb d d refl)
 
 module _ (e : Receiver) (h : Eight e) (s d k : ℕ) where
-  pub turn-ready : (e′ : Receiver) (ms : List Message) (ks : List ℕ) → Turn (At d) false e e′ ms ks → Ready e s d k → Ready e′ s d k
+  pub turn-ready : (e′ : Receiver) (ms : List Message) (ks : List ℕ) → Turn (At d) false e e′ ms ks → Ready e s d k
+      → Ready e′ s d k
   turn-ready e′ ms ks stays r = r
   turn-ready e′ ms ks (opens ss z q) r = clash _ (r .opens) (none-open e z s)
   turn-ready e′ ms ks (connects x) r = clash _ x refl
@@ -67,7 +70,12 @@ module _ (e : Receiver) (h : Eight e) (s d k : ℕ) where
       (by-series e h t q (At a) (lastAfter e t (At a)) loggedIn (λ s x y l. Ready e s d k → Found d k x y l)
       (λ r.
       let f = confirm-day a d (keptOf e t .date) (r .date) u b in
-      record { opens = refl; login = refl; date = ap At f; reached = rw (f, confirm-last e t d (r .date)) (r .reached) })
+      record {
+        opens = refl;
+        login = refl;
+        date = ap At f;
+        reached = rw (f, confirm-last e t d (r .date)) (r .reached);
+      })
       s (λ n. found e s d k) r)
   turn-ready e′ ms ks (receives {last} {live} t q l g) r =
       ready e′ s d k
@@ -81,19 +89,23 @@ module _ (e : Receiver) (h : Eight e) (s d k : ℕ) where
 -- ─── The length of the buffer stays ───
 
 module _ (e : Receiver) (shape : Eight e) (buffer : List ℕ) where
-  put-length : (s : ℕ) → isOpen e s ≡ true → (held : ℕ) (content : List ℕ) → Room e buffer held content → length (put buffer (partStart e s + held) content) ≡ length buffer
+  put-length : (s : ℕ) → isOpen e s ≡ true → (held : ℕ) (content : List ℕ) → Room e buffer held content
+      → length (put buffer (partStart e s + held) content) ≡ length buffer
   put-length s o held content r =
       length-put buffer (partStart e s + held) content (omega (arith, part-inside e shape s o, r .parts, r .chain))
 
-  took-length : (h : Header) (date : TradeDate) (at : Span) (content : List ℕ) (r : Wrote Receiver Received) → Took e h date at content buffer r → length (r .bytes) ≡ length buffer
+  took-length : (h : Header) (date : TradeDate) (at : Span) (content : List ℕ) (r : Wrote Receiver Received)
+      → Took e h date at content buffer r → length (r .bytes) ≡ length buffer
   took-length h date at content r (unknown q) = refl
   took-length h date at content r (not-in q) = refl
   took-length h date at content r (Took.refuses x q n) = refl
   took-length h date at content r (repeats n q l) = refl
   took-length h date at content r (hands-single n q) = refl
   took-length h date at content r (holds-first n q m) = put-length (h .series) (n .reached .open-series) 0 content m
-  took-length h date at content r (holds-middle n q g m) = put-length (h .series) (n .reached .open-series) (liveOf e (h .series) .held) content m
-  took-length h date at content r (hands-last n q g m) = put-length (h .series) (n .reached .open-series) (liveOf e (h .series) .held) content m
+  took-length h date at content r (holds-middle n q g m) =
+      put-length (h .series) (n .reached .open-series) (liveOf e (h .series) .held) content m
+  took-length h date at content r (hands-last n q g m) =
+      put-length (h .series) (n .reached .open-series) (liveOf e (h .series) .held) content m
 
   pub receive-length : (p : List ℕ) → length (receiveOf e p buffer .bytes) ≡ length buffer
   receive-length p = go (receiveOf e p buffer) (receive-as e p buffer)

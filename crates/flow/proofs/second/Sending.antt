@@ -23,15 +23,25 @@ pub record Whole (s d k : ℕ) (ps : List (List ℕ)) : Type 0 where
 pub sent-whole : (u : SenderSide) (s d k : ℕ) (ps : List (List ℕ)) → SentAs u s d k ps → Whole s d k ps
 sent-whole u s d k ps x =
     let g = x .0 in
-    record { tid = g .what .tid; content = g .what .content; is = rw (x .1, x .2) at (g .packets); shape = g .good; few = rw (x .2) at (g .few) }
+    record {
+      tid = g .what .tid;
+      content = g .what .content;
+      is = rw (x .1, x .2) at (g .packets);
+      shape = g .good;
+      few = rw (x .2) at (g .few);
+    }
 
 -- A list of messages numbered from k on.
 abbrev pub Numbered : ℕ → ℕ → ℕ → List (List (List ℕ)) → Type 0
 Numbered s d k [] = Unit {0}
 Numbered s d k (x ∷ l) = Whole s d k x × Numbered s d (suc k) l
 
-pub numbered-each : (s d k : ℕ) (l : List (List (List ℕ))) → ((j : ℕ) (ps : List (List ℕ)) → getElem? l j ≡ some ps → Whole s d (k + j) ps) → Numbered s d k l
+pub numbered-each : (s d k : ℕ) (l : List (List (List ℕ)))
+    → ((j : ℕ) (ps : List (List ℕ)) → getElem? l j ≡ some ps → Whole s d (k + j) ps) → Numbered s d k l
 numbered-each s d k [] f = tt
 numbered-each s d k (x ∷ l) f =
-    let a : k + 0 ≡ k = omega arith in
-    (rw a at (f 0 x refl), numbered-each s d (suc k) l λ j ps q. let b : k + suc j ≡ suc k + j = omega arith in rw b at (f (suc j) ps q))
+    let a : k + 0 ≡ k = omega arith in (
+      rw a at (f 0 x refl),
+      numbered-each s d (suc k) l λ j ps q. let b : k + suc j ≡ suc k + j = omega arith in rw
+          b at (f (suc j) ps q),
+    )

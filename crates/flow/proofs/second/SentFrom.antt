@@ -1,5 +1,5 @@
--- The messages from a number on were sent in a series, one after the other: kept by each call of the serving end but another login there
--- and another day. Assumes nothing.
+-- The messages from a number on were sent in a series, one after the other: kept by each call of the serving end but
+-- another login there and another day. Assumes nothing.
 use Prim.Native.Nat.{ℕ, suc, _+_, _≤_}
 use native.Mathlib.Omega.{arith}
 use mathlib.Core.Path.{_≡_, ap, _∙_, sym}
@@ -45,18 +45,24 @@ pub record SentFrom (v u : SenderSide) (s d k : ℕ) : Type 0 where
 -- ─── Each call ───
 
 module _ (v u : SenderSide) (h : ServedSide u) (s d k : ℕ) (z : SentFrom v u s d k) where
-  pub from-published : (t tid : ℕ) (content : List ℕ) → isServed (u .end) t ≡ true → SentFrom v (publishedSide u t tid content) s d k
+  pub from-published : (t tid : ℕ) (content : List ℕ) → isServed (u .end) t ≡ true
+      → SentFrom v (publishedSide u t tid content) s d k
   unfolding genuine-grows
   from-published t tid content o = record {
     day = z .day;
     served = served-entry (u .end) t o (16 + length content) s ∙ z .served;
     place = place-entry (u .end) t o (16 + length content) s ∙ z .place;
     each = λ j ps q.
-        let x = z .each j ps q in
-        (genuine-grows (u .published) (publishedSide u t tid content .published) s ps (extends-append (u .published) _) (x .0), x .1, x .2);
+        let x = z .each j ps q in (
+          genuine-grows (u .published) (publishedSide u t tid content .published) s ps (extends-append (u .published) _)
+              (x .0),
+          x .1,
+          x .2,
+        );
   }
 
-  pub from-login : (t next : ℕ) (content : List ℕ) → isServed (u .end) t ≡ true → (s ≡ t → ⊥) → SentFrom v (loginSide u t next content) s d k
+  pub from-login : (t next : ℕ) (content : List ℕ) → isServed (u .end) t ≡ true → (s ≡ t → ⊥)
+      → SentFrom v (loginSide u t next content) s d k
   from-login t next content o n = record {
     day = z .day;
     served = served-next (u .end) t o next s ∙ z .served;
@@ -64,7 +70,8 @@ module _ (v u : SenderSide) (h : ServedSide u) (s d k : ℕ) (z : SentFrom v u s
     each = z .each;
   }
 
-  pub from-other : (t : ℕ) (x : List ℕ) → isServed (u .end) t ≡ true → (s ≡ t → ⊥) → sentIn v (sentSide u t x) s ≡ sentIn v u s → SentFrom v (sentSide u t x) s d k
+  pub from-other : (t : ℕ) (x : List ℕ) → isServed (u .end) t ≡ true → (s ≡ t → ⊥)
+      → sentIn v (sentSide u t x) s ≡ sentIn v u s → SentFrom v (sentSide u t x) s d k
   from-other t x o n e = record {
     day = z .day;
     served = served-next (u .end) t o (suc (placeOf (u .end) t .next)) s ∙ z .served;
@@ -81,7 +88,8 @@ module _ (v u : SenderSide) (h : ServedSide u) (s d k : ℕ) (z : SentFrom v u s
   next-is = ap (λ (p : Place). p .next) (z .place)
 
   sent-numbered : (x : List ℕ) → Seated (u .end) s → placeOf (u .end) s .next ≤ publishedOf (u .end) s →
-      entryOf (u .end) (u .log) s (placeOf (u .end) s .next) ≡ some x → SentAs u s d (k + length (sentIn v u s)) (packetsIn (sendBytes (u .end) s x))
+      entryOf (u .end) (u .log) s (placeOf (u .end) s .next) ≡ some x
+      → SentAs u s d (k + length (sentIn v u s)) (packetsIn (sendBytes (u .end) s x))
   unfolding sent-genuine
   sent-numbered x a b c =
       let n = next-entry (u .end) (u .log) (u .day) (u .published) h s a b in
@@ -89,9 +97,11 @@ module _ (v u : SenderSide) (h : ServedSide u) (s d k : ℕ) (z : SentFrom v u s
 
   pub from-sent : (x : List ℕ) → Seated (u .end) s → placeOf (u .end) s .next ≤ publishedOf (u .end) s →
       entryOf (u .end) (u .log) s (placeOf (u .end) s .next) ≡ some x →
-      sentIn v (sentSide u s x) s ≡ sentIn v u s ++ (packetsIn (sendBytes (u .end) s x) ∷ []) → SentFrom v (sentSide u s x) s d k
+      sentIn v (sentSide u s x) s ≡ sentIn v u s ++ (packetsIn (sendBytes (u .end) s x) ∷ [])
+      → SentFrom v (sentSide u s x) s d k
   from-sent x a b c e =
-      let long : length (sentIn v (sentSide u s x) s) ≡ length (sentIn v u s) + 1 = ap length e ∙ length-append (sentIn v u s) _ in
+      let long : length (sentIn v (sentSide u s x) s) ≡ length (sentIn v u s) + 1 =
+      ap length e ∙ length-append (sentIn v u s) _ in
       let n = next-is in
       let more : suc (placeOf (u .end) s .next) ≡ k + length (sentIn v (sentSide u s x) s) = omega arith in
       record {
@@ -101,6 +111,7 @@ module _ (v u : SenderSide) (h : ServedSide u) (s d k : ℕ) (z : SentFrom v u s
             place-next (u .end) s (a .served) (h .eight) (suc (placeOf (u .end) s .next))
             ∙ ap (λ (i : ℕ). record { login = true; next = i }) more;
         each = λ j ps q.
-            place-last-at (λ (i : ℕ). SentAs u s d (k + i)) (sentIn v u s) (packetsIn (sendBytes (u .end) s x)) (z .each) (sent-numbered x a b c) j ps
+            place-last-at (λ (i : ℕ). SentAs u s d (k + i)) (sentIn v u s) (packetsIn (sendBytes (u .end) s x))
+            (z .each) (sent-numbered x a b c) j ps
             (ap (λ (l : List (List (List ℕ))). getElem? l j) (sym e) ∙ q);
       }

@@ -1,5 +1,5 @@
--- From a login on, while no day is opened and no other login of the series is taken, what is sent there is the messages from the login's
--- start on, one after the other; and all of them where none is left. Assumes nothing.
+-- From a login on, while no day is opened and no other login of the series is taken, what is sent there is the messages
+-- from the login's start on, one after the other; and all of them where none is left. Assumes nothing.
 use Prim.Native.Nat.{ℕ, suc, _+_, _≤_}
 use native.Mathlib.Omega.{arith}
 use mathlib.Core.Path.{_≡_, refl, ap, _∙_, sym, subst}
@@ -16,11 +16,13 @@ use Rattle.flow.specs.Serving.{sendBytes, sendOf}
 use Rattle.flow.specs.World.{InSeries, packetsIn, Event, SenderSide, World, step, run}
 use Rattle.flow.specs.Agreement.{since, inThat, publishedOn}
 use Rattle.flow.proofs.ends.SenderLookups.{served-next}
-use Rattle.flow.proofs.source.Moves.{Move, stays, opens, publishes, logs-in, sends, sentSide, step-moves, run-keeps}
+use Rattle.flow.proofs.source.Moves.{Move, stays, opens, publishes, logs-in, sends, sentSide, step-moves}
+use Rattle.flow.proofs.source.Moves.{run-keeps}
 use Rattle.flow.proofs.source.Growth.{Grown, grown-same, grown-along, move-grows}
 use Rattle.flow.proofs.source.Served.{ServedSide}
 use Rattle.flow.proofs.source.Kept.{move-served, published-count}
-use Rattle.flow.proofs.second.SentFrom.{sentIn, answeredIn, SentFrom, from-published, from-login, from-other, from-sent}
+use Rattle.flow.proofs.second.SentFrom.{sentIn, answeredIn, SentFrom, from-published, from-login, from-other}
+use Rattle.flow.proofs.second.SentFrom.{from-sent}
 use Rattle.flow.proofs.source.Sends.{drained-exactly}
 use Rattle.flow.proofs.logins.Taken.{LoginTaken, startAt, login-next}
 use Rattle.flow.proofs.common.Extends.{none-some}
@@ -41,27 +43,32 @@ one-not-none true x q = cc
 one-not-none false x q = refl
 
 module _ (v : SenderSide) (s d k : ℕ) where
-  move-sent : (u w : SenderSide) → Move u w → Since v u s d k → w .openings ≡ v .openings → answeredIn v w s ≡ [] → SentFrom v w s d k
+  move-sent : (u w : SenderSide) → Move u w → Since v u s d k → w .openings ≡ v .openings → answeredIn v w s ≡ []
+      → SentFrom v w s d k
   move-sent u w stays z o a = z .sent o a
   move-sent u w (opens date ss b c) z o a = absurd (let l = z .openings in omega arith)
-  move-sent u w (publishes t tid content p) z o a = from-published v u (z .served) s d k (z .sent o a) t tid content (p .served)
+  move-sent u w (publishes t tid content p) z o a =
+      from-published v u (z .served) s d k (z .sent o a) t tid content (p .served)
   move-sent u w (logs-in t p content out x y c g q) z o a =
       let more = that-more s t (v .answers) (u .answers) _ (z .grown .answers) in
       let e = append-empty (answeredIn v u s) (cond (eqb t s) (_ ∷ []) []) (sym more ∙ a) in
       let n = eqb-false t s (one-not-none (eqb t s) _ (e .1)) in
       from-login v u (z .served) s d k (z .sent o (e .0)) t _ content (q .served) (λ p. n (sym p))
   move-sent u w (sends t x r b c) z o a =
-      go (eqb t s) refl (that-more s t (v .messages) (u .messages) (packetsIn (sendBytes (u .end) t x)) (z .grown .messages))
+      go (eqb t s) refl
+      (that-more s t (v .messages) (u .messages) (packetsIn (sendBytes (u .end) t x)) (z .grown .messages))
     where
       before : SentFrom v u s d k
       before = z .sent o a
 
-      go : (y : Bool) → eqb t s ≡ y → sentIn v (sentSide u t x) s ≡ sentIn v u s ++ cond (eqb t s) (packetsIn (sendBytes (u .end) t x) ∷ []) [] →
+      go : (y : Bool) → eqb t s ≡ y → sentIn v (sentSide u t x) s ≡ sentIn v u s ++ cond (eqb t s)
+          (packetsIn (sendBytes (u .end) t x) ∷ []) [] →
           SentFrom v (sentSide u t x) s d k
       go true q e =
           let same = eqb-true t s q in
           let f : sentIn v (sentSide u t x) s ≡ sentIn v u s ++ (packetsIn (sendBytes (u .end) t x) ∷ []) = rw q at e in
-          subst (λ (i : ℕ). (sentIn v (sentSide u t x) i ≡ sentIn v u i ++ (packetsIn (sendBytes (u .end) t x) ∷ [])) → SentFrom v u i d k → SentFrom v (sentSide u t x) i d k) same
+          subst (λ (i : ℕ). (sentIn v (sentSide u t x) i ≡ sentIn v u i ++ (packetsIn (sendBytes (u .end) t x) ∷ []))
+          → SentFrom v u i d k → SentFrom v (sentSide u t x) i d k) same
           (λ f g. from-sent v u (z .served) t d k g x r b c f) f before
       go false q e =
           let n = eqb-false t s q in
@@ -77,7 +84,8 @@ module _ (v : SenderSide) (s d k : ℕ) where
   }
 
   -- Right behind the login.
-  pub since-login : ServedSide v → v .day ≡ At d → isServed (v .end) s ≡ true → placeOf (v .end) s ≡ record { login = true; next = k } → Since v v s d k
+  pub since-login : ServedSide v → v .day ≡ At d → isServed (v .end) s ≡ true
+      → placeOf (v .end) s ≡ record { login = true; next = k } → Since v v s d k
   since-login h q o p = record {
     grown = grown-same v;
     openings = omega arith;
@@ -86,7 +94,10 @@ module _ (v : SenderSide) (s d k : ℕ) where
       day = q;
       served = o;
       place = rw (since-same (v .messages)) (p ∙ ap (λ (i : ℕ). record { login = true; next = i }) (omega arith));
-      each = λ j ps r. absurd (none-some ps (ap (λ (l : List (InSeries (List (List ℕ)))). getElem? (inThat s l) j) (sym (since-same (v .messages))) ∙ r));
+      each =
+          λ j ps r. absurd
+          (none-some ps
+          (ap (λ (l : List (InSeries (List (List ℕ)))). getElem? (inThat s l) j) (sym (since-same (v .messages))) ∙ r));
     };
   }
 
@@ -97,12 +108,17 @@ module _
     (u : World) (right : ServedSide (u .serving)) (e : Event) (s d : ℕ) (a : List ℕ) (t : LoginTaken u e s a)
     (day : step u e .serving .day ≡ At d) (fs : List Event) where
   still-served : isServed (step u e .serving .end) s ≡ true
-  still-served = ap (λ (w : World). isServed (w .serving .end) s) (t .effect) ∙ served-next (u .serving .end) s (t .tests .served) (startAt t) s ∙ t .tests .served
+  still-served =
+      ap (λ (w : World). isServed (w .serving .end) s) (t .effect)
+      ∙ served-next (u .serving .end) s (t .tests .served) (startAt t) s ∙ t .tests .served
 
   login-since : Since (step u e .serving) (run (step u e) fs .serving) s d (startAt t)
   login-since =
-      run-keeps (λ (v : SenderSide). Since (step u e .serving) v s d (startAt t)) (move-since (step u e .serving) s d (startAt t)) (step u e) fs
-      (since-login (step u e .serving) s d (startAt t) (move-served (u .serving) (step u e .serving) (step-moves u e) right) day still-served (login-next u e s a (right .eight) t .0))
+      run-keeps (λ (v : SenderSide). Since (step u e .serving) v s d (startAt t))
+      (move-since (step u e .serving) s d (startAt t)) (step u e) fs
+      (since-login (step u e .serving) s d (startAt t)
+      (move-served (u .serving) (step u e .serving) (step-moves u e) right) day still-served
+      (login-next u e s a (right .eight) t .0))
 
   module _
       (no-opening : run (step u e) fs .serving .openings ≡ step u e .serving .openings)
@@ -111,8 +127,10 @@ module _
     login-sends = login-since .sent no-opening last
 
     -- None is left: the messages sent since reach from the start to the last one published.
-    pub all-sent : (out : List ℕ) → sendOf (run (step u e) fs .serving .end) s (run (step u e) fs .serving .log) out .answer ≡ Drained →
-        startAt t + length (sentIn (step u e .serving) (run (step u e) fs .serving) s) ≡ suc (length (publishedOn (run (step u e) fs) s d))
+    pub all-sent : (out : List ℕ) → sendOf (run (step u e) fs .serving .end) s (run (step u e) fs .serving .log)
+        out .answer ≡ Drained →
+        startAt t + length (sentIn (step u e .serving) (run (step u e) fs .serving) s) ≡ suc
+        (length (publishedOn (run (step u e) fs) s d))
     all-sent out q =
         let w : World = run (step u e) fs in
         let h : ServedSide (w .serving) = login-since .served in
@@ -120,6 +138,7 @@ module _
         let g = drained-exactly (w .serving) h s out d (f .day) .0 q in
         let p = h .placed s (g .0 .served) (g .0 .login) .1 in
         let c = published-count (w .serving) h s d (f .day) (g .0 .served) in
-        let n : placeOf (w .serving .end) s .next ≡ startAt t + length (sentIn (step u e .serving) (w .serving) s) = ap (λ (x : Place). x .next) (f .place) in
+        let n : placeOf (w .serving .end) s .next ≡ startAt t + length (sentIn (step u e .serving) (w .serving) s) =
+        ap (λ (x : Place). x .next) (f .place) in
         let l = g .1 in
         omega arith

@@ -1,4 +1,5 @@
--- What a receiving end takes: a login's answer logs it in, and a message delivered whole that it wants, or had, is received. Assumes nothing.
+-- What a receiving end takes: a login's answer logs it in, and a message delivered whole that it wants, or had, is
+-- received. Assumes nothing.
 use Prim.Native.Nat.{ℕ, suc, _+_, _≤_}
 use native.Mathlib.Omega.{arith}
 use mathlib.Core.Path.{_≡_, refl, sym, ap, _∙_}
@@ -38,7 +39,8 @@ use Rattle.flow.proofs.logins.Timely.{Reached, reached-onward, reached-
 use Rattle.flow.proofs.second.Sending.{Whole}
 use Rattle.flow.proofs.second.Ready.{Ready, turn-ready}
 use Rattle.flow.proofs.common.Extends.{place-inside, place-getD}
-use Rattle.flow.proofs.calls.Receive.{Took, unknown, not-in, repeats, hands-single, holds-first, holds-middle, hands-last, receive-with}
+use Rattle.flow.proofs.calls.Receive.{Took, unknown, not-in, repeats, hands-single, holds-first, holds-middle}
+use Rattle.flow.proofs.calls.Receive.{hands-last, receive-with}
 use Rattle.flow.proofs.packets.Messages.{headerAt, spanAt, packet-dated, packet-received}
 use Rattle.flow.proofs.pieces.Completes.{Wants}
 use Rattle.flow.proofs.packets.Genuine.{headed, AllGenuine}
@@ -53,13 +55,17 @@ not-below d None u = refl
 not-below d (At c) u = le-ltb d c u
 
 -- On day d, where the receiving end keeps no later one.
-pub logs-in : (r : Receiver) → Eight r → (s d k : ℕ) (content : List ℕ) → Answering content → isOpen r s ≡ true → Upto (keptOf r s .date) (At d) → Reached d k (dayOf r s) (lastOf r s)
+pub logs-in : (r : Receiver) → Eight r → (s d k : ℕ) (content : List ℕ) → Answering content → isOpen r s ≡ true
+    → Upto (keptOf r s .date) (At d) → Reached d k (dayOf r s) (lastOf r s)
     → Ready (confirmLoginOf r s (loginBytes (At d) content) .end) s d k
 unfolding confirmByLogin lastAfter
 logs-in r h s d k content a o u g =
     let b = not-below d (keptOf r s .date) u in
     let last = lastAfter r s (At d) in
-    let n = reached-here d k (At d) last refl (reached-onward d k (dayOf r s) (lastOf r s) (At d) last (rw o (confirm-onward (keptOf r s .date) (keptOf r s .last) d b)) g) in
+    let n =
+    reached-here d k (At d) last refl
+    (reached-onward d k (dayOf r s) (lastOf r s) (At d) last
+    (rw o (confirm-onward (keptOf r s .date) (keptOf r s .last) d b)) g) in
     let shape = h in
     let f = kept-same r shape s o (At d) last loggedIn in
     let after : Ready (withSeries r s (At d) last loggedIn) s d k =
@@ -77,31 +83,40 @@ accepted-same : (g h : Header) (a b x y : Span) → Accepted g a b ≡ Accepted 
 accepted-same g h a b x y q = cc
 
 -- Two messages with the same packet have the same series, number and day.
-same-head : (m n : Headed) (c b : List ℕ) (j : ℕ) (p : List ℕ) → shaped c 32768 ≡ true → shaped b 32768 ≡ true → getElem? (packetsOf m c) j ≡ some p
+same-head : (m n : Headed) (c b : List ℕ) (j : ℕ) (p : List ℕ) → shaped c 32768 ≡ true → shaped b 32768 ≡ true
+    → getElem? (packetsOf m c) j ≡ some p
     → getElem? (packetsOf n b) j ≡ some p → (m .series ≡ n .series) × (m .number ≡ n .number) × (m .date ≡ n .date)
 unfolding headerFor
 same-head m n c b j p x y f g =
     let i = place-inside (packetsOf m c) j p f in
     let k = place-inside (packetsOf n b) j p g in
-    let q = sym (packet-dated m c j i 32768 x) ∙ ap datedOf (place-getD (packetsOf m c) j p [] f ∙ sym (place-getD (packetsOf n b) j p [] g)) ∙ packet-dated n b j k 32768 y in
+    let q =
+    sym (packet-dated m c j i 32768 x) ∙ ap datedOf
+    (place-getD (packetsOf m c) j p [] f ∙ sym (place-getD (packetsOf n b) j p [] g)) ∙ packet-dated n b j k 32768 y in
     let h = accepted-same _ _ _ _ _ _ (ap (λ (z : Read). z .packet) q) in
     (ap (λ (z : Header). z .series) h, ap (λ (z : Header). z .number) h, ap (λ (z : Read). z .date) q)
 
 -- ─── A message that is handed on is received ───
 
-took-handed : (e : Receiver) (h : Header) (date : TradeDate) (at : Span) (p content buffer : List ℕ) (x : Message) (r : Wrote Receiver Received)
-    → Took e h date at content buffer r → messageIn (receivedSaid p (r .bytes) (r .answer)) ≡ x ∷ [] → r .end ≡ advance e (h .series) (h .number) loggedIn
+took-handed : (e : Receiver) (h : Header) (date : TradeDate) (at : Span) (p content buffer : List ℕ) (x : Message)
+    (r : Wrote Receiver Received)
+    → Took e h date at content buffer r → messageIn (receivedSaid p (r .bytes) (r .answer)) ≡ x ∷ []
+    → r .end ≡ advance e (h .series) (h .number) loggedIn
 took-handed e h date at p content buffer x r (unknown q) n = let z : _≡_ {A = ℕ} 0 1 = cc in absurd (omega arith)
 took-handed e h date at p content buffer x r (not-in q) n = let z : _≡_ {A = ℕ} 0 1 = cc in absurd (omega arith)
-took-handed e h date at p content buffer x r (Took.refuses y q l) n = let z : _≡_ {A = ℕ} 0 1 = cc in absurd (omega arith)
+took-handed e h date at p content buffer x r (Took.refuses y q l) n =
+    let z : _≡_ {A = ℕ} 0 1 = cc in absurd (omega arith)
 took-handed e h date at p content buffer x r (repeats l q k) n = let z : _≡_ {A = ℕ} 0 1 = cc in absurd (omega arith)
 took-handed e h date at p content buffer x r (hands-single l q) n = refl
-took-handed e h date at p content buffer x r (holds-first l q m) n = let z : _≡_ {A = ℕ} 0 1 = cc in absurd (omega arith)
-took-handed e h date at p content buffer x r (holds-middle l q g m) n = let z : _≡_ {A = ℕ} 0 1 = cc in absurd (omega arith)
+took-handed e h date at p content buffer x r (holds-first l q m) n =
+    let z : _≡_ {A = ℕ} 0 1 = cc in absurd (omega arith)
+took-handed e h date at p content buffer x r (holds-middle l q g m) n =
+    let z : _≡_ {A = ℕ} 0 1 = cc in absurd (omega arith)
 took-handed e h date at p content buffer x r (hands-last l q g m) n = refl
 
 -- Packet j of the message of series s, number k and day d.
-packet-handed : (s d k : ℕ) (ps : List (List ℕ)) (g : Whole s d k ps) (j : ℕ) (p : List ℕ) → getElem? ps j ≡ some p → (e : Receiver) (buffer : List ℕ) (x : Message)
+packet-handed : (s d k : ℕ) (ps : List (List ℕ)) (g : Whole s d k ps) (j : ℕ) (p : List ℕ) → getElem? ps j ≡ some p
+    → (e : Receiver) (buffer : List ℕ) (x : Message)
     → let r = receiveOf e p buffer in
     messageIn (receivedSaid p (r .bytes) (r .answer)) ≡ x ∷ [] → r .end ≡ advance e s k loggedIn
 unfolding headerFor
@@ -112,14 +127,18 @@ packet-handed s d k ps g j p at e buffer x =
     let q = place-getD (packetsOf m (g .content)) j p [] f in
     rw (← q)
     (rw (packet-received m (g .content) j i 32768 (g .shape) e buffer)
-    (took-handed e (headerAt m (g .content) j i) (At d) (spanAt m (g .content) j i) (packetAt m (g .content) j) (pieceAtPlace (g .content) j .bytes) buffer x
-    (receiveWith e (headerAt m (g .content) j i) (At d) (spanAt m (g .content) j i) (pieceAtPlace (g .content) j .bytes) buffer)
-    (receive-with e (headerAt m (g .content) j i) (At d) (spanAt m (g .content) j i) (pieceAtPlace (g .content) j .bytes) buffer)))
+    (took-handed e (headerAt m (g .content) j i) (At d) (spanAt m (g .content) j i) (packetAt m (g .content) j)
+    (pieceAtPlace (g .content) j .bytes) buffer x
+    (receiveWith e (headerAt m (g .content) j i) (At d) (spanAt m (g .content) j i) (pieceAtPlace (g .content) j .bytes)
+    buffer)
+    (receive-with e (headerAt m (g .content) j i) (At d) (spanAt m (g .content) j i)
+    (pieceAtPlace (g .content) j .bytes) buffer)))
 
 -- ─── A message delivered whole is received ───
 
 -- Wanted next, or had already.
-wanted : (r : Receiver) (buffer : List ℕ) (s d k : ℕ) → k ≤ 1000000 → allParts r ≤ length buffer → Ready r s d k → Wants r buffer s k d ⊎ Ready r s d (suc k)
+wanted : (r : Receiver) (buffer : List ℕ) (s d k : ℕ) → k ≤ 1000000 → allParts r ≤ length buffer → Ready r s d k
+    → Wants r buffer s k d ⊎ Ready r s d (suc k)
 wanted r buffer s d k few room h = go (eqb k (keptOf r s .last + 1)) refl
   where
     less : (k l : ℕ) → k ≤ suc l → (k ≡ l + 1 → ⊥) → suc k ≤ suc l
@@ -127,38 +146,61 @@ wanted r buffer s d k few room h = go (eqb k (keptOf r s .last + 1)) refl
 
     go : (b : Bool) → eqb k (keptOf r s .last + 1) ≡ b → Wants r buffer s k d ⊎ Ready r s d (suc k)
     go true q =
-        inl (record { open-series = h .opens; login = h .login; date = h .date; number = eqb-true k (keptOf r s .last + 1) q; few = few; room = room })
+        inl (record {
+          open-series = h .opens;
+          login = h .login;
+          date = h .date;
+          number = eqb-true k (keptOf r s .last + 1) q;
+          few = few;
+          room = room;
+        })
     go false q =
-        inr (record { opens = h .opens; login = h .login; date = h .date; reached = less k (keptOf r s .last) (h .reached) (eqb-false k (keptOf r s .last + 1) q) })
+        inr (record {
+          opens = h .opens;
+          login = h .login;
+          date = h .date;
+          reached = less k (keptOf r s .last) (h .reached)
+              (eqb-false k (keptOf r s .last + 1) q);
+        })
 
-module _ (w : World) (eight : Eight (w .receiving .end)) (safe : SafeWorld w) (genuine : AllGenuine (w .serving)) (i j : ℕ) (m : InSeries (List (List ℕ)))
+module _ (w : World) (eight : Eight (w .receiving .end)) (safe : SafeWorld w) (genuine : AllGenuine (w .serving))
+    (i j : ℕ) (m : InSeries (List (List ℕ)))
     (here : getElem? (w .serving .messages) i ≡ some m)
     (line : (n : ℕ) → j ≡ suc n → w .receiving .previous ≡ came i n)
     (room : allParts (w .receiving .end) ≤ length (w .receiving .buffer))
   where
-    pub next-ready : (p : List ℕ) → getElem? (m .what) j ≡ some p → suc j ≡ length (m .what) → (s d k : ℕ) → Whole s d k (m .what) → Ready (w .receiving .end) s d k
+    pub next-ready : (p : List ℕ) → getElem? (m .what) j ≡ some p → suc j ≡ length (m .what) → (s d k : ℕ)
+        → Whole s d k (m .what) → Ready (w .receiving .end) s d k
         → Ready (receiveOf (w .receiving .end) p (w .receiving .buffer) .end) s d (suc k)
     next-ready p at last s d k g h =
         elim (wanted (w .receiving .end) (w .receiving .buffer) s d k (g .few) room h) [
           | inl x ↦ handed x
-          | inr x ↦ turn-ready (w .receiving .end) eight s d (suc k) _ _ _ (receive-turn (At d) false (w .receiving .end) p (w .receiving .buffer)) x
+          | inr x ↦ turn-ready (w .receiving .end) eight s d (suc k) _ _ _
+              (receive-turn (At d) false (w .receiving .end) p (w .receiving .buffer)) x
         ]
       where
-        handed : Wants (w .receiving .end) (w .receiving .buffer) s k d → Ready (receiveOf (w .receiving .end) p (w .receiving .buffer) .end) s d (suc k)
+        handed : Wants (w .receiving .end) (w .receiving .buffer) s k d
+            → Ready (receiveOf (w .receiving .end) p (w .receiving .buffer) .end) s d (suc k)
         handed x =
             let e = w .receiving .end in
             let shape = eight in
             let o = genuine i m here in
-            let same = same-head (headed s (g .tid) k d) (headed (m .series) (o .what .tid) (suc (o .place)) (o .day)) (g .content) (o .what .content) j p (g .shape) (o .good)
+            let same =
+            same-head (headed s (g .tid) k d) (headed (m .series) (o .what .tid) (suc (o .place)) (o .day)) (g .content)
+            (o .what .content) j p (g .shape) (o .good)
             (rw (g .is) at at) (rw (o .packets) at at) in
             let day : d ≡ o .day = at-same d (o .day) (same .2) in
             let y = rw (same .0, same .1, day) at x in
-            let done = receive-completes (w .serving .published) (w .serving .messages) (w .receiving) safe i j m p here o at line (omega arith) y in
+            let done =
+            receive-completes (w .serving .published) (w .serving .messages) (w .receiving) safe i j m p here o at line
+            (omega arith) y in
             let q = packet-handed s d k (m .what) g j p at e (w .receiving .buffer) (o .what) done in
             let f = kept-same e shape s (x .open-series) (keptOf e s .date) k loggedIn in
             rw q (record {
               opens = open-stays e shape s (x .open-series) (keptOf e s .date) k loggedIn s ∙ x .open-series;
-              login = ap (λ (y : LiveSeries). y .login) (live-same e shape s (x .open-series) (keptOf e s .date) k loggedIn);
+              login =
+                  ap (λ (y : LiveSeries). y .login)
+                  (live-same e shape s (x .open-series) (keptOf e s .date) k loggedIn);
               date = ap (λ (y : KeptSeries). y .date) f ∙ x .date;
               reached = rw f (omega arith);
             })

@@ -11,7 +11,8 @@ use Rattle.flow.proofs.sender.Sender.{the-type}
 use Rattle.flow.specs.declared.series.SeriesPlace.{SeriesPlace}
 use Rattle.flow.specs.declared.series.SeriesPlace.the-variants.{At}
 use Rattle.flow.specs.declared.sender.Sender.{Sender}
-use Rattle.flow.specs.Ends.{indexOf, newSeries, noPlace, sender, daySeries, publishedOf, placeOf, withEntry, withNext}
+use Rattle.flow.specs.Ends.{indexOf, newSeries, noPlace, sender, daySeries, publishedOf, placeOf, withEntry}
+use Rattle.flow.specs.Ends.{withNext}
 use Rattle.flow.specs.Helpers.{Finds}
 use Rattle.flow.proofs.series.Places.{unmapped}
 use Rattle.flow.proofs.ends.SenderLookups.{Eight}

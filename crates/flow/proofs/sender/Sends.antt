@@ -29,7 +29,8 @@ use Rattle.flow.specs.declared.sender.Sent.the-variants.{Drained}
 use Rattle.flow.specs.declared.sender.Sent.the-variants.{Wrote as Message-sent}
 use Rattle.flow.specs.declared.sender.Sent.the-variants.{Refused as NotSent}
 use Rattle.flow.specs.Answers.{sentSaid}
-use Rattle.flow.specs.Ends.{Wrote, wrote, over, indexOf, newSeries, noPlace, sender, daySeries, isServed, publishedOf, placeOf, withNext}
+use Rattle.flow.specs.Ends.{Wrote, wrote, over, indexOf, newSeries, noPlace, sender, daySeries, isServed}
+use Rattle.flow.specs.Ends.{publishedOf, placeOf, withNext}
 use Rattle.flow.specs.Log.{entryOf}
 use Rattle.flow.specs.Serving.{noneLeft, sendBytes, sendEntry, sendOf}
 use Rattle.flow.specs.Promises.{Sends}

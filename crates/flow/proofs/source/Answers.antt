@@ -1,4 +1,5 @@
--- Each answer on the line is a login answer of a day up to the present one, with content that passed rows 7 to 10. Assumes nothing.
+-- Each answer on the line is a login answer of a day up to the present one, with content that passed rows 7 to 10.
+-- Assumes nothing.
 use Prim.Native.Nat.{ℕ}
 use mathlib.Core.Path.{_≡_, ap, _∙_}
 use mathlib.Core.List.{List}
@@ -43,7 +44,8 @@ pub record GenuineAnswer (day : TradeDate) (a : InSeries (List ℕ)) : Type 0 wh
 abbrev pub GenuineAnswers : SenderSide → Type 0
 GenuineAnswers v = (i : ℕ) (a : InSeries (List ℕ)) → getElem? (v .answers) i ≡ some a → GenuineAnswer (v .day) a
 
-answer-genuine : (v : SenderSide) → ServedSide v → (s : ℕ) (h : Header) (date : TradeDate) (asked content out : List ℕ) → LoginTests (v .end) s h date asked content out →
+answer-genuine : (v : SenderSide) → ServedSide v → (s : ℕ) (h : Header) (date : TradeDate) (asked content out : List ℕ)
+    → LoginTests (v .end) s h date asked content out →
     GenuineAnswer (v .day) (inSeries s (loginBytes (v .end .day .date) content))
 answer-genuine v z s h date asked content out t =
     let d = served-day (v .end) (v .log) (v .day) (v .published) z s (t .served) in
@@ -55,7 +57,9 @@ answer-genuine v z s h date asked content out t =
       widths = or-neither (wrongWidth asked) (wrongWidth content) (t .widths) .1;
       items = or-neither (wrongItem asked) (wrongItem content) (t .items) .1;
       counts =
-          not-false _ (or-neither (noLogin h || not (composed loginTid Up asked) || ltb 1 (countOf resumeFid asked)) (not (composed loginTid Down content)) (t .counts) .1);
+          not-false _
+          (or-neither (noLogin h || not (composed loginTid Up asked) || ltb 1 (countOf resumeFid asked))
+          (not (composed loginTid Down content)) (t .counts) .1);
       not-later = ap (upTo (d .0)) (d .1) ∙ upTo-self (d .0);
     }
 
@@ -75,5 +79,6 @@ move-answers v u (opens date ss a b) h g = λ i x q.
     }
 move-answers v u (publishes s tid content t) h g = g
 move-answers v u (logs-in s p content out x y c e t) h g =
-    place-last (GenuineAnswer (v .day)) (v .answers) _ g (answer-genuine v h s x (datedOf p .date) (part p (c .start) (c .len)) content out t)
+    place-last (GenuineAnswer (v .day)) (v .answers) _ g
+    (answer-genuine v h s x (datedOf p .date) (part p (c .start) (c .len)) content out t)
 move-answers v u (sends s x a b c) h g = g

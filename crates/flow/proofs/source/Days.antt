@@ -1,5 +1,5 @@
--- The source over time, of every call: under a day a series' list only grows, days only rise, and a day that is over gets nothing more. Assumes
--- nothing.
+-- The source over time, of every call: under a day a series' list only grows, days only rise, and a day that is over
+-- gets nothing more. Assumes nothing.
 use Prim.Native.Nat.{ℕ, _≤_}
 use native.Mathlib.Omega.{arith}
 use mathlib.Core.Path.{_≡_, refl, ap, _∙_}
@@ -25,13 +25,16 @@ use Rattle.flow.proofs.common.Days.{upTo-self, Upto, upto-test}
 
 -- ─── Number k of a day and series is one message for ever ───
 
-pub published-grows : (v u : SenderSide) → Grown v u → (s d : ℕ) → Extends (of s d (v .published)) (of s d (u .published))
+pub published-grows : (v u : SenderSide) → Grown v u → (s d : ℕ)
+    → Extends (of s d (v .published)) (of s d (u .published))
 published-grows v u g s d =
     let x = g .published in
     (of s d (x .0), ap (of s d) (x .1) ∙ of-append s d (v .published) (x .0))
 
-pub message-stays : (v u : SenderSide) → Grown v u → (s d i : ℕ) (x : Message) → getElem? (of s d (v .published)) i ≡ some x → getElem? (of s d (u .published)) i ≡ some x
-message-stays v u g s d i x q = place-kept (of s d (v .published)) (of s d (u .published)) (published-grows v u g s d) i x q
+pub message-stays : (v u : SenderSide) → Grown v u → (s d i : ℕ) (x : Message)
+    → getElem? (of s d (v .published)) i ≡ some x → getElem? (of s d (u .published)) i ≡ some x
+message-stays v u g s d i x q =
+    place-kept (of s d (v .published)) (of s d (u .published)) (published-grows v u g s d) i x q
 
 -- ─── Days only rise, and stay while no opening comes ───
 
@@ -77,7 +80,11 @@ over-opened d date (At e) a b = let g = leb-false date e a in let h = leb-true d
 pub move-over : (d : ℕ) (v u : SenderSide) → Move v u → ServedSide v → Over d v → Over d u
 move-over d v u stays h o = o
 move-over d v u (opens date ss a b) h o =
-    record { below = move-rises v _ (opens date ss a b) h d (o .below); other = over-opened d date (v .day) (rw (h .same-day) at b) (o .below) }
+    record {
+      below = move-rises v _ (opens date ss a b) h d (o .below);
+      other = over-opened d date (v .day)
+          (rw (h .same-day) at b) (o .below);
+    }
 move-over d v u (publishes s tid content t) h o = record { below = o .below; other = o .other }
 move-over d v u (logs-in s p content out x y c g t) h o = record { below = o .below; other = o .other }
 move-over d v u (sends s x a b c) h o = record { below = o .below; other = o .other }
@@ -95,7 +102,8 @@ move-closed d s v u stays o = refl
 move-closed d s v u (opens date ss a b) o = refl
 move-closed d s v u (publishes t tid content z) o =
     of-append s d (v .published) (dated t (v .day) (record { tid = tid; content = content }) ∷ [])
-    ∙ ap (λ (l : List Message). of s d (v .published) ++ l) (none-there s d t (v .day) (record { tid = tid; content = content }) (o .other))
+    ∙ ap (λ (l : List Message). of s d (v .published) ++ l)
+    (none-there s d t (v .day) (record { tid = tid; content = content }) (o .other))
     ∙ append-nil (of s d (v .published))
 move-closed d s v u (logs-in t p content out x y c g z) o = refl
 move-closed d s v u (sends t x a b c) o = refl

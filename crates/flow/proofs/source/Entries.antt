@@ -27,17 +27,20 @@ use Rattle.flow.proofs.source.Served.{Served}
 use Rattle.flow.proofs.common.Bools.{not-both}
 
 -- The message that is next: its day, its place there from 0 (its number less 1), and its entry.
-pub record NextEntry (e : Sender) (log : List ℕ) (day : TradeDate) (history : List (Dated Message)) (s : ℕ) : Type 0 where
-  pub date : ℕ
-  pub place : ℕ
-  pub message : Message
-  pub same-day : day ≡ At date
-  pub number : placeOf e s .next ≡ suc place
-  pub published : getElem? (of s date history) place ≡ some message
-  pub entry : entryOf e log s (placeOf e s .next) ≡ some (entryBytes s (message .tid) (placeOf e s .next) (message .content))
-  pub shape : shaped (message .content) mostContent ≡ true
+pub record NextEntry (e : Sender) (log : List ℕ) (day : TradeDate) (history : List (Dated Message)) (s : ℕ) : Type 0
+  where
+    pub date : ℕ
+    pub place : ℕ
+    pub message : Message
+    pub same-day : day ≡ At date
+    pub number : placeOf e s .next ≡ suc place
+    pub published : getElem? (of s date history) place ≡ some message
+    pub entry : entryOf e log s (placeOf e s .next) ≡ some
+        (entryBytes s (message .tid) (placeOf e s .next) (message .content))
+    pub shape : shaped (message .content) mostContent ≡ true
 
-module _ (e : Sender) (log : List ℕ) (day : TradeDate) (history : List (Dated Message)) (h : Served e log day history) (s : ℕ) where
+module _ (e : Sender) (log : List ℕ) (day : TradeDate) (history : List (Dated Message)) (h : Served e log day history)
+    (s : ℕ) where
   -- Where a series is open there is a day.
   pub served-day : isServed e s ≡ true → (d : ℕ) × (day ≡ At d)
   unfolding isServed
@@ -77,7 +80,8 @@ module _ (e : Sender) (log : List ℕ) (day : TradeDate) (history : List (Dated 
       let low = h .placed s (r .served) (r .login) .0 in
       go (d .0) (d .1) (placeOf e s .next) refl low
     where
-      go : (d : ℕ) → day ≡ At d → (n : ℕ) → placeOf e s .next ≡ n → 1 ≤ placeOf e s .next → NextEntry e log day history s
+      go : (d : ℕ) → day ≡ At d → (n : ℕ) → placeOf e s .next ≡ n → 1 ≤ placeOf e s .next
+          → NextEntry e log day history s
       go d a zero n low = absurd (omega arith)
       go d a (suc i) n low = entry-at d a (r .served) i n q
 
@@ -89,4 +93,5 @@ pub cut-sent : (e : Sender) (s tid number : ℕ) (content : List ℕ) →
 unfolding sendBytes
 cut-sent e s tid number content =
     rw (tid-back s tid number content, content-back s tid number content)
-    (ap (λ (r : Run). r .entries) (chain-laws .cut-back (record { date = e .day .date; tid = tid; series = s; number = placeOf e s .next }) content))
+    (ap (λ (r : Run). r .entries)
+    (chain-laws .cut-back (record { date = e .day .date; tid = tid; series = s; number = placeOf e s .next }) content))

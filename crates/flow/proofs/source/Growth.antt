@@ -12,7 +12,13 @@ pub record Grown (v u : SenderSide) : Type 0 where
   pub messages : Extends (v .messages) (u .messages)
 
 pub grown-same : (v : SenderSide) → Grown v v
-grown-same v = record { published = extends-same (v .published); answers = extends-same (v .answers); messages = extends-same (v .messages) }
+grown-same v =
+    record {
+      published = extends-same (v .published);
+      answers = extends-same (v .answers);
+      messages = extends-same
+          (v .messages);
+    }
 
 pub grown-along : (v u t : SenderSide) → Grown v u → Grown u t → Grown v t
 grown-along v u t g h = record {
@@ -24,13 +30,35 @@ grown-along v u t g h = record {
 pub move-grows : (v u : SenderSide) → Move v u → Grown v u
 move-grows v u stays = grown-same v
 move-grows v u (opens date ss a b) =
-    record { published = extends-same (v .published); answers = extends-same (v .answers); messages = extends-same (v .messages) }
+    record {
+      published = extends-same (v .published);
+      answers = extends-same (v .answers);
+      messages = extends-same
+          (v .messages);
+    }
 move-grows v u (publishes s tid content t) =
-    record { published = extends-append (v .published) _; answers = extends-same (v .answers); messages = extends-same (v .messages) }
+    record {
+      published = extends-append (v .published) _;
+      answers = extends-same (v .answers);
+      messages = extends-same
+          (v .messages);
+    }
 move-grows v u (logs-in s p content out h x c g t) =
-    record { published = extends-same (v .published); answers = extends-append (v .answers) _; messages = extends-same (v .messages) }
+    record {
+      published = extends-same (v .published);
+      answers = extends-append (v .answers) _;
+      messages = extends-same
+          (v .messages);
+    }
 move-grows v u (sends s x a b c) =
-    record { published = extends-same (v .published); answers = extends-same (v .answers); messages = extends-append (v .messages) _ }
+    record {
+      published = extends-same (v .published);
+      answers = extends-same (v .answers);
+      messages = extends-append
+          (v .messages) _;
+    }
 
 pub run-grows : (w : World) (es : List Event) → Grown (w .serving) (run w es .serving)
-run-grows w es = run-keeps (Grown (w .serving)) (λ v u m g. grown-along (w .serving) v u g (move-grows v u m)) w es (grown-same (w .serving))
+run-grows w es =
+    run-keeps (Grown (w .serving)) (λ v u m g. grown-along (w .serving) v u g (move-grows v u m)) w es
+    (grown-same (w .serving))

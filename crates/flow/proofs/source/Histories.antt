@@ -36,14 +36,16 @@ onDate (At d) l = onDay d l
 
 abbrev pub messagesOf : ℕ → List Pub → List Message
 messagesOf s [] = []
-messagesOf s (p ∷ ps) = cond (eqb (p .series) s) (record { tid = p .tid; content = p .content } ∷ messagesOf s ps) (messagesOf s ps)
+messagesOf s (p ∷ ps) =
+    cond (eqb (p .series) s) (record { tid = p .tid; content = p .content } ∷ messagesOf s ps) (messagesOf s ps)
 
 pub of-is : (s d : ℕ) (l : List (Dated Message)) → of s d l ≡ messagesOf s (onDay d l)
 of-is s d [] = refl
 of-is s d (x ∷ l) = go (eqb (x .series) s) refl (isDay d (x .day)) (of-is s d l)
   where
     go : (a : Bool) → eqb (x .series) s ≡ a → (b : Bool) → of s d l ≡ messagesOf s (onDay d l) →
-        cond (a && b) (x .what ∷ of s d l) (of s d l) ≡ messagesOf s (cond b (pubOf (x .series) (x .what) ∷ onDay d l) (onDay d l))
+        cond (a && b) (x .what ∷ of s d l) (of s d l) ≡ messagesOf s
+        (cond b (pubOf (x .series) (x .what) ∷ onDay d l) (onDay d l))
     go true q true ih = rw (q, ih)
     go true q false ih = ih
     go false q true ih = rw (q, ih)
@@ -56,7 +58,8 @@ day-append d [] m = refl
 day-append d (x ∷ l) m = go (isDay d (x .day)) (day-append d l m)
   where
     go : (b : Bool) → onDay d (l ++ m) ≡ onDay d l ++ onDay d m →
-        cond b (pubOf (x .series) (x .what) ∷ onDay d (l ++ m)) (onDay d (l ++ m)) ≡ cond b (pubOf (x .series) (x .what) ∷ onDay d l) (onDay d l) ++ onDay d m
+        cond b (pubOf (x .series) (x .what) ∷ onDay d (l ++ m)) (onDay d (l ++ m)) ≡ cond b
+        (pubOf (x .series) (x .what) ∷ onDay d l) (onDay d l) ++ onDay d m
     go true ih = rw ih
     go false ih = ih
 
@@ -83,16 +86,20 @@ abbrev pub seriesBack : List ℕ → List Pub → List ℕ
 seriesBack earlier [] = earlier
 seriesBack earlier (p ∷ ps) = seriesBack (p .series ∷ earlier) ps
 
-pub laid-append : (earlier : List ℕ) (ps : List Pub) (p : Pub) → laid earlier (ps ++ (p ∷ [])) ≡ laid earlier ps ++ (entryFor (seriesBack earlier ps) p ∷ [])
+pub laid-append : (earlier : List ℕ) (ps : List Pub) (p : Pub)
+    → laid earlier (ps ++ (p ∷ [])) ≡ laid earlier ps ++ (entryFor (seriesBack earlier ps) p ∷ [])
 laid-append earlier [] p = refl
-laid-append earlier (q ∷ ps) p = ap (λ (l : List (List ℕ)). entryFor earlier q ∷ l) (laid-append (q .series ∷ earlier) ps p)
+laid-append earlier (q ∷ ps) p =
+    ap (λ (l : List (List ℕ)). entryFor earlier q ∷ l) (laid-append (q .series ∷ earlier) ps p)
 
-pub times-back : (s : ℕ) (earlier : List ℕ) (ps : List Pub) → times s (seriesBack earlier ps) ≡ times s earlier + length (messagesOf s ps)
+pub times-back : (s : ℕ) (earlier : List ℕ) (ps : List Pub)
+    → times s (seriesBack earlier ps) ≡ times s earlier + length (messagesOf s ps)
 times-back s earlier [] = omega arith
 times-back s earlier (p ∷ ps) = times-back s (p .series ∷ earlier) ps ∙ go (eqb (p .series) s)
   where
     go : (b : Bool) → cond b (suc (times s earlier)) (times s earlier) + length (messagesOf s ps)
-        ≡ times s earlier + length (cond b (record { tid = p .tid; content = p .content } ∷ messagesOf s ps) (messagesOf s ps))
+        ≡ times s earlier + length
+        (cond b (record { tid = p .tid; content = p .content } ∷ messagesOf s ps) (messagesOf s ps))
     go true = omega arith
     go false = refl
 
@@ -102,17 +109,21 @@ pub sound-kept : (e f : Sender) (ps : List Pub) → ((s : ℕ) → isServed f s 
 sound-kept e f [] g h = tt
 sound-kept e f (p ∷ ps) g h = (g (p .series) ∙ h .0, h .1, sound-kept e f ps g (h .2))
 
-pub sound-append : (e : Sender) (ps : List Pub) (p : Pub) → Sound e ps → isServed e (p .series) ≡ true → shaped (p .content) mostContent ≡ true → Sound e (ps ++ (p ∷ []))
+pub sound-append : (e : Sender) (ps : List Pub) (p : Pub) → Sound e ps → isServed e (p .series) ≡ true
+    → shaped (p .content) mostContent ≡ true → Sound e (ps ++ (p ∷ []))
 sound-append e [] p h a b = (a, b, tt)
 sound-append e (q ∷ ps) p h a b = (h .0, h .1, sound-append e ps p (h .2) a b)
 
 -- The one at a place of its series is of the right shape,
-pub place-shaped : (e : Sender) (s : ℕ) (ps : List Pub) → Sound e ps → (i : ℕ) (x : Message) → getElem? (messagesOf s ps) i ≡ some x → shaped (x .content) mostContent ≡ true
+pub place-shaped : (e : Sender) (s : ℕ) (ps : List Pub) → Sound e ps → (i : ℕ) (x : Message)
+    → getElem? (messagesOf s ps) i ≡ some x → shaped (x .content) mostContent ≡ true
 place-shaped e s [] h i x q = absurd (none-some x q)
 place-shaped e s (p ∷ ps) h i x q = go (eqb (p .series) s) i (λ j. place-shaped e s ps (h .2) j x) q
   where
-    go : (b : Bool) (i : ℕ) → ((j : ℕ) → getElem? (messagesOf s ps) j ≡ some x → shaped (x .content) mostContent ≡ true) →
-        getElem? (cond b (record { tid = p .tid; content = p .content } ∷ messagesOf s ps) (messagesOf s ps)) i ≡ some x → shaped (x .content) mostContent ≡ true
+    go : (b : Bool) (i : ℕ) → ((j : ℕ) → getElem? (messagesOf s ps) j ≡ some x → shaped (x .content) mostContent ≡ true)
+        →
+        getElem? (cond b (record { tid = p .tid; content = p .content } ∷ messagesOf s ps) (messagesOf s ps)) i ≡ some x
+        → shaped (x .content) mostContent ≡ true
     go true zero ih q =
         let m : Message = record { tid = p .tid; content = p .content } in
         let same : m ≡ x = cc in
@@ -121,23 +132,28 @@ place-shaped e s (p ∷ ps) h i x q = go (eqb (p .series) s) i (λ j. place-shap
     go false i ih q = ih i q
 
 -- and is found by the walk, at the number behind its place.
-pub found-is : (s k : ℕ) (earlier : List ℕ) (ps : List Pub) (i : ℕ) (x : Message) → k ≡ suc (times s earlier + i) → getElem? (messagesOf s ps) i ≡ some x →
+pub found-is : (s k : ℕ) (earlier : List ℕ) (ps : List Pub) (i : ℕ) (x : Message) → k ≡ suc (times s earlier + i)
+    → getElem? (messagesOf s ps) i ≡ some x →
     found s k earlier ps ≡ some (entryBytes s (x .tid) k (x .content))
 found-is s k earlier [] i x n q = absurd (none-some x q)
 found-is s k earlier (p ∷ ps) i x n q = go (eqb (p .series) s) refl i n q λ j. found-is s k (p .series ∷ earlier) ps j x
   where
     go : (b : Bool) → eqb (p .series) s ≡ b → (i : ℕ) → k ≡ suc (times s earlier + i) →
-        getElem? (cond b (record { tid = p .tid; content = p .content } ∷ messagesOf s ps) (messagesOf s ps)) i ≡ some x →
-        ((j : ℕ) → k ≡ suc (cond b (suc (times s earlier)) (times s earlier) + j) → getElem? (messagesOf s ps) j ≡ some x →
+        getElem? (cond b (record { tid = p .tid; content = p .content } ∷ messagesOf s ps) (messagesOf s ps)) i ≡ some x
+        →
+        ((j : ℕ) → k ≡ suc (cond b (suc (times s earlier)) (times s earlier) + j)
+        → getElem? (messagesOf s ps) j ≡ some x →
         found s k (p .series ∷ earlier) ps ≡ some (entryBytes s (x .tid) k (x .content))) →
-        cond (b && eqb (suc (times (p .series) earlier)) k) (some (entryFor earlier p)) (found s k (p .series ∷ earlier) ps)
+        cond (b && eqb (suc (times (p .series) earlier)) k) (some (entryFor earlier p))
+        (found s k (p .series ∷ earlier) ps)
         ≡ some (entryBytes s (x .tid) k (x .content))
     go true a zero n q ih =
         let m : Message = record { tid = p .tid; content = p .content } in
         let same : m ≡ x = cc in
         let here : p .series ≡ s = eqb-true (p .series) s a in
         let number : suc (times (p .series) earlier) ≡ k = rw here (omega arith) in
-        let entry : entryBytes s (p .tid) k (p .content) ≡ entryBytes s (x .tid) k (x .content) = ap (λ (y : Message). entryBytes s (y .tid) k (y .content)) same in
+        let entry : entryBytes s (p .tid) k (p .content) ≡ entryBytes s (x .tid) k (x .content) =
+        ap (λ (y : Message). entryBytes s (y .tid) k (y .content)) same in
         rw (number, eq-eqb k k refl, here) (ap some entry)
     go true a (suc i) n q ih =
         let here : p .series ≡ s = eqb-true (p .series) s a in

@@ -19,13 +19,17 @@ use Rattle.flow.proofs.source.Published.{served-published}
 pub move-served : (v u : SenderSide) → Move v u → ServedSide v → ServedSide u
 move-served v u stays h = h
 move-served v u (opens date ss a b) h = served-opened (v .end) (v .log) (v .day) (v .published) h date ss a b
-move-served v u (publishes s tid content t) h = served-published (v .end) (v .log) (v .day) (v .published) h s tid content t
-move-served v u (logs-in s p content out x y c g t) h = served-after (v .end) (v .log) (v .day) (v .published) h s _ (t .served) (t .from-one) (t .behind)
+move-served v u (publishes s tid content t) h =
+    served-published (v .end) (v .log) (v .day) (v .published) h s tid content t
+move-served v u (logs-in s p content out x y c g t) h =
+    served-after (v .end) (v .log) (v .day) (v .published) h s _ (t .served) (t .from-one) (t .behind)
 move-served v u (sends s x a b c) h =
-    served-after (v .end) (v .log) (v .day) (v .published) h s (suc (placeOf (v .end) s .next)) (a .served) (omega arith) (omega arith)
+    served-after (v .end) (v .log) (v .day) (v .published) h s (suc (placeOf (v .end) s .next)) (a .served)
+    (omega arith) (omega arith)
 
 -- Days only rise.
-pub move-rises : (v u : SenderSide) → Move v u → ServedSide v → (d : ℕ) → upTo d (v .day) ≡ true → upTo d (u .day) ≡ true
+pub move-rises : (v u : SenderSide) → Move v u → ServedSide v → (d : ℕ) → upTo d (v .day) ≡ true
+    → upTo d (u .day) ≡ true
 move-rises v u stays h d q = q
 move-rises v u (opens date ss a b) h d q = upTo-rises d date (v .day) (rw (h .same-day) at b) q
 move-rises v u (publishes s tid content t) h d q = q
@@ -36,9 +40,11 @@ move-rises v u (sends s x a b c) h d q = q
 
 module _ (v : SenderSide) (h : ServedSide v) where
   -- On the open day an open series' count is how many were published.
-  pub published-count : (s d : ℕ) → v .day ≡ At d → isServed (v .end) s ≡ true → publishedOf (v .end) s ≡ length (of s d (v .published))
+  pub published-count : (s d : ℕ) → v .day ≡ At d → isServed (v .end) s ≡ true
+      → publishedOf (v .end) s ≡ length (of s d (v .published))
   published-count s d q o =
-      h .counted s o ∙ ap (λ (t : TradeDate). length (messagesOf s (onDate t (v .published)))) q ∙ ap length (sym (of-is s d (v .published)))
+      h .counted s o ∙ ap (λ (t : TradeDate). length (messagesOf s (onDate t (v .published)))) q
+      ∙ ap length (sym (of-is s d (v .published)))
 
   -- Nothing is published on a day above the present one; on no day more than may be.
   pub published-later : (s d : ℕ) → upTo d (v .day) ≡ false → of s d (v .published) ≡ []

@@ -1,5 +1,5 @@
--- What an event does to the serving side: nothing, or what one call does that was taken. Everything that holds of the serving side after
--- every list of events is proved over these moves. Assumes nothing.
+-- What an event does to the serving side: nothing, or what one call does that was taken. Everything that holds of the
+-- serving side after every list of events is proved over these moves. Assumes nothing.
 use Prim.Native.Nat.{ℕ, suc, _+_, _≤_}
 use mathlib.Core.Path.{_≡_}
 use mathlib.Core.List.{List, [], _∷_, _++_, append-nil}
@@ -23,9 +23,15 @@ use Rattle.flow.specs.declared.sender.Sent.{Sent}
 use Rattle.flow.specs.Ends.{Left, Wrote, wrongSeries, upTo, publishedOf, placeOf, withEntry, withNext}
 use Rattle.flow.specs.Log.{entryBytes, entryOf}
 use Rattle.flow.specs.Serving.{startOf, sendBytes, openDayOf, publishOf, loginOf, sendOf}
-use Rattle.flow.specs.World.{inSeries, dated, Event, openSender, publish, login, send, openReceiver, connect, requestLogin, confirmLogin, receive, SenderSide, afterOpen, afterPublish, afterLogin, packetsIn, afterSend, World, step, run}
+use Rattle.flow.specs.World.{inSeries, dated, Event, openSender, publish, login, send, openReceiver, connect}
+use Rattle.flow.specs.World.{requestLogin, confirmLogin, receive, SenderSide, afterOpen, afterPublish, afterLogin}
+use Rattle.flow.specs.World.{packetsIn, afterSend, World, step, run}
 use Rattle.flow.proofs.ends.SenderOpened.{openedSender}
-use Rattle.flow.proofs.calls.Serving.{OpenDone, open-refused, open-taken, open-cases, PublishTests, PublishDone, publish-refused, publish-taken, publish-cases, LoginTests, LoginDone, login-refused, login-taken, login-cases, Seated, SendDone, send-unknown, send-outside, send-drained, send-damaged, send-small, send-taken, send-cases}
+use Rattle.flow.proofs.calls.Serving.{OpenDone, open-refused, open-taken, open-cases, PublishTests, PublishDone}
+use Rattle.flow.proofs.calls.Serving.{publish-refused, publish-taken, publish-cases, LoginTests, LoginDone}
+use Rattle.flow.proofs.calls.Serving.{login-refused, login-taken, login-cases, Seated, SendDone, send-unknown}
+use Rattle.flow.proofs.calls.Serving.{send-outside, send-drained, send-damaged, send-small, send-taken}
+use Rattle.flow.proofs.calls.Serving.{send-cases}
 use Rattle.flow.proofs.common.Rows.{by-given}
 
 -- ─── What a call that was taken leaves ───
@@ -76,8 +82,10 @@ sentSide v s x = record {
 
 pub data Move (v : SenderSide) : SenderSide → Type 0 where
   stays : Move v v
-  opens : (date : ℕ) (ss : List ℕ) → wrongSeries ss ≡ false → upTo date (v .end .day .date) ≡ false → Move v (openedSide v date ss)
-  publishes : (s tid : ℕ) (content : List ℕ) → PublishTests (v .end) s tid content (v .log) → Move v (publishedSide v s tid content)
+  opens : (date : ℕ) (ss : List ℕ) → wrongSeries ss ≡ false → upTo date (v .end .day .date) ≡ false
+      → Move v (openedSide v date ss)
+  publishes : (s tid : ℕ) (content : List ℕ) → PublishTests (v .end) s tid content (v .log)
+      → Move v (publishedSide v s tid content)
   logs-in : (s : ℕ) (p content out : List ℕ) (h : Header) (x c : Span) → datedOf p .packet ≡ Accepted h x c →
       LoginTests (v .end) s h (datedOf p .date) (part p (c .start) (c .len)) content out →
       Move v (loginSide v s (startOf (v .end) (datedOf p .date) (resumeOf (part p (c .start) (c .len)))) content)
@@ -94,10 +102,13 @@ module _ (v : SenderSide) where
       go r (open-refused x) = stays
       go r (open-taken a b) = opens date ss a b
 
-  pub publish-move : (s tid : ℕ) (content : List ℕ) → Move v (afterPublish v s tid content (publishOf (v .end) s tid content (v .log)))
-  publish-move s tid content = go (publishOf (v .end) s tid content (v .log)) (publish-cases (v .end) s tid content (v .log))
+  pub publish-move : (s tid : ℕ) (content : List ℕ)
+      → Move v (afterPublish v s tid content (publishOf (v .end) s tid content (v .log)))
+  publish-move s tid content =
+      go (publishOf (v .end) s tid content (v .log)) (publish-cases (v .end) s tid content (v .log))
     where
-      go : (r : Wrote Sender Published) → PublishDone (v .end) s tid content (v .log) r → Move v (afterPublish v s tid content r)
+      go : (r : Wrote Sender Published) → PublishDone (v .end) s tid content (v .log) r
+          → Move v (afterPublish v s tid content r)
       go r (publish-refused x) = rw append-nil stays
       go r (publish-taken t) = publishes s tid content t
 
@@ -129,17 +140,21 @@ pub step-moves : (w : World) (e : Event) → Move (w .serving) (step w e .servin
 step-moves w (openSender date ss) = open-move (w .serving) date ss
 step-moves w (publish s tid content) = publish-move (w .serving) s tid content
 step-moves w (login s i content out) =
-    by-given (λ (u : World). Move (w .serving) (u .serving)) w (getElem? (w .receiving .requests) i) stays λ p q. login-move (w .serving) s p content out
+    by-given (λ (u : World). Move (w .serving) (u .serving)) w (getElem? (w .receiving .requests) i) stays λ p q.
+    login-move (w .serving) s p content out
 step-moves w (send s out) = send-move (w .serving) s out
 step-moves w (openReceiver ss) = stays
 step-moves w connect = stays
 step-moves w (requestLogin s content out) = stays
-step-moves w (confirmLogin i) = by-given (λ (u : World). Move (w .serving) (u .serving)) w (getElem? (w .serving .answers) i) stays λ a q. stays
+step-moves w (confirmLogin i) =
+    by-given (λ (u : World). Move (w .serving) (u .serving)) w (getElem? (w .serving .answers) i) stays λ a q. stays
 step-moves w (receive i j) =
     by-given (λ (u : World). Move (w .serving) (u .serving)) w (getElem? (w .serving .messages) i) stays λ m q.
     by-given (λ (u : World). Move (w .serving) (u .serving)) w (getElem? (m .what) j) stays λ p r. stays
 
 -- What every move keeps, every list of events keeps.
-pub run-keeps : (P : SenderSide → Type 0) → ((v u : SenderSide) → Move v u → P v → P u) → (w : World) (es : List Event) → P (w .serving) → P (run w es .serving)
+pub run-keeps : (P : SenderSide → Type 0) → ((v u : SenderSide) → Move v u → P v → P u) → (w : World) (es : List Event)
+    → P (w .serving) → P (run w es .serving)
 run-keeps P keep w [] h = h
-run-keeps P keep w (e ∷ es) h = run-keeps P keep (step w e) es (keep (w .serving) (step w e .serving) (step-moves w e) h)
+run-keeps P keep w (e ∷ es) h =
+    run-keeps P keep (step w e) es (keep (w .serving) (step w e .serving) (step-moves w e) h)

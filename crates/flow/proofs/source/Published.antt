@@ -1,4 +1,5 @@
--- A Publish that is taken keeps the serving end right: the log holds one entry more, the one that Send will find. Assumes nothing.
+-- A Publish that is taken keeps the serving end right: the log holds one entry more, the one that Send will find.
+-- Assumes nothing.
 use Prim.Native.Nat.{ℕ, suc, _+_, _≤_}
 use native.Mathlib.Omega.{arith}
 use mathlib.Core.Path.{_≡_, refl, ap, _∙_, sym}
@@ -15,21 +16,28 @@ use Rattle.ftd.specs.declared.tags.TradeDate.{TradeDate}
 use Rattle.ftd.specs.declared.tags.TradeDate.the-variants.{None}
 use Rattle.flow.specs.declared.sender.Place.{Place}
 use Rattle.flow.specs.declared.sender.Sender.{Sender}
-use Rattle.flow.specs.Ends.{mostMessages, member, isDay, upTo, daySeries, isServed, publishedOf, placeOf, withEntry}
+use Rattle.flow.specs.Ends.{mostMessages, member, isDay, upTo, daySeries, isServed, publishedOf, placeOf}
+use Rattle.flow.specs.Ends.{withEntry}
 use Rattle.flow.specs.Log.{entryBytes, times}
 use Rattle.flow.specs.Answers.{Message}
 use Rattle.flow.specs.World.{Dated, dated}
 use Rattle.flow.proofs.common.Days.{above-other, day-is}
 use Rattle.flow.proofs.source.Logs.{Pub, laid, Holds, entry-length}
-use Rattle.flow.proofs.source.Histories.{pubOf, onDay, onDate, messagesOf, day-append, messages-append, date-append, seriesBack, laid-append, times-back, sound-kept, sound-append}
-use Rattle.flow.proofs.ends.SenderLookups.{served-entry, published-entry, published-other, place-entry, eight-entry}
+use Rattle.flow.proofs.source.Histories.{pubOf, onDay, onDate, messagesOf, day-append, messages-append}
+use Rattle.flow.proofs.source.Histories.{date-append, seriesBack, laid-append, times-back, sound-kept}
+use Rattle.flow.proofs.source.Histories.{sound-append}
+use Rattle.flow.proofs.ends.SenderLookups.{served-entry, published-entry, published-other, place-entry}
+use Rattle.flow.proofs.ends.SenderLookups.{eight-entry}
 use Rattle.flow.proofs.calls.Serving.{PublishTests}
 use Rattle.flow.proofs.source.Served.{Placed, Served}
 use Rattle.flow.proofs.common.Bools.{not-both}
 
 -- One more in its own series, none in another.
-pub count-append : (u s : ℕ) (m : Message) (ps : List Pub) → length (messagesOf u (ps ++ (pubOf s m ∷ []))) ≡ length (messagesOf u ps) + cond (eqb s u) 1 0
-count-append u s m ps = ap length (messages-append u ps (pubOf s m ∷ [])) ∙ length-append (messagesOf u ps) (messagesOf u (pubOf s m ∷ [])) ∙ ap (λ (n : ℕ). length (messagesOf u ps) + n) (go (eqb s u))
+pub count-append : (u s : ℕ) (m : Message) (ps : List Pub)
+    → length (messagesOf u (ps ++ (pubOf s m ∷ []))) ≡ length (messagesOf u ps) + cond (eqb s u) 1 0
+count-append u s m ps =
+    ap length (messages-append u ps (pubOf s m ∷ [])) ∙ length-append (messagesOf u ps) (messagesOf u (pubOf s m ∷ []))
+    ∙ ap (λ (n : ℕ). length (messagesOf u ps) + n) (go (eqb s u))
   where
     go : (b : Bool) → length (cond b (m ∷ []) []) ≡ cond b 1 0
     go true = refl
@@ -59,12 +67,17 @@ module _
 
   -- ─── Counts ───
 
-  counted-entry : (u : ℕ) → isServed e u ≡ true → publishedOf (withEntry e s size) u ≡ length (messagesOf u (onDate day later))
-  counted-entry u q = go (eqb s u) refl ∙ sym (ap (λ (l : List Pub). length (messagesOf u l)) now ∙ count-append u s what (onDate day history))
+  counted-entry : (u : ℕ) → isServed e u ≡ true
+      → publishedOf (withEntry e s size) u ≡ length (messagesOf u (onDate day later))
+  counted-entry u q =
+      go (eqb s u) refl
+      ∙ sym (ap (λ (l : List Pub). length (messagesOf u l)) now ∙ count-append u s what (onDate day history))
     where
-      go : (b : Bool) → eqb s u ≡ b → publishedOf (withEntry e s size) u ≡ length (messagesOf u (onDate day history)) + cond (eqb s u) 1 0
+      go : (b : Bool) → eqb s u ≡ b → publishedOf (withEntry e s size) u ≡ length
+          (messagesOf u (onDate day history)) + cond (eqb s u) 1 0
       go true c =
-          rw c (rw (← eqb-true s u c) (published-entry e s (t .served) size ∙ ap (λ (n : ℕ). n + 1) (h .counted s (t .served))))
+          rw c (rw (← eqb-true s u c)
+          (published-entry e s (t .served) size ∙ ap (λ (n : ℕ). n + 1) (h .counted s (t .served))))
       go false c =
           let a = published-other e s (t .served) size u (λ p. eqb-false s u c (sym p)) in
           let b = h .counted u q in
@@ -73,7 +86,8 @@ module _
   few-entry : (u d : ℕ) → length (messagesOf u (onDay d later)) ≤ mostMessages
   few-entry u d = rw (day-append d history (dated s day what ∷ [])) (go (isDay d day) refl)
     where
-      go : (b : Bool) → isDay d day ≡ b → length (messagesOf u (onDay d history ++ cond b (pubOf s what ∷ []) [])) ≤ mostMessages
+      go : (b : Bool) → isDay d day ≡ b → length
+          (messagesOf u (onDay d history ++ cond b (pubOf s what ∷ []) [])) ≤ mostMessages
       go false c = rw append-nil (h .few u d)
       go true c =
           rw (count-append u s what (onDay d history)) (here (eqb s u) refl)
@@ -81,7 +95,8 @@ module _
           here : (b : Bool) → eqb s u ≡ b → length (messagesOf u (onDay d history)) + cond b 1 0 ≤ mostMessages
           here false p = let k = h .few u d in omega arith
           here true p =
-              let k : publishedOf e s ≡ length (messagesOf s (onDay d history)) = rw (day-is d day c) at (h .counted s (t .served)) in
+              let k : publishedOf e s ≡ length (messagesOf s (onDay d history)) =
+              rw (day-is d day c) at (h .counted s (t .served)) in
               let n = t .few in
               rw (← eqb-true s u p) (omega arith)
 
@@ -96,15 +111,19 @@ module _
   number-is : suc (times s (seriesBack [] (onDate day history))) ≡ publishedOf e s + 1
   number-is = let a = times-back s [] (onDate day history) in let b = h .counted s (t .served) in omega arith
 
-  laid-entry : take (e .day .used + size) (put log (e .day .used) bytes) ≡ joined (laid [] (onDate day history ++ (pubOf s what ∷ [])))
+  laid-entry : take (e .day .used + size) (put log (e .day .used) bytes) ≡ joined
+      (laid [] (onDate day history ++ (pubOf s what ∷ [])))
   unfolding put
   laid-entry =
       let ps = onDate day history in
       let long : length (take (e .day .used) log ++ bytes) ≡ e .day .used + size =
-      length-append (take (e .day .used) log) bytes ∙ ap (λ (n : ℕ). n + length bytes) (length-take-le (e .day .used) log (t .inside)) ∙ ap (λ (n : ℕ). e .day .used + n) bytes-long in
+      length-append (take (e .day .used) log) bytes
+      ∙ ap (λ (n : ℕ). n + length bytes) (length-take-le (e .day .used) log (t .inside))
+      ∙ ap (λ (n : ℕ). e .day .used + n) bytes-long in
       take-at (take (e .day .used) log ++ bytes) (drop (e .day .used + length bytes) log) (e .day .used + size) long
       ∙ ap (λ (l : List ℕ). l ++ bytes) (h .holds .laid-out)
-      ∙ ap (λ (l : List ℕ). joined (laid [] ps) ++ l) (sym (append-nil bytes) ∙ ap (λ (n : ℕ). entryBytes s tid n content ++ []) (sym number-is))
+      ∙ ap (λ (l : List ℕ). joined (laid [] ps) ++ l)
+      (sym (append-nil bytes) ∙ ap (λ (n : ℕ). entryBytes s tid n content ++ []) (sym number-is))
       ∙ sym (ap joined (laid-append [] ps (pubOf s what)) ∙ joined-append (laid [] ps) _)
 
   used-entry : withEntry e s size .day .used ≡ e .day .used + size
@@ -119,7 +138,8 @@ module _
         laid-out = rw used-entry laid-entry;
         sound =
             sound-append (withEntry e s size) (onDate day history) (pubOf s what)
-            (sound-kept e (withEntry e s size) (onDate day history) (served-entry e s (t .served) size) (h .holds .sound))
+            (sound-kept e (withEntry e s size) (onDate day history) (served-entry e s (t .served) size)
+            (h .holds .sound))
             (served-entry e s (t .served) size s ∙ t .served) (t .run);
       }
 
@@ -136,7 +156,8 @@ module _
   unfolding withEntry
   date-entry = refl
 
-  placed-entry : (u : ℕ) → isServed e u ≡ true → placeOf (withEntry e s size) u .login ≡ true → Placed (withEntry e s size) u
+  placed-entry : (u : ℕ) → isServed e u ≡ true → placeOf (withEntry e s size) u .login ≡ true
+      → Placed (withEntry e s size) u
   placed-entry u q l =
       let o = place-entry e s (t .served) size u in
       let p = h .placed u q (ap (λ (x : Place). x .login) (sym o) ∙ l) in

@@ -1,5 +1,5 @@
--- What Send answers where the serving side is right: the log is never damaged, none is left exactly if all published ones were stepped
--- over, and a message written is the next one. Assumes nothing.
+-- What Send answers where the serving side is right: the log is never damaged, none is left exactly if all published
+-- ones were stepped over, and a message written is the next one. Assumes nothing.
 use Prim.Native.Nat.{ℕ, suc, _<_}
 use native.Mathlib.Omega.{arith}
 use mathlib.Core.Path.{_≡_, refl, ap, _∙_, sym}
@@ -19,7 +19,8 @@ use Rattle.flow.specs.Serving.{sendOf}
 use Rattle.flow.specs.World.{SenderSide}
 use Rattle.flow.specs.Agreement.{of}
 use Rattle.flow.proofs.ends.SenderLookups.{place-next}
-use Rattle.flow.proofs.calls.Serving.{Seated, SendDone, send-unknown, send-outside, send-drained, send-damaged, send-small, send-taken, send-cases}
+use Rattle.flow.proofs.calls.Serving.{Seated, SendDone, send-unknown, send-outside, send-drained, send-damaged}
+use Rattle.flow.proofs.calls.Serving.{send-small, send-taken, send-cases}
 use Rattle.flow.proofs.source.Served.{ServedSide}
 use Rattle.flow.proofs.source.Kept.{published-count}
 use Rattle.flow.proofs.source.Entries.{next-entry}
@@ -50,7 +51,8 @@ module _ (v : SenderSide) (h : ServedSide v) (s : ℕ) (out : List ℕ) where
 
   -- ─── None left ───
 
-  drained-then : (r : Wrote Sender Sent) → SendDone end s log out r → r .answer ≡ Drained → Seated end s × (publishedOf end s < placeOf end s .next)
+  drained-then : (r : Wrote Sender Sent) → SendDone end s log out r → r .answer ≡ Drained
+      → Seated end s × (publishedOf end s < placeOf end s .next)
   drained-then r (send-unknown a) q = absurd (let z : _≡_ {A = ℕ} 0 1 = cc in omega arith)
   drained-then r (send-outside a b) q = absurd (let z : _≡_ {A = ℕ} 0 1 = cc in omega arith)
   drained-then r (send-drained a b) q = (a, b)
@@ -58,7 +60,8 @@ module _ (v : SenderSide) (h : ServedSide v) (s : ℕ) (out : List ℕ) where
   drained-then r (send-small x a b c d) q = absurd (let z : _≡_ {A = ℕ} 0 1 = cc in omega arith)
   drained-then r (send-taken x a b c d) q = absurd (let z : _≡_ {A = ℕ} 0 1 = cc in omega arith)
 
-  drained-if : (r : Wrote Sender Sent) → SendDone end s log out r → Seated end s → publishedOf end s < placeOf end s .next → r .answer ≡ Drained
+  drained-if : (r : Wrote Sender Sent) → SendDone end s log out r → Seated end s
+      → publishedOf end s < placeOf end s .next → r .answer ≡ Drained
   drained-if r (send-unknown a) g q = absurd (not-both (isServed end s) (g .served) a)
   drained-if r (send-outside a b) g q = absurd (not-both (placeOf end s .login) (g .login) b)
   drained-if r (send-drained a b) g q = refl
@@ -70,13 +73,17 @@ module _ (v : SenderSide) (h : ServedSide v) (s : ℕ) (out : List ℕ) where
       (sendOf end s log out .answer ≡ Drained) ↔ (Seated end s × (length (of s d (v .published)) < placeOf end s .next))
   drained-exactly d q = (there, back)
     where
-      there : sendOf end s log out .answer ≡ Drained → Seated end s × (length (of s d (v .published)) < placeOf end s .next)
+      there : sendOf end s log out .answer ≡ Drained
+          → Seated end s × (length (of s d (v .published)) < placeOf end s .next)
       there p =
           let g = drained-then (sendOf end s log out) (send-cases end s log out) p in
           (g .0, rw (← published-count v h s d q (g .0 .served)) (g .1))
 
-      back : Seated end s × (length (of s d (v .published)) < placeOf end s .next) → sendOf end s log out .answer ≡ Drained
-      back g = drained-if (sendOf end s log out) (send-cases end s log out) (g .0) (rw (published-count v h s d q (g .0 .served)) (g .1))
+      back : Seated end s × (length (of s d (v .published)) < placeOf end s .next)
+          → sendOf end s log out .answer ≡ Drained
+      back g =
+          drained-if (sendOf end s log out) (send-cases end s log out) (g .0)
+          (rw (published-count v h s d q (g .0 .served)) (g .1))
 
   -- ─── Written ───
 
@@ -88,8 +95,11 @@ module _ (v : SenderSide) (h : ServedSide v) (s : ℕ) (out : List ℕ) where
   sent-then r (send-damaged a b c) k n q = absurd (let z : _≡_ {A = ℕ} 0 1 = cc in omega arith)
   sent-then r (send-small x a b c d) k n q = absurd (let z : _≡_ {A = ℕ} 0 1 = cc in omega arith)
   sent-then r (send-taken x a b c d) k n q =
-      let same : placeOf end s .next ≡ k = cc in
-      (same, place-next end s (a .served) (h .eight) (suc (placeOf end s .next)) ∙ ap (λ (j : ℕ). record { login = true; next = suc j }) same)
+      let same : placeOf end s .next ≡ k = cc in (
+        same,
+        place-next end s (a .served) (h .eight) (suc (placeOf end s .next))
+            ∙ ap (λ (j : ℕ). record { login = true; next = suc j }) same,
+      )
 
   -- The number written was next, and next is one more.
   pub sent-next : (k n : ℕ) → sendOf end s log out .answer ≡ Message-sent k n →

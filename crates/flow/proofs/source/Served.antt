@@ -11,14 +11,17 @@ use Rattle.ftd.specs.declared.tags.TradeDate.{TradeDate}
 use Rattle.ftd.specs.declared.tags.TradeDate.the-variants.{None, At}
 use Rattle.flow.specs.declared.sender.Place.{Place}
 use Rattle.flow.specs.declared.sender.Sender.{Sender}
-use Rattle.flow.specs.Ends.{mostMessages, wrongSeries, upTo, freshSender, daySeries, isServed, publishedOf, placeOf, withNext}
+use Rattle.flow.specs.Ends.{mostMessages, wrongSeries, upTo, freshSender, daySeries, isServed, publishedOf}
+use Rattle.flow.specs.Ends.{placeOf, withNext}
 use Rattle.flow.specs.Answers.{Message}
 use Rattle.flow.specs.World.{Dated, SenderSide}
 use Rattle.flow.proofs.common.Days.{above-along}
 use Rattle.flow.proofs.source.Logs.{Pub, Holds}
 use Rattle.flow.proofs.source.Histories.{onDay, onDate, messagesOf, sound-kept}
-use Rattle.flow.proofs.ends.SenderLookups.{Eight, series-next, served-next, published-next, place-next, place-other, eight-next}
-use Rattle.flow.proofs.ends.SenderOpened.{openedSender, fresh-eight, opened-eight, opened-published, opened-place}
+use Rattle.flow.proofs.ends.SenderLookups.{Eight, series-next, served-next, published-next, place-next}
+use Rattle.flow.proofs.ends.SenderLookups.{place-other, eight-next}
+use Rattle.flow.proofs.ends.SenderOpened.{openedSender, fresh-eight, opened-eight, opened-published}
+use Rattle.flow.proofs.ends.SenderOpened.{opened-place}
 use Rattle.flow.proofs.common.Bools.{not-both}
 
 -- Next is 1 at least, and at most the number behind the last one published.
@@ -58,65 +61,71 @@ served-fresh log = record {
   placed = λ s h. absurd (not-both false h refl);
 }
 
-module _ (e : Sender) (log : List ℕ) (day : TradeDate) (history : List (Dated Message)) (h : Served e log day history) where
-  -- ─── Opened ───
+module _ (e : Sender) (log : List ℕ) (day : TradeDate) (history : List (Dated Message)) (h : Served e log day history)
+  where
+    -- ─── Opened ───
 
-  pub served-opened : (date : ℕ) (ss : List ℕ) → wrongSeries ss ≡ false → upTo date (e .day .date) ≡ false →
-      Served (openedSender date ss) log (At date) history
-  served-opened date ss a b =
-      let above : upTo date day ≡ false = rw (h .same-day) at b in
-      let empty : onDay date history ≡ [] = h .not-later date above in
-      record {
-        eight = opened-eight date ss a;
-        same-day = refl;
-        unopened = λ q. absurd (none-at q);
-        counted = λ s q. opened-published date ss s ∙ ap (λ (l : List Pub). length (messagesOf s l)) (sym empty);
-        not-later = λ d q. h .not-later d (above-along d date day above q);
-        few = h .few;
-        holds = rw empty record { inside = omega arith; laid-out = refl; sound = tt };
-        placed = λ s q l. absurd (outside s l);
-      }
-    where
-      none-at : At date ≡ None → ⊥
-      none-at q = let z : _≡_ {A = ℕ} 0 1 = cc in omega arith
-
-      outside : (s : ℕ) → placeOf (openedSender date ss) s .login ≡ true → ⊥
-      outside s l = not-both (placeOf (openedSender date ss) s .login) l (ap (λ (p : Place). p .login) (opened-place date ss s))
-
-  -- ─── The number that is sent next ───
-
-  module _ (s next : ℕ) (open-here : isServed e s ≡ true) (low : 1 ≤ next) (high : next ≤ publishedOf e s + 1) where
-    holds-next : Holds (withNext e s next) log (onDate day history)
-    unfolding withNext
-    holds-next = record {
-      inside = h .holds .inside;
-      laid-out = h .holds .laid-out;
-      sound = sound-kept e (withNext e s next) (onDate day history) (served-next e s open-here next) (h .holds .sound);
-    }
-
-    date-next : withNext e s next .day .date ≡ e .day .date
-    unfolding withNext
-    date-next = refl
-
-    placed-next : (u : ℕ) → isServed e u ≡ true → placeOf (withNext e s next) u .login ≡ true → Placed (withNext e s next) u
-    placed-next u q l = go (eqb u s) refl
+    pub served-opened : (date : ℕ) (ss : List ℕ) → wrongSeries ss ≡ false → upTo date (e .day .date) ≡ false →
+        Served (openedSender date ss) log (At date) history
+    served-opened date ss a b =
+        let above : upTo date day ≡ false = rw (h .same-day) at b in
+        let empty : onDay date history ≡ [] = h .not-later date above in
+        record {
+          eight = opened-eight date ss a;
+          same-day = refl;
+          unopened = λ q. absurd (none-at q);
+          counted = λ s q. opened-published date ss s ∙ ap (λ (l : List Pub). length (messagesOf s l)) (sym empty);
+          not-later = λ d q. h .not-later d (above-along d date day above q);
+          few = h .few;
+          holds = rw empty record { inside = omega arith; laid-out = refl; sound = tt };
+          placed = λ s q l. absurd (outside s l);
+        }
       where
-        go : (b : Bool) → eqb u s ≡ b → Placed (withNext e s next) u
-        go true c =
-            rw (eqb-true u s c) (rw (place-next e s open-here (h .eight) next, published-next e s open-here next s) (low, high))
-        go false c =
-            let o = place-other e s open-here next u (eqb-false u s c) in
-            let m : placeOf e u .login ≡ true = ap (λ (p : Place). p .login) (sym o) ∙ l in
-            rw (o, published-next e s open-here next u) (h .placed u q m)
+        none-at : At date ≡ None → ⊥
+        none-at q = let z : _≡_ {A = ℕ} 0 1 = cc in omega arith
 
-    pub served-after : Served (withNext e s next) log day history
-    served-after = record {
-      eight = eight-next e s open-here (h .eight) next;
-      same-day = date-next ∙ h .same-day;
-      unopened = λ q. (series-next e s open-here next ∙ h .unopened q .0, h .unopened q .1);
-      counted = λ u q. published-next e s open-here next u ∙ h .counted u (sym (served-next e s open-here next u) ∙ q);
-      not-later = h .not-later;
-      few = h .few;
-      holds = holds-next;
-      placed = λ u q. placed-next u (sym (served-next e s open-here next u) ∙ q);
-    }
+        outside : (s : ℕ) → placeOf (openedSender date ss) s .login ≡ true → ⊥
+        outside s l =
+            not-both (placeOf (openedSender date ss) s .login) l (ap (λ (p : Place). p .login) (opened-place date ss s))
+
+    -- ─── The number that is sent next ───
+
+    module _ (s next : ℕ) (open-here : isServed e s ≡ true) (low : 1 ≤ next) (high : next ≤ publishedOf e s + 1) where
+      holds-next : Holds (withNext e s next) log (onDate day history)
+      unfolding withNext
+      holds-next = record {
+        inside = h .holds .inside;
+        laid-out = h .holds .laid-out;
+        sound =
+            sound-kept e (withNext e s next) (onDate day history) (served-next e s open-here next) (h .holds .sound);
+      }
+
+      date-next : withNext e s next .day .date ≡ e .day .date
+      unfolding withNext
+      date-next = refl
+
+      placed-next : (u : ℕ) → isServed e u ≡ true → placeOf (withNext e s next) u .login ≡ true
+          → Placed (withNext e s next) u
+      placed-next u q l = go (eqb u s) refl
+        where
+          go : (b : Bool) → eqb u s ≡ b → Placed (withNext e s next) u
+          go true c =
+              rw (eqb-true u s c)
+              (rw (place-next e s open-here (h .eight) next, published-next e s open-here next s) (low, high))
+          go false c =
+              let o = place-other e s open-here next u (eqb-false u s c) in
+              let m : placeOf e u .login ≡ true = ap (λ (p : Place). p .login) (sym o) ∙ l in
+              rw (o, published-next e s open-here next u) (h .placed u q m)
+
+      pub served-after : Served (withNext e s next) log day history
+      served-after = record {
+        eight = eight-next e s open-here (h .eight) next;
+        same-day = date-next ∙ h .same-day;
+        unopened = λ q. (series-next e s open-here next ∙ h .unopened q .0, h .unopened q .1);
+        counted =
+            λ u q. published-next e s open-here next u ∙ h .counted u (sym (served-next e s open-here next u) ∙ q);
+        not-later = h .not-later;
+        few = h .few;
+        holds = holds-next;
+        placed = λ u q. placed-next u (sym (served-next e s open-here next u) ∙ q);
+      }

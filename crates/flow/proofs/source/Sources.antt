@@ -1,5 +1,5 @@
--- The source: a serving end that is right, with all that it put on the line genuine. Every call keeps it so, of any packet and any bytes.
--- Assumes nothing.
+-- The source: a serving end that is right, with all that it put on the line genuine. Every call keeps it so, of any
+-- packet and any bytes. Assumes nothing.
 use mathlib.Core.List.{List, []}
 use Prim.Native.Nat.{ℕ}
 use Rattle.ftd.specs.declared.tags.TradeDate.the-variants.{None}
@@ -28,10 +28,17 @@ move-source v u m z =
 
 -- A fresh end, with a log of any length and content.
 abbrev pub freshSide : List ℕ → SenderSide
-freshSide log = record { end = freshSender; log = log; day = None; openings = 0; published = []; answers = []; messages = [] }
+freshSide log =
+    record { end = freshSender; log = log; day = None; openings = 0; published = []; answers = []; messages = [] }
 
 pub fresh-source : (log : List ℕ) → Source (freshSide log)
-fresh-source log = record { served = served-fresh log; genuine = λ i m q. absurd (none-some m q); answers = λ i m q. absurd (none-some m q) }
+fresh-source log =
+    record {
+      served = served-fresh log;
+      genuine = λ i m q. absurd (none-some m q);
+      answers = λ i m q. absurd
+          (none-some m q);
+    }
 
 -- ─── Over the world ───
 

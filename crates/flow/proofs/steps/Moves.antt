@@ -23,7 +23,8 @@ pub record Moves (e after : Receiver) (s : ℕ) (d : TradeDate) (n : ℕ) : Type
 pub moves-not : (e : Receiver) (s : ℕ) → Moves e e s (dayOf e s) (lastOf e s)
 moves-not e s = record { date = refl; last = refl; other = λ t n. (refl, refl) }
 
-pub moves-with : (e : Receiver) → Eight e → (s : ℕ) → isOpen e s ≡ true → (date : TradeDate) (last : ℕ) (live : LiveSeries) → Moves e (withSeries e s date last live) s date last
+pub moves-with : (e : Receiver) → Eight e → (s : ℕ) → isOpen e s ≡ true
+    → (date : TradeDate) (last : ℕ) (live : LiveSeries) → Moves e (withSeries e s date last live) s date last
 moves-with e eight s o date last live =
     let x = open-stays e eight s o date last live in
     let k = kept-same e eight s o date last live in

@@ -42,7 +42,8 @@ again16 a b h k =
     let q : (a * 256 + b) % 256 ≡ b = omega arith in
     rw (p, q)
 
-again32 : (a b c d : ℕ) → a < 256 → b < 256 → c < 256 → d < 256 → bytes32 (a * 16777216 + b * 65536 + c * 256 + d) ≡ a ∷ b ∷ c ∷ d ∷ []
+again32 : (a b c d : ℕ) → a < 256 → b < 256 → c < 256 → d < 256
+    → bytes32 (a * 16777216 + b * 65536 + c * 256 + d) ≡ a ∷ b ∷ c ∷ d ∷ []
 again32 a b c d h k m n =
     let x : ℕ = a * 16777216 + b * 65536 + c * 256 + d in
     let p : x / 16777216 ≡ a = omega arith in
@@ -60,7 +61,8 @@ pub one-byte : (l : List ℕ) (n : ℕ) → n < length l → take 1 (drop n l) �
 one-byte l n h = next l n (n + 1) 0 refl h
 
 two-listed : (l : List ℕ) (n : ℕ) → n + 2 ≤ length l → take 2 (drop n l) ≡ getD l n 0 ∷ getD l (n + 1) 0 ∷ []
-two-listed l n h = next l n (n + 1) 1 refl (omega arith) ∙ ap (λ (r : List ℕ). getD l n 0 ∷ r) (one-byte l (n + 1) (omega arith))
+two-listed l n h =
+    next l n (n + 1) 1 refl (omega arith) ∙ ap (λ (r : List ℕ). getD l n 0 ∷ r) (one-byte l (n + 1) (omega arith))
 
 four-listed : (l : List ℕ) (n : ℕ) → n + 4 ≤ length l
     → take 4 (drop n l) ≡ getD l n 0 ∷ getD l (n + 1) 0 ∷ getD l (n + 2) 0 ∷ getD l (n + 3) 0 ∷ []
@@ -81,4 +83,5 @@ module _ (l : List ℕ) (bytes : Bytes l) (n : ℕ) where
   unfolding be32Of
   four-bytes h =
       four-listed l n h
-      ∙ sym (again32 (getD l n 0) (getD l (n + 1) 0) (getD l (n + 2) 0) (getD l (n + 3) 0) (bytes n) (bytes (n + 1)) (bytes (n + 2)) (bytes (n + 3)))
+      ∙ sym (again32 (getD l n 0) (getD l (n + 1) 0) (getD l (n + 2) 0) (getD l (n + 3) 0) (bytes n) (bytes (n + 1))
+      (bytes (n + 2)) (bytes (n + 3)))

@@ -28,10 +28,13 @@ begun-none l at =
     rw z
 
 -- The field at the place is small, and what is behind it is shapely.
-small-here : (l : List ℕ) (end n : ℕ) (e : n ≡ front field (drop end l)) → (n ≡ 0 → ⊥) → shapely (runOf field (drop end l)) ≡ true → n ≤ 4080
+small-here : (l : List ℕ) (end n : ℕ) (e : n ≡ front field (drop end l)) → (n ≡ 0 → ⊥)
+    → shapely (runOf field (drop end l)) ≡ true → n ≤ 4080
 small-here l end n e z s = go (leb n 4080) refl (sym (shapely-next l end n e z) ∙ s)
   where
-    go : (b : Bool) → leb n 4080 ≡ b → (ended (runOf field (drop (end + n) l)) && (b && allSmall (runOf field (drop (end + n) l) .entries))) ≡ true → n ≤ 4080
+    go : (b : Bool) → leb n 4080 ≡ b
+        → (ended (runOf field (drop (end + n) l)) && (b && allSmall (runOf field (drop (end + n) l) .entries))) ≡ true
+        → n ≤ 4080
     go true p q = leb-true n 4080 p
     go false p q = absurd (no (ended (runOf field (drop (end + n) l))) q)
       where
@@ -39,8 +42,10 @@ small-here l end n e z s = go (leb n 4080) refl (sym (shapely-next l end n e z) 
         no true x = let y : _≡_ {A = ℕ} 0 1 = cc in omega arith
         no false x = let y : _≡_ {A = ℕ} 0 1 = cc in omega arith
 
-module _ (l : List ℕ) (at end count n : ℕ) (e : n ≡ front field (drop end l)) (low : at ≤ end) (high : end ≤ length l) (few : count ≤ end - at) (room : end ≤ at + 4080)
-    (s : shapely (runOf field (drop end l)) ≡ shapely (runOf field (drop at l))) (inv : pack (begun l at end count) (fieldsOf (drop end l)) ≡ piecesOf (drop at l)) where
+module _ (l : List ℕ) (at end count n : ℕ) (e : n ≡ front field (drop end l)) (low : at ≤ end) (high : end ≤ length l)
+    (few : count ≤ end - at) (room : end ≤ at + 4080)
+    (s : shapely (runOf field (drop end l)) ≡ shapely (runOf field (drop at l)))
+    (inv : pack (begun l at end count) (fieldsOf (drop end l)) ≡ piecesOf (drop at l)) where
   fits : n ≤ length l - end
   fits = entry-inside field some-field l end n e
 
@@ -51,7 +56,9 @@ module _ (l : List ℕ) (at end count n : ℕ) (e : n ≡ front field (drop end 
   longer =
       let a : at + (end - at) ≡ end = omega arith in
       let b : end + n - at ≡ end - at + n = omega arith in
-      rw b (sym (take-add (end - at) n (drop at l) ∙ ap (λ (r : List ℕ). part l at (end - at) ++ take n r) (drop-drop (end - at) at l ∙ ap (λ (k : ℕ). drop k l) a)))
+      rw b (sym
+      (take-add (end - at) n (drop at l) ∙ ap (λ (r : List ℕ). part l at (end - at) ++ take n r)
+      (drop-drop (end - at) at l ∙ ap (λ (k : ℕ). drop k l) a)))
 
   fields-next : (n ≡ 0 → ⊥) → fieldsOf (drop end l) ≡ take n (drop end l) ∷ fieldsOf (drop (end + n) l)
   fields-next z = ap (λ (r : Run). r .entries) (run-next field some-field l end n e z)
@@ -75,7 +82,14 @@ module _ (l : List ℕ) (at end count n : ℕ) (e : n ≡ front field (drop end 
         pieces =
             λ w.
             let k : n ≤ 4080 = small-here l end n e z (s ∙ w) in
-            sym inv ∙ rw (fields-next z, begun-length, entry-length field some-field l end n e, lt-leb (end - at + n) 4080 (omega arith), le-leb (0 + n) 4080 (omega arith));
+            sym inv ∙ rw (
+              fields-next z,
+              begun-length,
+              entry-length field some-field l end n e,
+              lt-leb (end - at + n) 4080
+                  (omega arith),
+              le-leb (0 + n) 4080 (omega arith),
+            );
         low = low;
         high = high;
         small = room;
@@ -84,10 +98,18 @@ module _ (l : List ℕ) (at end count n : ℕ) (e : n ≡ front field (drop end 
         stuck = λ same w. sym (shape-long l end n e _ s z (omega arith));
       }
 
-  pub cut-turn : (n ≡ 0 → ⊥) → end + n - at ≤ 4080 → pack (begun l at (end + n) (count + 1)) (fieldsOf (drop (end + n) l)) ≡ piecesOf (drop at l)
+  pub cut-turn : (n ≡ 0 → ⊥) → end + n - at ≤ 4080
+      → pack (begun l at (end + n) (count + 1)) (fieldsOf (drop (end + n) l)) ≡ piecesOf (drop at l)
   cut-turn z h =
       rw (← longer)
-      (rw (fields-next z, begun-length, entry-length field some-field l end n e, le-leb (end - at + n) 4080 (omega arith)) at inv)
+      (rw (
+        fields-next z,
+        begun-length,
+        entry-length field some-field l end n e,
+        le-leb (end - at + n) 4080
+            (omega arith),
+      ) at inv)
 
-  pub cut-left : (n ≡ 0 → ⊥) → end + n - at ≤ 4080 → shapely (runOf field (drop (end + n) l)) ≡ shapely (runOf field (drop at l))
+  pub cut-left : (n ≡ 0 → ⊥) → end + n - at ≤ 4080
+      → shapely (runOf field (drop (end + n) l)) ≡ shapely (runOf field (drop at l))
   cut-left z h = shape-turn l end n e _ s z (omega arith)

@@ -10,11 +10,13 @@ use lib.Seq.{getD-take}
 use lib.Dec.{leb, eqb, eqb·suc-suc, eqb·suc-zero, eqb·zero-suc}
 use Rattle.ftd.specs.Bytes.{be16Of, be32Of, part, joined}
 use Rattle.ftd.specs.Runs.{front, runOf, ended}
-use Rattle.ftd.specs.Tags.{tag, lengthRight, knownTags, countDate, goodTags, tagPlace, tradeDateOf, Tag, tagBytes, tagsFor, extensionBytes}
+use Rattle.ftd.specs.Tags.{tag, lengthRight, knownTags, countDate, goodTags, tagPlace, tradeDateOf, Tag, tagBytes}
+use Rattle.ftd.specs.Tags.{tagsFor, extensionBytes}
 use Rattle.ftd.specs.Fields.{field, fieldsOf, exactRun, allSmall, shaped}
 use Rattle.ftd.specs.Packet.{notOnePacket, noMessagePacket, span, readOf, datedOf}
 use Rattle.ftd.specs.Write.{packetBytes, messageBytes, fine, messageVerdict}
-use Rattle.ftd.specs.Chain.{Piece, noFields, withField, pack, piecesOf, chainAt, headerFor, packetFor, isNil, framed, packetsOf}
+use Rattle.ftd.specs.Chain.{Piece, noFields, withField, pack, piecesOf, chainAt, headerFor, packetFor, isNil}
+use Rattle.ftd.specs.Chain.{framed, packetsOf}
 use Rattle.ftd.specs.Chain.Laws.{packetForm, pieceAtPlace, packetAtPlace, letterAt, ChainLaws}
 use Rattle.ftd.specs.declared.tags.TradeDate.{TradeDate}
 use Rattle.ftd.specs.declared.tags.TradeDate.the-variants.{None, At}
@@ -36,7 +38,8 @@ use Rattle.ftd.proofs.chain.Singles.{exact-shaped, one-piece}
 
 -- ─── The trade date ───
 
-pub date-good : (d : TradeDate) → (goodTags (extensionBytes (tagsFor d)) ≡ true) × (length (extensionBytes (tagsFor d)) ≤ 6)
+pub date-good : (d : TradeDate) → (goodTags (extensionBytes (tagsFor d)) ≡ true)
+    × (length (extensionBytes (tagsFor d)) ≤ 6)
 unfolding goodTags runOf tag front lengthRight knownTags countDate
 date-good None = (refl, omega arith)
 date-good (At d) = (refl, omega arith)
@@ -52,7 +55,13 @@ field-local : Local field
 unfolding field be16Of
 field-local l r n h k =
     let long : length (take n l) ≡ n = rw length-take (omega arith) in
-    rw (byte-append (take n l) r 4 (omega arith), byte-append (take n l) r 5 (omega arith), getD-take {A = ℕ} n l 4 0 (omega arith), getD-take {A = ℕ} n l 5 0 (omega arith))
+    rw (
+      byte-append (take n l) r 4 (omega arith),
+      byte-append (take n l) r 5 (omega arith),
+      getD-take {A = ℕ} n l 4 0
+          (omega arith),
+      getD-take {A = ℕ} n l 5 0 (omega arith),
+    )
 
 pub fields-entries : (content : List ℕ) → Entries field (fieldsOf content)
 fields-entries content = run-entries field some-field field-local content
@@ -90,7 +99,8 @@ pub record Made (p : Piece) (gs : List (List ℕ)) : Type 0 where
 good-made : (p : Piece) (gs : List (List ℕ)) → Made p gs → Good p
 good-made p gs m = (m .small, rw (m .bytes, m .count) (exact-entries gs (m .each)))
 
-with-made : (p : Piece) (gs : List (List ℕ)) (f : List ℕ) → Made p gs → Entry field f → length (p .bytes) + length f ≤ 4080 → Made (withField p f) (gs ++ (f ∷ []))
+with-made : (p : Piece) (gs : List (List ℕ)) (f : List ℕ) → Made p gs → Entry field f
+    → length (p .bytes) + length f ≤ 4080 → Made (withField p f) (gs ++ (f ∷ []))
 with-made p gs f m e h =
     record {
       bytes = rw (m .bytes, joined-append gs (f ∷ []), append-nil f);
@@ -109,13 +119,19 @@ small-parts f fs = go (leb (length f) 4080) refl
     go true e t = (leb-true (length f) 4080 e, t)
     go false e t = let y : _≡_ {A = ℕ} 0 1 = cc in absurd (omega arith)
 
-pack-good : (p : Piece) (gs fs : List (List ℕ)) → Made p gs → Entries field fs → allSmall fs ≡ true → AllGood (pack p fs)
+pack-good : (p : Piece) (gs fs : List (List ℕ)) → Made p gs → Entries field fs → allSmall fs ≡ true
+    → AllGood (pack p fs)
 pack-good p gs [] m a s = (good-made p gs m, tt)
 pack-good p gs (f ∷ fs) m a s =
     let k = small-parts f fs s in
     by-test AllGood (leb (length (p .bytes) + length f) 4080)
-    (λ b. pack-good (withField p f) (gs ++ (f ∷ [])) fs (with-made p gs f m (a .0) (leb-true (length (p .bytes) + length f) 4080 b)) (a .1) (k .1))
-    (λ b. (good-made p gs m, pack-good (withField noFields f) (f ∷ []) fs (with-made noFields [] f none-made (a .0) (omega (arith, k .0))) (a .1) (k .1)))
+    (λ b. pack-good (withField p f) (gs ++ (f ∷ [])) fs
+    (with-made p gs f m (a .0) (leb-true (length (p .bytes) + length f) 4080 b)) (a .1) (k .1))
+    (λ b. (
+      good-made p gs m,
+      pack-good (withField noFields f) (f ∷ []) fs
+          (with-made noFields [] f none-made (a .0) (omega (arith, k .0))) (a .1) (k .1),
+    ))
 
 and-both : (a b : Bool) → (a && b) ≡ true → (a ≡ true) × (b ≡ true)
 and-both true b e = (refl, e)
@@ -134,40 +150,56 @@ good-at [] i a h = absurd (omega arith)
 good-at (p ∷ ps) zero a h = a .0
 good-at (p ∷ ps) (suc i) a h = good-at ps i (a .1) (omega arith)
 
-pack-joined : (p : Piece) (fs : List (List ℕ)) → joined (map (λ (x : Piece). x .bytes) (pack p fs)) ≡ p .bytes ++ joined fs
+pack-joined : (p : Piece) (fs : List (List ℕ))
+    → joined (map (λ (x : Piece). x .bytes) (pack p fs)) ≡ p .bytes ++ joined fs
 pack-joined p [] = refl
 pack-joined p (f ∷ fs) =
-    by-test (λ (ps : List Piece). joined (map (λ (x : Piece). x .bytes) ps) ≡ p .bytes ++ (f ++ joined fs)) (leb (length (p .bytes) + length f) 4080)
+    by-test (λ (ps : List Piece). joined (map (λ (x : Piece). x .bytes) ps) ≡ p .bytes ++ (f ++ joined fs))
+    (leb (length (p .bytes) + length f) 4080)
     (λ b. pack-joined (withField p f) fs ∙ append-assoc (p .bytes) f (joined fs))
     (λ b. ap (λ (l : List ℕ). p .bytes ++ l) (pack-joined (withField noFields f) fs))
 
-pieces-joined : (content : List ℕ) (limit : ℕ) → shaped content limit ≡ true → joined (map (λ (p : Piece). p .bytes) (piecesOf content)) ≡ content
+pieces-joined : (content : List ℕ) (limit : ℕ) → shaped content limit ≡ true
+    → joined (map (λ (p : Piece). p .bytes) (piecesOf content)) ≡ content
 unfolding piecesOf
-pieces-joined content limit s = pack-joined noFields (fieldsOf content) ∙ run-whole field content (whole-content content limit s .0)
+pieces-joined content limit s =
+    pack-joined noFields (fieldsOf content) ∙ run-whole field content (whole-content content limit s .0)
 
 -- A piece and the first field of the next have more than 4,080 bytes.
-pack-few : (p : Piece) (fs : List (List ℕ)) → 4081 * length (pack p fs) ≤ 4081 + length (p .bytes) + 2 * length (joined fs)
+pack-few : (p : Piece) (fs : List (List ℕ))
+    → 4081 * length (pack p fs) ≤ 4081 + length (p .bytes) + 2 * length (joined fs)
 pack-few p [] = omega arith
 pack-few p (f ∷ fs) =
-    by-test (λ (ps : List Piece). 4081 * length ps ≤ 4081 + length (p .bytes) + 2 * length (f ++ joined fs)) (leb (length (p .bytes) + length f) 4080)
+    by-test (λ (ps : List Piece). 4081 * length ps ≤ 4081 + length (p .bytes) + 2 * length (f ++ joined fs))
+    (leb (length (p .bytes) + length f) 4080)
     (λ b. omega (arith, pack-few (withField p f) fs, length-append (p .bytes) f, length-append f (joined fs)))
-    (λ b. omega (arith, leb-false (length (p .bytes) + length f) 4080 b, pack-few (withField noFields f) fs, length-append f (joined fs)))
+    (λ b. omega (
+      arith,
+      leb-false (length (p .bytes) + length f) 4080 b,
+      pack-few (withField noFields f) fs,
+      length-append f
+          (joined fs),
+    ))
 
 few : (content : List ℕ) → length content ≤ 32768 → length (piecesOf content) ≤ 17
 unfolding piecesOf
 few content h =
-    let whole = sym (length-append (joined (fieldsOf content)) (runOf field content .rest)) ∙ ap length (run-joined field content) in
+    let whole =
+    sym (length-append (joined (fieldsOf content)) (runOf field content .rest))
+    ∙ ap length (run-joined field content) in
     omega (arith, whole, pack-few noFields (fieldsOf content))
 
 -- ─── Packets by place ───
 
-letter-first : (m : Message) (first : Bool) (p : Piece) (ps : List Piece) → chainAt first (isNil ps) ≡ chainAt (first && eqb 0 0) (eqb (0 + 1) (length (p ∷ ps)))
+letter-first : (m : Message) (first : Bool) (p : Piece) (ps : List Piece)
+    → chainAt first (isNil ps) ≡ chainAt (first && eqb 0 0) (eqb (0 + 1) (length (p ∷ ps)))
 letter-first m true p [] = refl
 letter-first m false p [] = refl
 letter-first m true p (x ∷ ps) = rw (eqb·suc-suc 0 (suc (length ps)), eqb·zero-suc (length ps))
 letter-first m false p (x ∷ ps) = rw (eqb·suc-suc 0 (suc (length ps)), eqb·zero-suc (length ps))
 
-letter-later : (first : Bool) (i n : ℕ) → chainAt (false && eqb i 0) (eqb (i + 1) n) ≡ chainAt (first && eqb (suc i) 0) (eqb (suc i + 1) (suc n))
+letter-later : (first : Bool) (i n : ℕ) → chainAt (false && eqb i 0) (eqb (i + 1) n) ≡ chainAt (first && eqb (suc i) 0)
+    (eqb (suc i + 1) (suc n))
 letter-later first i n =
     let e : suc i + 1 ≡ suc (i + 1) = omega arith in
     rw (e, eqb·suc-suc (i + 1) n, eqb·suc-zero i) (go first)
@@ -177,22 +209,29 @@ letter-later first i n =
     go false = refl
 
 framed-at : (m : Message) (first : Bool) (ps : List Piece) (i : ℕ) → i < length ps
-    → getD (framed m first ps) i [] ≡ packetFor m (chainAt (first && eqb i 0) (eqb (i + 1) (length ps))) (getD ps i noFields)
+    → getD (framed m first ps) i [] ≡ packetFor m (chainAt (first && eqb i 0) (eqb (i + 1) (length ps)))
+    (getD ps i noFields)
 framed-at m first [] i h = absurd (omega arith)
 framed-at m first (p ∷ ps) zero h = ap (λ (c : Chain). packetFor m c p) (letter-first m first p ps)
 framed-at m first (p ∷ ps) (suc i) h =
-    framed-at m false ps i (omega arith) ∙ ap (λ (c : Chain). packetFor m c (getD ps i noFields)) (letter-later first i (length ps))
+    framed-at m false ps i (omega arith) ∙ ap (λ (c : Chain). packetFor m c (getD ps i noFields))
+    (letter-later first i (length ps))
 
 module _ (m : Message) (content : List ℕ) where
   as-many : (length (packetsOf m content) ≡ length (piecesOf content)) × (0 < length (packetsOf m content))
   unfolding packetsOf
-  as-many = (framed-count m true (piecesOf content), rw (framed-count m true (piecesOf content)) (some (piecesOf content) (pieces-some content)))
+  as-many = (
+    framed-count m true (piecesOf content),
+    rw (framed-count m true (piecesOf content))
+        (some (piecesOf content) (pieces-some content)),
+  )
     where
       some : (ps : List Piece) → isNil ps ≡ false → 0 < length ps
       some [] e = let y : _≡_ {A = ℕ} 0 1 = cc in absurd (omega arith)
       some (p ∷ ps) e = omega arith
 
-  packet-at : (i : ℕ) → i < length (packetsOf m content) → packetAtPlace m content i ≡ packetFor m (letterAt m content i) (pieceAtPlace content i)
+  packet-at : (i : ℕ) → i < length (packetsOf m content)
+      → packetAtPlace m content i ≡ packetFor m (letterAt m content i) (pieceAtPlace content i)
   unfolding packetsOf
   packet-at i h =
       let k : i < length (piecesOf content) = rw (framed-count m true (piecesOf content)) at h in
@@ -200,48 +239,66 @@ module _ (m : Message) (content : List ℕ) where
 
   -- It is written without refusal, and read back.
   packet-fine : (limit i : ℕ) → shaped content limit ≡ true → i < length (packetsOf m content)
-      → messageVerdict (headerFor m (letterAt m content i) (pieceAtPlace content i .count)) (extensionBytes (tagsFor (m .date))) (pieceAtPlace content i .bytes) ≡ fine
+      → messageVerdict (headerFor m (letterAt m content i) (pieceAtPlace content i .count))
+      (extensionBytes (tagsFor (m .date))) (pieceAtPlace content i .bytes) ≡ fine
   unfolding messageVerdict headerFor
   packet-fine limit i s h =
       let k : i < length (piecesOf content) = rw (as-many .0) at h in
       let good = good-at (piecesOf content) i (pieces-good content limit s) k in
       let tags = date-good (m .date) in
-      rw (le-ltb 127 (length (extensionBytes (tagsFor (m .date)))) (omega (arith, tags .1)), le-ltb 4080 (length (pieceAtPlace content i .bytes)) (good .0), tags .0, good .1)
+      rw (
+        le-ltb 127 (length (extensionBytes (tagsFor (m .date)))) (omega (arith, tags .1)),
+        le-ltb 4080
+            (length (pieceAtPlace content i .bytes)) (good .0),
+        tags .0,
+        good .1,
+      )
 
   read-back : (limit i : ℕ) (q : List ℕ) → shaped content limit ≡ true → i < length (packetsOf m content)
       → readOf (packetAtPlace m content i ++ q)
-      ≡ Read (headerFor m (letterAt m content i) (pieceAtPlace content i .count)) (span 4 (length (extensionBytes (tagsFor (m .date)))))
+      ≡ Read (headerFor m (letterAt m content i) (pieceAtPlace content i .count))
+      (span 4 (length (extensionBytes (tagsFor (m .date)))))
       (span (4 + length (extensionBytes (tagsFor (m .date))) + 16) (length (pieceAtPlace content i .bytes)))
   unfolding packetFor
   read-back limit i q s h =
       rw (packet-at i h)
-      (message-back (headerFor m (letterAt m content i) (pieceAtPlace content i .count)) (extensionBytes (tagsFor (m .date))) (pieceAtPlace content i .bytes) q (packet-fine limit i s h))
+      (message-back (headerFor m (letterAt m content i) (pieceAtPlace content i .count))
+      (extensionBytes (tagsFor (m .date))) (pieceAtPlace content i .bytes) q (packet-fine limit i s h))
 
   trade-date-back : (i : ℕ) (q : List ℕ) → i < length (packetsOf m content)
       → tradeDateOf (part (packetAtPlace m content i ++ q) 4 (length (extensionBytes (tagsFor (m .date))))) ≡ m .date
   unfolding packetFor
   trade-date-back i q h =
-      rw (packet-at i h, message-places (headerFor m (letterAt m content i) (pieceAtPlace content i .count)) (extensionBytes (tagsFor (m .date))) (pieceAtPlace content i .bytes) q .0)
+      rw (
+        packet-at i h,
+        message-places (headerFor m (letterAt m content i) (pieceAtPlace content i .count))
+            (extensionBytes (tagsFor (m .date))) (pieceAtPlace content i .bytes) q .0,
+      )
       (date-back (m .date))
 
   piece-back : (i : ℕ) (q : List ℕ) → i < length (packetsOf m content)
-      → part (packetAtPlace m content i ++ q) (4 + length (extensionBytes (tagsFor (m .date))) + 16) (length (pieceAtPlace content i .bytes)) ≡ pieceAtPlace content i .bytes
+      → part (packetAtPlace m content i ++ q) (4 + length (extensionBytes (tagsFor (m .date))) + 16)
+      (length (pieceAtPlace content i .bytes)) ≡ pieceAtPlace content i .bytes
   unfolding packetFor
   piece-back i q h =
-      rw (packet-at i h) (message-places (headerFor m (letterAt m content i) (pieceAtPlace content i .count)) (extensionBytes (tagsFor (m .date))) (pieceAtPlace content i .bytes) q .1)
+      rw (packet-at i h)
+      (message-places (headerFor m (letterAt m content i) (pieceAtPlace content i .count))
+      (extensionBytes (tagsFor (m .date))) (pieceAtPlace content i .bytes) q .1)
 
   packet-dated : (limit i : ℕ) (q : List ℕ) → shaped content limit ≡ true → i < length (packetsOf m content)
       → datedOf (packetAtPlace m content i ++ q)
       ≡ record {
         packet =
-            Read (headerFor m (letterAt m content i) (pieceAtPlace content i .count)) (span 4 (length (extensionBytes (tagsFor (m .date)))))
+            Read (headerFor m (letterAt m content i) (pieceAtPlace content i .count))
+            (span 4 (length (extensionBytes (tagsFor (m .date)))))
             (span (4 + length (extensionBytes (tagsFor (m .date))) + 16) (length (pieceAtPlace content i .bytes)));
         date = m .date;
       }
   unfolding packetFor
   packet-dated limit i q s h =
       rw (packet-at i h)
-      (dated-back (headerFor m (letterAt m content i) (pieceAtPlace content i .count)) (extensionBytes (tagsFor (m .date))) (pieceAtPlace content i .bytes) q (packet-fine limit i s h)
+      (dated-back (headerFor m (letterAt m content i) (pieceAtPlace content i .count))
+      (extensionBytes (tagsFor (m .date))) (pieceAtPlace content i .bytes) q (packet-fine limit i s h)
       ∙ rw (date-back (m .date)))
 
   packet-one : (limit i : ℕ) → shaped content limit ≡ true → i < length (packetsOf m content)
@@ -249,11 +306,13 @@ module _ (m : Message) (content : List ℕ) where
   unfolding packetFor
   packet-one limit i s h =
       rw (packet-at i h)
-      (message-one (headerFor m (letterAt m content i) (pieceAtPlace content i .count)) (extensionBytes (tagsFor (m .date))) (pieceAtPlace content i .bytes) (packet-fine limit i s h))
+      (message-one (headerFor m (letterAt m content i) (pieceAtPlace content i .count))
+      (extensionBytes (tagsFor (m .date))) (pieceAtPlace content i .bytes) (packet-fine limit i s h))
 
 -- ─── Cut by the first four bytes ───
 
-packet-follows : (kind : ℕ) (extension body r : List ℕ) → packetForm .head + packetForm .follow (packetBytes kind extension body ++ r) ≡ 4 + length extension + length body
+packet-follows : (kind : ℕ) (extension body r : List ℕ)
+    → packetForm .head + packetForm .follow (packetBytes kind extension body ++ r) ≡ 4 + length extension + length body
 unfolding packetForm packetBytes be16Of
 packet-follows kind extension body r = omega arith
 
@@ -278,9 +337,11 @@ some-packet : 0 < packetForm .head
 unfolding packetForm
 some-packet = omega arith
 
-cut-back : (m : Message) (content : List ℕ) → runOf packetForm (joined (packetsOf m content)) ≡ record { entries = packetsOf m content; rest = [] }
+cut-back : (m : Message) (content : List ℕ)
+    → runOf packetForm (joined (packetsOf m content)) ≡ record { entries = packetsOf m content; rest = [] }
 unfolding packetsOf
-cut-back m content = run-of packetForm some-packet (framed m true (piecesOf content)) (framed-entries m true (piecesOf content))
+cut-back m content =
+    run-of packetForm some-packet (framed m true (piecesOf content)) (framed-entries m true (piecesOf content))
 
 -- ─── Tags ───
 
@@ -296,7 +357,9 @@ tags-entries [] = tt
 tags-entries (t ∷ ts) = (
   record {
     some = omega arith;
-    stands = λ r. front-whole tag (tagBytes t ++ r) (rw (tag-follows t r, length-append (tagBytes t) r) (omega arith)) ∙ tag-follows t r ∙ two-more (length (t .value));
+    stands =
+        λ r. front-whole tag (tagBytes t ++ r) (rw (tag-follows t r, length-append (tagBytes t) r) (omega arith))
+        ∙ tag-follows t r ∙ two-more (length (t .value));
   },
   tags-entries ts,
 )

@@ -11,7 +11,8 @@ use lib.Dec.{leb, eqb, eqb·suc-zero}
 use Rattle.ftd.specs.Bytes.{part, joined}
 use Rattle.ftd.specs.Runs.{runOf}
 use Rattle.ftd.specs.Fields.{field, fieldsOf, shapely, shaped}
-use Rattle.ftd.specs.Chain.{Piece, noFields, withField, pack, piecesOf, chainAt, packetFor, isNil, framed, packetsOf, sizeAnswer}
+use Rattle.ftd.specs.Chain.{Piece, noFields, withField, pack, piecesOf, chainAt, packetFor, isNil, framed}
+use Rattle.ftd.specs.Chain.{packetsOf, sizeAnswer}
 use Rattle.ftd.specs.Chain.Helpers.{othersOf, pieceAt, NextPiece, sizeOf, measureOf}
 use Rattle.ftd.specs.Tags.{tagsFor, extensionBytes}
 use Rattle.ftd.specs.declared.refusal.Refusal.the-variants.{FieldRun}
@@ -27,7 +28,8 @@ use Rattle.ftd.proofs.write.Puts.{length-message}
 packs-some : (p : Piece) (fs : List (List ℕ)) → isNil (pack p fs) ≡ false
 packs-some p [] = refl
 packs-some p (f ∷ fs) =
-    by-test (λ (ps : List Piece). isNil ps ≡ false) (leb (length (p .bytes) + length f) 4080) (λ b. packs-some (withField p f) fs) (λ b. refl)
+    by-test (λ (ps : List Piece). isNil ps ≡ false) (leb (length (p .bytes) + length f) 4080)
+    (λ b. packs-some (withField p f) fs) (λ b. refl)
 
 pub pieces-some : (l : List ℕ) → isNil (piecesOf l) ≡ false
 unfolding piecesOf
@@ -72,7 +74,8 @@ module _ (l : List ℕ) (at : ℕ) (c : Cut) (next : NextPiece l at c) where
   piece-length = simp (length-take, length-drop) (omega (arith, next .low, next .high))
 
   pub piece-packet : (m : Message) (x : Chain) (to : ℕ)
-      → to + length (packetFor m x (pieceAt l at c)) ≡ to + (4 + length (extensionBytes (tagsFor (m .date))) + (16 + (c .end - at)))
+      → to + length
+      (packetFor m x (pieceAt l at c)) ≡ to + (4 + length (extensionBytes (tagsFor (m .date))) + (16 + (c .end - at)))
   unfolding packetFor
   piece-packet m x to = rw (length-message, piece-length)
 
@@ -93,7 +96,9 @@ module _ (l : List ℕ) (at : ℕ) (c : Cut) (next : NextPiece l at c) where
     more h = next .pieces s ∙ ap (λ (ps : List Piece). pieceAt l at c ∷ ps) (others-more l (c .end) (next .left ∙ s) h)
 
     last : c .end ≡ length l → piecesOf (drop at l) ≡ pieceAt l at c ∷ []
-    last h = next .pieces s ∙ ap (λ (ps : List Piece). pieceAt l at c ∷ ps) (others-none l (c .end) (next .left ∙ s) (omega arith))
+    last h =
+        next .pieces s ∙ ap (λ (ps : List Piece). pieceAt l at c ∷ ps)
+        (others-none l (c .end) (next .left ∙ s) (omega arith))
 
     pub count-more : c .end < length l → length (piecesOf (drop at l)) ≡ 1 + length (piecesOf (drop (c .end) l))
     count-more h = rw (more h) (omega arith)
@@ -101,7 +106,8 @@ module _ (l : List ℕ) (at : ℕ) (c : Cut) (next : NextPiece l at c) where
     pub count-last : c .end ≡ length l → length (piecesOf (drop at l)) ≡ 1
     count-last h = rw (last h)
 
-    pub size-more : (ext : ℕ) → c .end < length l → sizeOf ext (piecesOf (drop at l)) ≡ 4 + ext + (16 + (c .end - at)) + sizeOf ext (piecesOf (drop (c .end) l))
+    pub size-more : (ext : ℕ) → c .end < length l
+        → sizeOf ext (piecesOf (drop at l)) ≡ 4 + ext + (16 + (c .end - at)) + sizeOf ext (piecesOf (drop (c .end) l))
     size-more ext h = rw (more h, piece-length)
 
     pub size-last : (ext : ℕ) → c .end ≡ length l → sizeOf ext (piecesOf (drop at l)) ≡ 4 + ext + (16 + (c .end - at))
@@ -109,10 +115,12 @@ module _ (l : List ℕ) (at : ℕ) (c : Cut) (next : NextPiece l at c) where
 
     module _ (m : Message) (first : Bool) where
       pub frame-more : c .end < length l
-          → framed m first (piecesOf (drop at l)) ≡ packetFor m (chainAt first false) (pieceAt l at c) ∷ framed m false (piecesOf (drop (c .end) l))
+          → framed m first (piecesOf (drop at l)) ≡ packetFor m (chainAt first false) (pieceAt l at c) ∷ framed m false
+          (piecesOf (drop (c .end) l))
       frame-more h = rw (more h, pieces-some (drop (c .end) l))
 
-      pub frame-last : c .end ≡ length l → framed m first (piecesOf (drop at l)) ≡ packetFor m (chainAt first true) (pieceAt l at c) ∷ []
+      pub frame-last : c .end ≡ length l → framed m first (piecesOf (drop at l)) ≡ packetFor m (chainAt first true)
+          (pieceAt l at c) ∷ []
       frame-last h = rw (last h)
 
 -- The packets of pieces: as many, and of the size counted.
@@ -120,18 +128,21 @@ pub framed-count : (m : Message) (first : Bool) (ps : List Piece) → length (fr
 framed-count m first [] = refl
 framed-count m first (p ∷ ps) = ap suc (framed-count m false ps)
 
-pub framed-size : (m : Message) (first : Bool) (ps : List Piece) → length (joined (framed m first ps)) ≡ sizeOf (length (extensionBytes (tagsFor (m .date)))) ps
+pub framed-size : (m : Message) (first : Bool) (ps : List Piece)
+    → length (joined (framed m first ps)) ≡ sizeOf (length (extensionBytes (tagsFor (m .date)))) ps
 unfolding packetFor
 framed-size m first [] = refl
 framed-size m first (p ∷ ps) = rw (length-append, length-message, framed-size m false ps)
 
 -- ─── What the public functions decide ───
 
-pub shaped-facts : (content : List ℕ) (limit : ℕ) (r : Bool) → r ≡ shaped content limit → r ≡ true → (length content ≤ limit) × (shapely (runOf field content) ≡ true)
+pub shaped-facts : (content : List ℕ) (limit : ℕ) (r : Bool) → r ≡ shaped content limit → r ≡ true
+    → (length content ≤ limit) × (shapely (runOf field content) ≡ true)
 unfolding shaped
 shaped-facts content limit r e t = go (leb (length content) limit) refl (sym e ∙ t)
   where
-    go : (b : Bool) → leb (length content) limit ≡ b → (b && shapely (runOf field content)) ≡ true → (length content ≤ limit) × (shapely (runOf field content) ≡ true)
+    go : (b : Bool) → leb (length content) limit ≡ b → (b && shapely (runOf field content)) ≡ true
+        → (length content ≤ limit) × (shapely (runOf field content) ≡ true)
     go true p q = (leb-true (length content) limit p, q)
     go false p q = let y : _≡_ {A = ℕ} 0 1 = cc in absurd (omega arith)
 
@@ -142,11 +153,20 @@ size-over m content h = rw (lt-leb (length content) 32768 h)
 module _ (m : Message) (content : List ℕ) (tags : ℕ) (e : tags ≡ length (extensionBytes (tagsFor (m .date)))) where
   pub size-is : length content ≤ 32768 → measureOf tags content ≡ sizeAnswer m content
   unfolding measureOf sizeAnswer shaped packetsOf
-  size-is h = rw (le-leb (length content) 32768 h, framed-count m true (piecesOf content), framed-size m true (piecesOf content), ← e)
+  size-is h =
+      rw (
+        le-leb (length content) 32768 h,
+        framed-count m true (piecesOf content),
+        framed-size m true
+            (piecesOf content),
+        ← e,
+      )
 
 -- ─── A piece and a packet by place ───
 
-module _ (content : List ℕ) (i at left : ℕ) (c : Cut) (next : NextPiece content at c) (s : shapely (runOf field (drop at content)) ≡ true) (few : left ≤ i) (inv : drop (i - left) (piecesOf content) ≡ piecesOf (drop at content)) where
+module _ (content : List ℕ) (i at left : ℕ) (c : Cut) (next : NextPiece content at c)
+    (s : shapely (runOf field (drop at content)) ≡ true) (few : left ≤ i)
+    (inv : drop (i - left) (piecesOf content) ≡ piecesOf (drop at content)) where
   pub piece-here : left ≡ 0 → drop i (piecesOf content) ≡ piecesOf (drop at content)
   piece-here z =
       let e : i - left ≡ i = omega arith in
@@ -154,56 +174,70 @@ module _ (content : List ℕ) (i at left : ℕ) (c : Cut) (next : NextPiece cont
 
   pub piece-none : (left ≡ 0 → ⊥) → c .end ≡ length content → length (piecesOf content) ≤ i
   piece-none z h =
-      let k : length (piecesOf content) - (i - left) ≡ 1 = sym (length-drop (i - left) (piecesOf content)) ∙ ap length inv ∙ count-last content at c next s h in
+      let k : length (piecesOf content) - (i - left) ≡ 1 =
+      sym (length-drop (i - left) (piecesOf content)) ∙ ap length inv ∙ count-last content at c next s h in
       omega (arith, positive left z)
     where
       positive : (n : ℕ) → (n ≡ 0 → ⊥) → 0 < n
       positive n z = omega arith
 
-  pub piece-turn : (left ≡ 0 → ⊥) → (c .end ≡ length content → ⊥) → drop (i - (left - 1)) (piecesOf content) ≡ piecesOf (drop (c .end) content)
+  pub piece-turn : (left ≡ 0 → ⊥) → (c .end ≡ length content → ⊥)
+      → drop (i - (left - 1)) (piecesOf content) ≡ piecesOf (drop (c .end) content)
   piece-turn z h =
       let e : i - (left - 1) ≡ i - left + 1 = omega arith in
       ap (λ (n : ℕ). drop n (piecesOf content)) e
       ∙ sym (drop-drop 1 (i - left) (piecesOf content))
       ∙ ap (drop 1) (inv ∙ more content at c next s (omega (arith, next .high)))
 
-framed-drop : (m : Message) (i : ℕ) (first : Bool) (ps : List Piece) → drop i (framed m first ps) ≡ framed m (first && eqb i 0) (drop i ps)
+framed-drop : (m : Message) (i : ℕ) (first : Bool) (ps : List Piece)
+    → drop i (framed m first ps) ≡ framed m (first && eqb i 0) (drop i ps)
 framed-drop m zero true ps = refl
 framed-drop m zero false ps = refl
 framed-drop m (suc i) first [] = refl
-framed-drop m (suc i) first (p ∷ ps) = framed-drop m i false ps ∙ ap (λ (b : Bool). framed m b (drop i ps)) (sym (later first))
+framed-drop m (suc i) first (p ∷ ps) =
+    framed-drop m i false ps ∙ ap (λ (b : Bool). framed m b (drop i ps)) (sym (later first))
   where
     later : (b : Bool) → (b && eqb (suc i) 0) ≡ false
     later true = eqb·suc-zero i
     later false = refl
 
-head-of : (ls : List (List ℕ)) (i : ℕ) (x : List ℕ) (xs : List (List ℕ)) → drop i ls ≡ x ∷ xs → (getD ls i [] ≡ x) × (i < length ls)
+head-of : (ls : List (List ℕ)) (i : ℕ) (x : List ℕ) (xs : List (List ℕ)) → drop i ls ≡ x ∷ xs
+    → (getD ls i [] ≡ x) × (i < length ls)
 head-of [] zero x xs e = let y = ap length e in absurd (omega arith)
 head-of [] (suc i) x xs e = let y = ap length e in absurd (omega arith)
 head-of (l ∷ ls) zero x xs e = (cc, omega arith)
 head-of (l ∷ ls) (suc i) x xs e = let h = head-of ls i x xs e in (h .0, omega (arith, h .1))
 
 -- Packet i of a message, from piece i of its content.
-pub packet-here : (m : Message) (content : List ℕ) (i at : ℕ) (c : Cut) → NextPiece content at c → shapely (runOf field (drop at content)) ≡ true → drop i (piecesOf content) ≡ piecesOf (drop at content)
-    → (getD (packetsOf m content) i [] ≡ packetFor m (chainAt (eqb i 0) (eqb (c .end) (length content))) (pieceAt content at c)) × (i < length (packetsOf m content))
+pub packet-here : (m : Message) (content : List ℕ) (i at : ℕ) (c : Cut) → NextPiece content at c
+    → shapely (runOf field (drop at content)) ≡ true → drop i (piecesOf content) ≡ piecesOf (drop at content)
+    → (getD (packetsOf m content) i [] ≡ packetFor m (chainAt (eqb i 0) (eqb (c .end) (length content)))
+    (pieceAt content at c)) × (i < length (packetsOf m content))
 unfolding packetsOf
 packet-here m content i at c next s e = go (eqb (c .end) (length content)) refl
   where
     go : (b : Bool) → eqb (c .end) (length content) ≡ b
-        → (getD (framed m true (piecesOf content)) i [] ≡ packetFor m (chainAt (eqb i 0) b) (pieceAt content at c)) × (i < length (framed m true (piecesOf content)))
+        → (getD (framed m true (piecesOf content)) i [] ≡ packetFor m (chainAt (eqb i 0) b) (pieceAt content at c))
+        × (i < length (framed m true (piecesOf content)))
     go true q =
         head-of (framed m true (piecesOf content)) i _ _
-        (framed-drop m i true (piecesOf content) ∙ ap (framed m (eqb i 0)) e ∙ frame-last content at c next s m (eqb i 0) (eqb-true (c .end) (length content) q))
+        (framed-drop m i true (piecesOf content) ∙ ap (framed m (eqb i 0)) e
+        ∙ frame-last content at c next s m (eqb i 0) (eqb-true (c .end) (length content) q))
     go false q =
         head-of (framed m true (piecesOf content)) i _ _
         (framed-drop m i true (piecesOf content) ∙ ap (framed m (eqb i 0)) e
-        ∙ frame-more content at c next s m (eqb i 0) (below (c .end) (length content) (next .high) (eqb-false (c .end) (length content) q)))
+        ∙ frame-more content at c next s m (eqb i 0)
+        (below (c .end) (length content) (next .high) (eqb-false (c .end) (length content) q)))
 
-pub packet-none : (m : Message) (content : List ℕ) (i : ℕ) → length (piecesOf content) ≤ i → length (packetsOf m content) ≤ i
+pub packet-none : (m : Message) (content : List ℕ) (i : ℕ) → length (piecesOf content) ≤ i
+    → length (packetsOf m content) ≤ i
 unfolding packetsOf
 packet-none m content i h = rw (framed-count m true (piecesOf content)) h
 
-pub packet-size : (m : Message) (content : List ℕ) (i at : ℕ) (c : Cut) → NextPiece content at c → shapely (runOf field (drop at content)) ≡ true → drop i (piecesOf content) ≡ piecesOf (drop at content)
-    → (tags : ℕ) → tags ≡ length (extensionBytes (tagsFor (m .date))) → length (getD (packetsOf m content) i []) ≡ 4 + tags + (16 + (c .end - at))
+pub packet-size : (m : Message) (content : List ℕ) (i at : ℕ) (c : Cut) → NextPiece content at c
+    → shapely (runOf field (drop at content)) ≡ true → drop i (piecesOf content) ≡ piecesOf (drop at content)
+    → (tags : ℕ) → tags ≡ length (extensionBytes (tagsFor (m .date)))
+    → length (getD (packetsOf m content) i []) ≡ 4 + tags + (16 + (c .end - at))
 packet-size m content i at c next s e tags t =
-    rw (packet-here m content i at c next s e .0, t) (omega (arith, piece-packet content at c next m (chainAt (eqb i 0) (eqb (c .end) (length content))) 0))
+    rw (packet-here m content i at c next s e .0, t)
+    (omega (arith, piece-packet content at c next m (chainAt (eqb i 0) (eqb (c .end) (length content))) 0))

@@ -19,10 +19,13 @@ use Rattle.ftd.specs.declared.chain.Cut.{Cut}
 use Rattle.ftd.specs.declared.chain.Message.{Message}
 use Rattle.ftd.proofs.bytes.Put.{length-put, put-before}
 use Rattle.ftd.proofs.write.Puts.{by-refusal, by-room, by-writing}
-use Rattle.ftd.proofs.chain.Pieces.{both, below, pieces-some, framed-size, piece-packet, whole-last, broken-here, frame-more, frame-last}
+use Rattle.ftd.proofs.chain.Pieces.{both, below, pieces-some, framed-size, piece-packet, whole-last, broken-here}
+use Rattle.ftd.proofs.chain.Pieces.{frame-more, frame-last}
 
-module _ (m : Message) (first : Bool) (l : List ℕ) (at to tags : ℕ) (c : Cut) (next : NextPiece l at c) (t : tags ≡ length (extensionBytes (tagsFor (m .date)))) (out : List ℕ) where
-  packet-long : (last : Bool) → to + length (packetFor m (chainAt first last) (pieceAt l at c)) ≡ to + (4 + tags + (16 + (c .end - at)))
+module _ (m : Message) (first : Bool) (l : List ℕ) (at to tags : ℕ) (c : Cut) (next : NextPiece l at c)
+    (t : tags ≡ length (extensionBytes (tagsFor (m .date)))) (out : List ℕ) where
+  packet-long : (last : Bool) → to + length
+      (packetFor m (chainAt first last) (pieceAt l at c)) ≡ to + (4 + tags + (16 + (c .end - at)))
   packet-long last = rw t (piece-packet l at c next m (chainAt first last) to)
 
   -- ─── The last piece ───
@@ -34,7 +37,8 @@ module _ (m : Message) (first : Bool) (l : List ℕ) (at to tags : ℕ) (c : Cut
     reach-last : to + (4 + tags + (16 + (c .end - at))) ≡ to + length (restOf m first l at)
     reach-last = rw rest-last (sym (packet-long true))
 
-    pub last-small : length out < to + (4 + tags + (16 + (c .end - at))) → PutRest m first l at to out out (to + (4 + tags + (16 + (c .end - at))))
+    pub last-small : length out < to + (4 + tags + (16 + (c .end - at)))
+        → PutRest m first l at to out out (to + (4 + tags + (16 + (c .end - at))))
     last-small k =
         record {
           broken = λ b. both _ (whole-last l at c next h) b;
@@ -43,7 +47,8 @@ module _ (m : Message) (first : Bool) (l : List ℕ) (at to tags : ℕ) (c : Cut
           puts = λ s w. absurd (omega arith);
         }
 
-    pub last-put : (after : List ℕ) → to + (4 + tags + (16 + (c .end - at))) ≤ length out → after ≡ put out to (packetFor m (chainAt first true) (pieceAt l at c))
+    pub last-put : (after : List ℕ) → to + (4 + tags + (16 + (c .end - at))) ≤ length out
+        → after ≡ put out to (packetFor m (chainAt first true) (pieceAt l at c))
         → PutRest m first l at to out after (to + (4 + tags + (16 + (c .end - at))))
     last-put after k w =
         record {
@@ -66,8 +71,10 @@ module _ (m : Message) (first : Bool) (l : List ℕ) (at to tags : ℕ) (c : Cut
 
   -- ─── A piece before others, which are put ───
 
-  module _ (h : c .end ≡ length l → ⊥) (mid : List ℕ) (reach : ℕ) (p : PutRest m false l (c .end) (to + (4 + tags + (16 + (c .end - at)))) out mid reach) where
-    rest-more : shapely (runOf field (drop at l)) ≡ true → restOf m first l at ≡ packetFor m (chainAt first false) (pieceAt l at c) ++ restOf m false l (c .end)
+  module _ (h : c .end ≡ length l → ⊥) (mid : List ℕ) (reach : ℕ)
+      (p : PutRest m false l (c .end) (to + (4 + tags + (16 + (c .end - at)))) out mid reach) where
+    rest-more : shapely (runOf field (drop at l)) ≡ true
+        → restOf m first l at ≡ packetFor m (chainAt first false) (pieceAt l at c) ++ restOf m false l (c .end)
     rest-more s = ap joined (frame-more l at c next s m first (below (c .end) (length l) (next .high) h))
 
     reach-more : shapely (runOf field (drop at l)) ≡ true → reach ≡ to + length (restOf m first l at)
@@ -91,7 +98,8 @@ module _ (m : Message) (first : Bool) (l : List ℕ) (at to tags : ℕ) (c : Cut
           go true s = omega (arith, p .reaches s)
           go false s = absurd (z (p .broken s .0))
 
-      pub more-fits : reach ≤ length mid → to + (4 + length (extensionBytes (tagsFor (m .date))) + (16 + (c .end - at))) ≤ length mid
+      pub more-fits : reach ≤ length mid
+          → to + (4 + length (extensionBytes (tagsFor (m .date))) + (16 + (c .end - at))) ≤ length mid
       more-fits k = rw (← t) (omega (arith, more-room))
 
       pub more-small : length mid < reach → PutRest m first l at to out mid reach
@@ -103,10 +111,16 @@ module _ (m : Message) (first : Bool) (l : List ℕ) (at to tags : ℕ) (c : Cut
             puts =
                 λ s w.
                 let q = p .reaches (next .left ∙ s) in
-                absurd (omega (arith, ap length (p .puts (next .left ∙ s) w) ∙ length-put out _ (restOf m false l (c .end)) (omega (arith, q))));
+                absurd (omega (
+                  arith,
+                  ap length (p .puts (next .left ∙ s) w)
+                      ∙ length-put out _ (restOf m false l (c .end)) (omega (arith, q)),
+                ));
           }
 
-      pub more-put : (after : List ℕ) → reach ≤ length mid → after ≡ put mid to (packetFor m (chainAt first false) (pieceAt l at c)) → PutRest m first l at to out after reach
+      pub more-put : (after : List ℕ) → reach ≤ length mid
+          → after ≡ put mid to (packetFor m (chainAt first false) (pieceAt l at c))
+          → PutRest m first l at to out after reach
       more-put after k w =
           record {
             broken = λ b. absurd (z (p .broken (next .left ∙ b) .0));
@@ -115,8 +129,10 @@ module _ (m : Message) (first : Bool) (l : List ℕ) (at to tags : ℕ) (c : Cut
             puts =
                 λ s x.
                 rw (rest-more s)
-                (w ∙ ap (λ (o : List ℕ). put o to (packetFor m (chainAt first false) (pieceAt l at c))) (p .puts (next .left ∙ s) x)
-                ∙ put-before out to _ (packetFor m (chainAt first false) (pieceAt l at c)) (restOf m false l (c .end)) (packet-long false) (omega (arith, more-room)));
+                (w ∙ ap (λ (o : List ℕ). put o to (packetFor m (chainAt first false) (pieceAt l at c)))
+                (p .puts (next .left ∙ s) x)
+                ∙ put-before out to _ (packetFor m (chainAt first false) (pieceAt l at c)) (restOf m false l (c .end))
+                (packet-long false) (omega (arith, more-room)));
           }
 
 -- ─── All packets ───
@@ -125,7 +141,8 @@ some-bytes : (ext : ℕ) (ps : List Piece) → isNil ps ≡ false → 0 < sizeOf
 some-bytes ext [] e = both true refl e
 some-bytes ext (p ∷ ps) e = omega arith
 
-module _ (m : Message) (l out after : List ℕ) (reach : ℕ) (p : PutRest m true l 0 0 out after reach) (h : length l ≤ 32768) where
+module _ (m : Message) (l out after : List ℕ) (reach : ℕ) (p : PutRest m true l 0 0 out after reach)
+    (h : length l ≤ 32768) where
   verdict : chainVerdict l ≡ cond (shapely (runOf field l)) fine (refuse FieldRun)
   unfolding chainVerdict shaped
   verdict = rw (le-leb (length l) 32768 h)
@@ -134,12 +151,21 @@ module _ (m : Message) (l out after : List ℕ) (reach : ℕ) (p : PutRest m tru
   unfolding packetsOf
   long s = omega (arith, p .reaches s)
 
-  pub all-broken : reach ≡ 0 → (Refused FieldRun ≡ writtenAnswer (chainVerdict l) (joined (packetsOf m l)) out) × (after ≡ writtenOutput (chainVerdict l) (joined (packetsOf m l)) out)
+  pub all-broken : reach ≡ 0 → (Refused FieldRun ≡ writtenAnswer (chainVerdict l) (joined (packetsOf m l)) out)
+      × (after ≡ writtenOutput (chainVerdict l) (joined (packetsOf m l)) out)
   all-broken z = go (shapely (runOf field l)) refl
     where
       go : (b : Bool) → shapely (runOf field l) ≡ b
-          → (Refused FieldRun ≡ writtenAnswer (chainVerdict l) (joined (packetsOf m l)) out) × (after ≡ writtenOutput (chainVerdict l) (joined (packetsOf m l)) out)
-      go true s = absurd (omega (arith, p .reaches s, framed-size m true (piecesOf l), some-bytes (length (extensionBytes (tagsFor (m .date)))) (piecesOf l) (pieces-some l)))
+          → (Refused FieldRun ≡ writtenAnswer (chainVerdict l) (joined (packetsOf m l)) out)
+          × (after ≡ writtenOutput (chainVerdict l) (joined (packetsOf m l)) out)
+      go true s =
+          absurd (omega (
+            arith,
+            p .reaches s,
+            framed-size m true (piecesOf l),
+            some-bytes
+                (length (extensionBytes (tagsFor (m .date)))) (piecesOf l) (pieces-some l),
+          ))
       go false s = rw (p .broken s .1) (by-refusal _ _ _ FieldRun (verdict ∙ rw s))
 
   module _ (z : reach ≡ 0 → ⊥) where
@@ -150,9 +176,12 @@ module _ (m : Message) (l out after : List ℕ) (reach : ℕ) (p : PutRest m tru
         go true s = refl
         go false s = absurd (z (p .broken s .0))
 
-    pub all-small : length out < reach → (Refused TooSmall ≡ writtenAnswer (chainVerdict l) (joined (packetsOf m l)) out) × (after ≡ writtenOutput (chainVerdict l) (joined (packetsOf m l)) out)
+    pub all-small : length out < reach
+        → (Refused TooSmall ≡ writtenAnswer (chainVerdict l) (joined (packetsOf m l)) out)
+        × (after ≡ writtenOutput (chainVerdict l) (joined (packetsOf m l)) out)
     all-small k = rw (p .stays whole k) (by-room _ _ _ (verdict ∙ rw whole) reach (long whole) k)
 
-    pub all-put : reach ≤ length out → (Bytes reach ≡ writtenAnswer (chainVerdict l) (joined (packetsOf m l)) out) × (after ≡ writtenOutput (chainVerdict l) (joined (packetsOf m l)) out)
+    pub all-put : reach ≤ length out → (Bytes reach ≡ writtenAnswer (chainVerdict l) (joined (packetsOf m l)) out)
+        × (after ≡ writtenOutput (chainVerdict l) (joined (packetsOf m l)) out)
     unfolding packetsOf
     all-put k = by-writing _ _ _ (verdict ∙ rw whole) reach (long whole) after k (p .puts whole k)

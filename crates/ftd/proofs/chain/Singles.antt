@@ -1,4 +1,5 @@
--- Content that has shape is whole fields, exactly as many as it has, and what one packet holds is one piece. Assumes nothing.
+-- Content that has shape is whole fields, exactly as many as it has, and what one packet holds is one piece. Assumes
+-- nothing.
 use Prim.Native.Nat.{ℕ, _+_, _≤_}
 use mathlib.Core.Path.{_≡_, refl, _∙_}
 use mathlib.Core.List.{List, [], _∷_, _++_, append-assoc, append-nil}
@@ -38,10 +39,12 @@ all-in p (f ∷ fs) h =
     rw (le-leb (length (p .bytes) + length f) 4080 a)
     (all-in (withField p f) fs b ∙ rw (n, append-assoc (p .bytes) f (joined fs)))
 
-pub one-piece : (c : List ℕ) → shaped c 4080 ≡ true → piecesOf c ≡ record { count = length (fieldsOf c); bytes = c } ∷ []
+pub one-piece : (c : List ℕ) → shaped c 4080 ≡ true
+    → piecesOf c ≡ record { count = length (fieldsOf c); bytes = c } ∷ []
 unfolding piecesOf
 one-piece c h =
     let w : joined (fieldsOf c) ≡ c = run-whole field c (shaped-ended c 4080 h) in
-    let n : length (noFields .bytes) + length (joined (fieldsOf c)) ≤ 4080 = rw w (omega (arith, shaped-facts c 4080 (shaped c 4080) refl h .0)) in
+    let n : length (noFields .bytes) + length (joined (fieldsOf c)) ≤ 4080 =
+    rw w (omega (arith, shaped-facts c 4080 (shaped c 4080) refl h .0)) in
     let z : noFields .count + length (fieldsOf c) ≡ length (fieldsOf c) = omega arith in
     all-in noFields (fieldsOf c) n ∙ rw (w, z)

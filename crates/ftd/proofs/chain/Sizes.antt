@@ -14,30 +14,35 @@ use Rattle.ftd.specs.declared.chain.ChainSize.the-variants.{Takes, Refus
 use Rattle.ftd.specs.declared.chain.Cut.{Cut}
 use Rattle.ftd.proofs.chain.Pieces.{whole-last, broken-here, count-more, count-last, size-more, size-last, below}
 
--- Up to a place so many pieces of so many bytes: what is left is as shapely as all of it, and where that is shapely, its pieces are missing.
+-- Up to a place so many pieces of so many bytes: what is left is as shapely as all of it, and where that is shapely,
+-- its pieces are missing.
 pub record Counted (l : List ℕ) (tags at packets bytes : ℕ) : Type 0 where
   pub same : shapely (runOf field (drop at l)) ≡ shapely (runOf field l)
   pub count : shapely (runOf field (drop at l)) ≡ true → packets + length (piecesOf (drop at l)) ≡ length (piecesOf l)
-  pub size : shapely (runOf field (drop at l)) ≡ true → bytes + sizeOf tags (piecesOf (drop at l)) ≡ sizeOf tags (piecesOf l)
+  pub size : shapely (runOf field (drop at l)) ≡ true
+      → bytes + sizeOf tags (piecesOf (drop at l)) ≡ sizeOf tags (piecesOf l)
 
 pub counted-none : (l : List ℕ) (tags : ℕ) → Counted l tags 0 0 0
 counted-none l tags = record { same = refl; count = λ s. omega arith; size = λ s. omega arith }
 
-module _ (l : List ℕ) (tags at packets bytes : ℕ) (c : Cut) (next : NextPiece l at c) (k : Counted l tags at packets bytes) where
+module _ (l : List ℕ) (tags at packets bytes : ℕ) (c : Cut) (next : NextPiece l at c)
+    (k : Counted l tags at packets bytes) where
   pub counted-last : c .end ≡ length l
       → Takes (record { packets = packets + 1; bytes = bytes + (4 + tags + (16 + (c .end - at))) }) ≡ measureOf tags l
   unfolding measureOf
   counted-last h =
       let s = whole-last l at c next h in
       let p : packets + 1 ≡ length (piecesOf l) = omega (arith, k .count s, count-last l at c next s h) in
-      let b : bytes + (4 + tags + (16 + (c .end - at))) ≡ sizeOf tags (piecesOf l) = omega (arith, k .size s, size-last l at c next s tags h) in
+      let b : bytes + (4 + tags + (16 + (c .end - at))) ≡ sizeOf tags (piecesOf l) =
+      omega (arith, k .size s, size-last l at c next s tags h) in
       rw (← (k .same), s, p, b)
 
   pub counted-broken : (c .end ≡ length l → ⊥) → c .end ≡ at → Refused FieldRun ≡ measureOf tags l
   unfolding measureOf
   counted-broken h e = rw (← (k .same), broken-here l at c next e h)
 
-  pub counted-turn : (c .end ≡ length l → ⊥) → Counted l tags (c .end) (packets + 1) (bytes + (4 + tags + (16 + (c .end - at))))
+  pub counted-turn : (c .end ≡ length l → ⊥)
+      → Counted l tags (c .end) (packets + 1) (bytes + (4 + tags + (16 + (c .end - at))))
   counted-turn h =
       let low = below (c .end) (length l) (next .high) h in
       record {

@@ -8,7 +8,8 @@ use borrow.Author.Tests.{eq-eqb, ne-eqb}
 use lib.ListN.{length, getD, drop, drop-of-length-le, List·getD-map}
 use lib.Seq.{drop-cons}
 use Rattle.ftd.specs.Fields.{countOf}
-use Rattle.ftd.specs.Composition.{CompositionLine, appendixE, lineTids, directions, fids, leasts, mosts, lineAt, inRange, lineHolds, allHold}
+use Rattle.ftd.specs.Composition.{CompositionLine, appendixE, lineTids, directions, fids, leasts, mosts, lineAt}
+use Rattle.ftd.specs.Composition.{inRange, lineHolds, allHold}
 
 abbrev pub noLine : CompositionLine
 noLine = record { tid = 0; direction = 0; fid = 0; least = 0; most = 0 }
@@ -21,9 +22,11 @@ module _ (r : CompositionLine) (tid direction : ℕ) (content : List ℕ) (x : �
     pub other-direction : (r .direction ≡ direction → ⊥) → true ≡ lineHolds r tid direction content
     other-direction n = rw (← p, eq-eqb x tid same, ne-eqb (r .direction) direction n)
 
-    pub line-here : r .direction ≡ direction → (least most fid n : ℕ) → least ≡ r .least → most ≡ r .most → fid ≡ r .fid → n ≡ countOf fid content
+    pub line-here : r .direction ≡ direction → (least most fid n : ℕ) → least ≡ r .least → most ≡ r .most → fid ≡ r .fid
+        → n ≡ countOf fid content
         → (b : Bool) → b ≡ inRange least most n → b ≡ lineHolds r tid direction content
-    line-here d least most fid n q s f c b e = e ∙ rw (← p, eq-eqb x tid same, eq-eqb (r .direction) direction d, q, s, c, f)
+    line-here d least most fid n q s f c b e =
+        e ∙ rw (← p, eq-eqb x tid same, eq-eqb (r .direction) direction d, q, s, c, f)
 
 pub lines : length appendixE ≡ 82
 unfolding appendixE
@@ -41,12 +44,14 @@ line-is i =
     )
 
 line-step : (i tid direction : ℕ) (content : List ℕ) → i < 82
-    → allHold (drop i appendixE) tid direction content ≡ (lineHolds (lineAt i) tid direction content && allHold (drop (i + 1) appendixE) tid direction content)
+    → allHold (drop i appendixE) tid direction
+    content ≡ (lineHolds (lineAt i) tid direction content && allHold (drop (i + 1) appendixE) tid direction content)
 line-step i tid direction content h =
     let k : i < length appendixE = rw lines h in
     rw (← (line-is i), add-one, drop-cons appendixE i noLine)
 
-module _ (i tid direction : ℕ) (content : List ℕ) (t : Bool) (inv : allHold (drop i appendixE) tid direction content ≡ t) where
+module _ (i tid direction : ℕ) (content : List ℕ) (t : Bool)
+    (inv : allHold (drop i appendixE) tid direction content ≡ t) where
   pub lines-end : 82 ≤ i → true ≡ t
   lines-end h =
       let k : length appendixE ≤ i = rw lines h in

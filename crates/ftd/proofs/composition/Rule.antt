@@ -21,23 +21,31 @@ both : (a b : Bool) → (a && b) ≡ true → (a ≡ true) × (b ≡ true)
 both true b e = (refl, e)
 both false b e = let y : _≡_ {A = ℕ} 0 1 = cc in absurd (omega arith)
 
-each-of : (ls : List CompositionLine) (i : ℕ) → tableRight ls ≡ true → i < length ls → lineRight (getD ls i noLine) ≡ true
+each-of : (ls : List CompositionLine) (i : ℕ) → tableRight ls ≡ true → i < length ls
+    → lineRight (getD ls i noLine) ≡ true
 each-of [] i t h = absurd (omega arith)
 each-of (r ∷ rs) zero t h = both (lineRight r) (noneAgain r rs && tableRight rs) t .0
 each-of (r ∷ rs) (suc i) t h =
-    each-of rs i (both (noneAgain r rs) (tableRight rs) (both (lineRight r) (noneAgain r rs && tableRight rs) t .1) .1) (omega arith)
+    each-of rs i (both (noneAgain r rs) (tableRight rs) (both (lineRight r) (noneAgain r rs && tableRight rs) t .1) .1)
+    (omega arith)
 
-none-of : (r : CompositionLine) (ls : List CompositionLine) (j : ℕ) → noneAgain r ls ≡ true → j < length ls → again r (getD ls j noLine) ≡ false
+none-of : (r : CompositionLine) (ls : List CompositionLine) (j : ℕ) → noneAgain r ls ≡ true → j < length ls
+    → again r (getD ls j noLine) ≡ false
 none-of r [] j t h = absurd (omega arith)
 none-of r (s ∷ ss) zero t h = not-true (again r s) (both (not (again r s)) (noneAgain r ss) t .0)
 none-of r (s ∷ ss) (suc j) t h = none-of r ss j (both (not (again r s)) (noneAgain r ss) t .1) (omega arith)
 
-once-of : (ls : List CompositionLine) (i j : ℕ) → tableRight ls ≡ true → i < j → j < length ls → again (getD ls i noLine) (getD ls j noLine) ≡ false
+once-of : (ls : List CompositionLine) (i j : ℕ) → tableRight ls ≡ true → i < j → j < length ls
+    → again (getD ls i noLine) (getD ls j noLine) ≡ false
 once-of [] i j t h k = absurd (omega arith)
 once-of (r ∷ rs) i zero t h k = absurd (omega arith)
-once-of (r ∷ rs) zero (suc j) t h k = none-of r rs j (both (noneAgain r rs) (tableRight rs) (both (lineRight r) (noneAgain r rs && tableRight rs) t .1) .0) (omega arith)
+once-of (r ∷ rs) zero (suc j) t h k =
+    none-of r rs j
+    (both (noneAgain r rs) (tableRight rs) (both (lineRight r) (noneAgain r rs && tableRight rs) t .1) .0) (omega arith)
 once-of (r ∷ rs) (suc i) (suc j) t h k =
-    once-of rs i j (both (noneAgain r rs) (tableRight rs) (both (lineRight r) (noneAgain r rs && tableRight rs) t .1) .1) (omega arith) (omega arith)
+    once-of rs i j
+    (both (noneAgain r rs) (tableRight rs) (both (lineRight r) (noneAgain r rs && tableRight rs) t .1) .1) (omega arith)
+    (omega arith)
 
 pub composition-rule : CompositionRule
 composition-rule =

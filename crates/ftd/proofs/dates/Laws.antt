@@ -21,8 +21,10 @@ two-back : (x : ℕ) → x < 100 → twoDigits (48 + x / 10 % 10) (48 + x % 10) 
 two-back x h = rw (digit-back (x / 10), digit-back x) (omega arith)
 
 four-back : (x : ℕ) → x ≤ 9999
-    → twoDigits (48 + x / 10 / 10 / 10 % 10) (48 + x / 10 / 10 % 10) * 100 + twoDigits (48 + x / 10 % 10) (48 + x % 10) ≡ x
-four-back x h = rw (digit-back (x / 10 / 10 / 10), digit-back (x / 10 / 10), digit-back (x / 10), digit-back x) (omega arith)
+    → twoDigits (48 + x / 10 / 10 / 10 % 10) (48 + x / 10 / 10 % 10) * 100 + twoDigits (48 + x / 10 % 10)
+    (48 + x % 10) ≡ x
+four-back x h =
+    rw (digit-back (x / 10 / 10 / 10), digit-back (x / 10 / 10), digit-back (x / 10), digit-back x) (omega arith)
 
 no-space : (x : ℕ) → eqb (48 + x % 10) 32 ≡ false
 no-space x = ne-eqb (48 + x % 10) 32 (λ e. omega arith)
@@ -30,7 +32,8 @@ no-space x = ne-eqb (48 + x % 10) 32 (λ e. omega arith)
 right-bounds : (m d : ℕ) → rightDay m d ≡ true → (m < 100) × (d < 100)
 right-bounds m d e = go (leb 1 m) (leb m 12) refl (leb 1 d) (leb d 31) refl e
   where
-    go : (a b : Bool) → leb m 12 ≡ b → (c f : Bool) → leb d 31 ≡ f → ((a && b) && (c && f)) ≡ true → (m < 100) × (d < 100)
+    go : (a b : Bool) → leb m 12 ≡ b → (c f : Bool) → leb d 31 ≡ f → ((a && b) && (c && f)) ≡ true
+        → (m < 100) × (d < 100)
     go true true p true true q e = (omega (arith, leb-true m 12 p), omega (arith, leb-true d 31 q))
     go true true p true false q e = absurd (false≢true e)
     go true true p false f q e = absurd (false≢true e)
@@ -80,7 +83,8 @@ every-at : (p : ℕ → Bool) (l : List ℕ) (i : ℕ) → every p l ≡ true �
 every-at p [] i h k = absurd (omega arith)
 every-at p (x ∷ xs) i h k = go i (p x) refl (λ j a b. every-at p xs j a b) h k
   where
-    go : (i : ℕ) (b : Bool) → p x ≡ b → ((j : ℕ) → every p xs ≡ true → j < length xs → p (getD xs j 0) ≡ true) → (b && every p xs) ≡ true
+    go : (i : ℕ) (b : Bool) → p x ≡ b → ((j : ℕ) → every p xs ≡ true → j < length xs → p (getD xs j 0) ≡ true)
+        → (b && every p xs) ≡ true
         → i < suc (length xs) → p (getD (x ∷ xs) i 0) ≡ true
     go i false e ih h k = absurd (false≢true h)
     go zero true e ih h k = e
@@ -124,7 +128,8 @@ all-three a x b y c z p q r = rw (p, q, r)
 both-two : (a x b y : List ℕ) → a ≡ x → b ≡ y → a ++ b ≡ x ++ y
 both-two a x b y p q = rw (p, q)
 
-day-again : (l : List ℕ) → length l ≡ 8 → every isDigit l ≡ true → dateBytes (Day (yearOf l) (monthOf l) (dayDigits l)) ≡ l
+day-again : (l : List ℕ) → length l ≡ 8 → every isDigit l ≡ true
+    → dateBytes (Day (yearOf l) (monthOf l) (dayDigits l)) ≡ l
 unfolding dateBytes
 day-again l n h =
     let at : (i : ℕ) → i < 8 → isDigit (getD l i 0) ≡ true = λ i k. every-at isDigit l i h (rw n k) in
@@ -132,7 +137,9 @@ day-again l n h =
     two-again (getD l 0 0) (getD l 1 0) (at 0 (omega arith)) (at 1 (omega arith)) in
     let b : digitsIn 2 (twoDigits (getD l 2 0) (getD l 3 0)) ≡ getD l 2 0 ∷ getD l 3 0 ∷ [] =
     two-again (getD l 2 0) (getD l 3 0) (at 2 (omega arith)) (at 3 (omega arith)) in
-    let y = four-again (twoDigits (getD l 0 0) (getD l 1 0)) (twoDigits (getD l 2 0) (getD l 3 0)) (two-most (getD l 0 0) (getD l 1 0)) (two-most (getD l 2 0) (getD l 3 0)) ∙ both-two _ _ _ _ a b in
+    let y =
+    four-again (twoDigits (getD l 0 0) (getD l 1 0)) (twoDigits (getD l 2 0) (getD l 3 0))
+    (two-most (getD l 0 0) (getD l 1 0)) (two-most (getD l 2 0) (getD l 3 0)) ∙ both-two _ _ _ _ a b in
     let m = two-again (getD l 4 0) (getD l 5 0) (at 4 (omega arith)) (at 5 (omega arith)) in
     let d = two-again (getD l 6 0) (getD l 7 0) (at 6 (omega arith)) (at 7 (omega arith)) in
     all-three _ _ _ _ _ _ y m d ∙ eight l n
@@ -142,7 +149,8 @@ unfolding dateFits dateBytes
 unused-again l n s = (refl, rw n at (spaces-are l s))
 
 day-good : (l : List ℕ) → length l ≡ 8 → every isDigit l ≡ true → rightDay (monthOf l) (dayDigits l) ≡ true
-    → (dateFits (Day (yearOf l) (monthOf l) (dayDigits l)) ≡ true) × (dateBytes (Day (yearOf l) (monthOf l) (dayDigits l)) ≡ l)
+    → (dateFits (Day (yearOf l) (monthOf l) (dayDigits l)) ≡ true)
+    × (dateBytes (Day (yearOf l) (monthOf l) (dayDigits l)) ≡ l)
 unfolding dateFits
 day-good l n h r =
     let a = two-most (getD l 0 0) (getD l 1 0) in
@@ -151,12 +159,15 @@ day-good l n h r =
 
 pub date-again : (l : List ℕ) → isDate l ≡ true → (dateFits (dateValue l) ≡ true) × (dateBytes (dateValue l) ≡ l)
 unfolding dateValue isDate
-date-again l e = go (eqb (length l) 8) refl (every isSpace l) refl (every isDigit l) refl (rightDay (monthOf l) (dayDigits l)) refl e
+date-again l e =
+    go (eqb (length l) 8) refl (every isSpace l) refl (every isDigit l) refl (rightDay (monthOf l) (dayDigits l)) refl e
   where
     go : (a : Bool) → eqb (length l) 8 ≡ a → (b : Bool) → every isSpace l ≡ b → (c : Bool) → every isDigit l ≡ c
         → (d : Bool) → rightDay (monthOf l) (dayDigits l) ≡ d → (a && (b || (c && d))) ≡ true
-        → (dateFits (cond (a && (b || (c && d))) (cond b Unused (Day (yearOf l) (monthOf l) (dayDigits l))) NoDate) ≡ true)
-        × (dateBytes (cond (a && (b || (c && d))) (cond b Unused (Day (yearOf l) (monthOf l) (dayDigits l))) NoDate) ≡ l)
+        → (dateFits
+        (cond (a && (b || (c && d))) (cond b Unused (Day (yearOf l) (monthOf l) (dayDigits l))) NoDate) ≡ true)
+        × (dateBytes
+        (cond (a && (b || (c && d))) (cond b Unused (Day (yearOf l) (monthOf l) (dayDigits l))) NoDate) ≡ l)
     go true p true q c r d s h = unused-again l (eqb-true (length l) 8 p) q
     go true p false q true r true s h = day-good l (eqb-true (length l) 8 p) r s
     go true p false q true r false s h = absurd (false≢true h)

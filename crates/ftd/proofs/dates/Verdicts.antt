@@ -31,7 +31,8 @@ module _ (s : List ℕ) (f : Bool) (q : f ≡ isDate s) where
     unfolding isDate
     date-eight = go (eqb (length s) 8) refl (sym q ∙ e)
       where
-        go : (b : Bool) → eqb (length s) 8 ≡ b → (b && (every isSpace s || (every isDigit s && rightDay (monthOf s) (dayDigits s)))) ≡ true → length s ≡ 8
+        go : (b : Bool) → eqb (length s) 8 ≡ b
+            → (b && (every isSpace s || (every isDigit s && rightDay (monthOf s) (dayDigits s)))) ≡ true → length s ≡ 8
         go true p h = eqb-true (length s) 8 p
         go false p h = absurd (false≢true h)
 
@@ -86,8 +87,10 @@ module _ (v : Date) where
       go (Day y m d) h = refl
 
 pub put-three : (out : List ℕ) → 8 ≤ length out → (y m d : ℕ) (a b c : List ℕ)
-    → a ≡ put out 0 (digitsIn 4 y) → b ≡ put a 4 (digitsIn 2 m) → c ≡ put b 6 (digitsIn 2 d) → c ≡ put out 0 (dateBytes (Day y m d))
+    → a ≡ put out 0 (digitsIn 4 y) → b ≡ put a 4 (digitsIn 2 m) → c ≡ put b 6 (digitsIn 2 d)
+    → c ≡ put out 0 (dateBytes (Day y m d))
 unfolding dateBytes
 put-three out h y m d a b c p q r =
-    r ∙ rw (q, p) (ap (λ (l : List ℕ). put l 6 (digitsIn 2 d)) (put-put out 0 (digitsIn 4 y) (digitsIn 2 m) (omega arith))
+    r ∙ rw (q, p)
+    (ap (λ (l : List ℕ). put l 6 (digitsIn 2 d)) (put-put out 0 (digitsIn 4 y) (digitsIn 2 m) (omega arith))
     ∙ put-put out 0 (digitsIn 4 y ++ digitsIn 2 m) (digitsIn 2 d) (omega arith))

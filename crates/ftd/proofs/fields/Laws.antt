@@ -11,7 +11,8 @@ use lib.Seq.{drop-drop}
 use lib.Dec.{ltb, leb}
 use Rattle.ftd.specs.Bytes.{be16Of, be32Of, Bytes, joined, bytes16, bytes32}
 use Rattle.ftd.specs.Runs.{Form, front, Run, runOf, ended}
-use Rattle.ftd.specs.Fields.{field, fieldsOf, fidOf, bytesOf, fieldWith, Given, givenOf, fieldsWith, contentWith, shaped}
+use Rattle.ftd.specs.Fields.{field, fieldsOf, fidOf, bytesOf, fieldWith, Given, givenOf, fieldsWith, contentWith}
+use Rattle.ftd.specs.Fields.{shaped}
 use Rattle.ftd.specs.Write.{fine, refuse, fieldVerdict}
 use Rattle.ftd.specs.Fields.Laws.{FieldLaws}
 use Rattle.ftd.specs.declared.refusal.Refusal.the-variants.{FieldRun}
@@ -37,13 +38,16 @@ module _ (fid : ℕ) (bytes : List ℕ) where
         some = rw length-field (omega arith);
         stands =
             λ r.
-            front-whole field (fieldWith fid bytes ++ r) (rw (follows r, length-append (fieldWith fid bytes) r, length-field fid bytes) (omega arith))
+            front-whole field (fieldWith fid bytes ++ r)
+            (rw (follows r, length-append (fieldWith fid bytes) r, length-field fid bytes) (omega arith))
             ∙ follows r
             ∙ sym (length-field fid bytes);
       }
 
   pub one-field : runOf field (fieldWith fid bytes) ≡ record { entries = fieldWith fid bytes ∷ []; rest = [] }
-  one-field = ap (runOf field) (sym (append-nil (fieldWith fid bytes))) ∙ run-of field some-field (fieldWith fid bytes ∷ []) (field-entry, tt)
+  one-field =
+      ap (runOf field) (sym (append-nil (fieldWith fid bytes)))
+      ∙ run-of field some-field (fieldWith fid bytes ∷ []) (field-entry, tt)
 
   pub fid-back : fidOf (fieldWith fid bytes) ≡ fid
   unfolding fieldWith
@@ -68,7 +72,8 @@ pub values-back : (gs : List Given) → map givenOf (fieldsOf (contentWith gs)) 
 values-back gs = ap (λ (r : Run). map givenOf (r .entries)) (fields-back gs) ∙ given-back gs
 
 -- Each is a byte.
-pub field-bytes : (fid : ℕ) (bytes : List ℕ) → fid < 4294967296 → length bytes ≤ 65535 → Bytes bytes → Bytes (fieldWith fid bytes)
+pub field-bytes : (fid : ℕ) (bytes : List ℕ) → fid < 4294967296 → length bytes ≤ 65535 → Bytes bytes
+    → Bytes (fieldWith fid bytes)
 unfolding fieldWith
 field-bytes fid bytes f n b zero = omega arith
 field-bytes fid bytes f n b (suc zero) = omega arith
@@ -89,7 +94,8 @@ pub right-bytes : (l r : List ℕ) → Bytes (l ++ r) → Bytes r
 right-bytes [] r b = b
 right-bytes (x ∷ l) r b = right-bytes l r (λ k. b (suc k))
 
-joined-bytes : (ls : List (List ℕ)) (r : List ℕ) → Bytes (joined ls ++ r) → (i : ℕ) → i < length ls → Bytes (getD ls i [])
+joined-bytes : (ls : List (List ℕ)) (r : List ℕ) → Bytes (joined ls ++ r) → (i : ℕ) → i < length ls
+    → Bytes (getD ls i [])
 joined-bytes [] r b i h = absurd (omega arith)
 joined-bytes (l ∷ ls) r b zero h = left-bytes l (joined ls ++ r) (subst Bytes (append-assoc l (joined ls) r) b)
 joined-bytes (l ∷ ls) r b (suc i) h =
@@ -147,25 +153,30 @@ list-again c b e =
 -- ─── What 7 says of a field that is written ───
 
 module _ (fid : ℕ) (bytes : List ℕ) where
-  shape-is : (limit : ℕ) → shaped (fieldWith fid bytes) limit ≡ (leb (6 + length bytes) limit && (leb (6 + length bytes) 4080 && true))
+  shape-is : (limit : ℕ) → shaped (fieldWith fid bytes)
+      limit ≡ (leb (6 + length bytes) limit && (leb (6 + length bytes) 4080 && true))
   unfolding shaped
   shape-is limit = rw (one-field fid bytes, length-field fid bytes)
 
-  pub shape : (limit : ℕ) → (shaped (fieldWith fid bytes) limit ≡ true) ↔ ((length bytes ≤ 4074) × (length bytes + 6 ≤ limit))
+  pub shape : (limit : ℕ) → (shaped (fieldWith fid bytes) limit ≡ true)
+      ↔ ((length bytes ≤ 4074) × (length bytes + 6 ≤ limit))
   shape limit = (
     λ e. go (leb (6 + length bytes) limit) refl (leb (6 + length bytes) 4080) refl (sym (shape-is limit) ∙ e),
     λ h.
         let most = h .0 in
         let room = h .1 in
-        shape-is limit ∙ rw (le-leb (6 + length bytes) limit (omega arith), le-leb (6 + length bytes) 4080 (omega arith)),
+        shape-is limit
+        ∙ rw (le-leb (6 + length bytes) limit (omega arith), le-leb (6 + length bytes) 4080 (omega arith)),
   )
     where
       clash : {A : Type 0} → false ≡ true → A
       clash x = let y : _≡_ {A = ℕ} 0 1 = cc in absurd (omega arith)
 
-      go : (a : Bool) → leb (6 + length bytes) limit ≡ a → (b : Bool) → leb (6 + length bytes) 4080 ≡ b → (a && (b && true)) ≡ true
+      go : (a : Bool) → leb (6 + length bytes) limit ≡ a → (b : Bool) → leb (6 + length bytes) 4080 ≡ b
+          → (a && (b && true)) ≡ true
           → (length bytes ≤ 4074) × (length bytes + 6 ≤ limit)
-      go true p true q e = (omega (arith, leb-true (6 + length bytes) 4080 q), omega (arith, leb-true (6 + length bytes) limit p))
+      go true p true q e =
+          (omega (arith, leb-true (6 + length bytes) 4080 q), omega (arith, leb-true (6 + length bytes) limit p))
       go true p false q e = clash e
       go false p b q e = clash e
 
@@ -173,7 +184,8 @@ module _ (fid : ℕ) (bytes : List ℕ) where
   unfolding fieldVerdict
   verdict = go (ltb 4074 (length bytes)) refl
     where
-      go : (b : Bool) → ltb 4074 (length bytes) ≡ b → cond b (refuse FieldRun) fine ≡ cond (shaped (fieldWith fid bytes) 4080) fine (refuse FieldRun)
+      go : (b : Bool) → ltb 4074 (length bytes) ≡ b
+          → cond b (refuse FieldRun) fine ≡ cond (shaped (fieldWith fid bytes) 4080) fine (refuse FieldRun)
       go true e = rw (shape-is 4080, lt-leb (6 + length bytes) 4080 (omega (arith, ltb-true 4074 (length bytes) e)))
       go false e = rw (shape-is 4080, le-leb (6 + length bytes) 4080 (omega (arith, ltb-false 4074 (length bytes) e)))
 

@@ -22,7 +22,9 @@ module _ (l : List ℕ) (at n : ℕ) (e : n ≡ front field (drop at l)) where
       go false p = rw (not-ended l at (leb-false (length l) at p))
 
   -- A field goes on with the rest, if it is small enough.
-  pub shapely-next : (n ≡ 0 → ⊥) → shapely (runOf field (drop at l)) ≡ (ended (runOf field (drop (at + n) l)) && (leb n 4080 && allSmall (runOf field (drop (at + n) l) .entries)))
+  pub shapely-next : (n ≡ 0 → ⊥) → shapely
+      (runOf field (drop at l)) ≡ (ended (runOf field (drop (at + n) l))
+      && (leb n 4080 && allSmall (runOf field (drop (at + n) l) .entries)))
   shapely-next z = rw (run-next field some-field l at n e z, entry-length field some-field l at n e)
 
   module _ (t : Bool) (inv : shapely (runOf field (drop at l)) ≡ t) where
@@ -30,7 +32,8 @@ module _ (l : List ℕ) (at n : ℕ) (e : n ≡ front field (drop at l)) where
     shape-over z = sym (shapely-over z) ∙ inv
 
     pub shape-long : (n ≡ 0 → ⊥) → 4080 < n → false ≡ t
-    shape-long z h = sym (and-false (ended (runOf field (drop (at + n) l)))) ∙ (rw (shapely-next z, lt-leb n 4080 h) at inv)
+    shape-long z h =
+        sym (and-false (ended (runOf field (drop (at + n) l)))) ∙ (rw (shapely-next z, lt-leb n 4080 h) at inv)
 
     pub shape-turn : (n ≡ 0 → ⊥) → n ≤ 4080 → shapely (runOf field (drop (at + n) l)) ≡ t
     shape-turn z h = rw (shapely-next z, le-leb n 4080 h) at inv

@@ -18,7 +18,8 @@ use Rattle.ftd.specs.Values.{isValue}
 use Rattle.ftd.specs.Items.{wrongWidth, itemGood, itemsGood, isRefused, walkOf, wrongItem}
 use Rattle.ftd.specs.Places.{itemIn, itemOf}
 use Rattle.ftd.specs.Item.{ItemValue, char, valueOf, valueBytes, fits, givenAt, itemValueOf, RowLaws}
-use Rattle.ftd.specs.Item.Fields.{ahead, valuesIn, valuesOf, bytesIn, fieldBytesOf, fitsIn, fieldFits, Accepted, KnownLaws}
+use Rattle.ftd.specs.Item.Fields.{ahead, valuesIn, valuesOf, bytesIn, fieldBytesOf, fitsIn, fieldFits, Accepted}
+use Rattle.ftd.specs.Item.Fields.{KnownLaws}
 use Rattle.ftd.specs.declared.places.ItemPlace.the-variants.{Item as Place}
 use Rattle.ftd.specs.declared.refusal.Refusal.the-variants.{Item}
 use Rattle.ftd.specs.declared.items.Checked.the-variants.{Passed, Refused}

@@ -11,7 +11,8 @@ use lib.ListN.{length, getD, take, drop, length-take}
 use lib.Seq.{getD-take, getD-drop, take-take}
 use lib.Dec.{leb, ltb, eqb}
 use Rattle.ftd.specs.Bytes.{part, Bytes}
-use Rattle.ftd.specs.Table.{charKind, wordKind, intKind, stringKind, numberKind, floatKind, dateKind, firstListed, lastListed, Row, row, table, rowsOf}
+use Rattle.ftd.specs.Table.{charKind, wordKind, intKind, stringKind, numberKind, floatKind, dateKind, firstListed}
+use Rattle.ftd.specs.Table.{lastListed, Row, row, table, rowsOf}
 use Rattle.ftd.specs.Table.Rule.{rowsPlace, rowAt, rightForm}
 use Rattle.ftd.specs.Values.{every, isText, isNumber, isFloat, isSpace, isDate, isValue}
 use Rattle.ftd.specs.Whole.{charFits, charValue, wordValue, intValue}
@@ -19,7 +20,8 @@ use Rattle.ftd.specs.Signed.{signedOf, numberValue, floatValue}
 use Rattle.ftd.specs.Texts.{textValue, textFits}
 use Rattle.ftd.specs.Dates.{dateValue, dateFits}
 use Rattle.ftd.specs.Signed.Write.{numberFits, floatFits}
-use Rattle.ftd.specs.Item.{ItemValue, char, word, int, text, number, float, date, wholeAs, signedAs, dateAs, textAs, typedValue, valueOf, valueBytes, fits, givenAt, itemValueOf, RowLaws, ItemLaws}
+use Rattle.ftd.specs.Item.{ItemValue, char, word, int, text, number, float, date, wholeAs, signedAs, dateAs}
+use Rattle.ftd.specs.Item.{textAs, typedValue, valueOf, valueBytes, fits, givenAt, itemValueOf, RowLaws, ItemLaws}
 use Rattle.ftd.specs.Places.{itemIn, itemOf}
 use Rattle.ftd.specs.declared.places.ItemPlace.the-variants.{Item as Place}
 use Rattle.ftd.specs.declared.item.FieldItem.the-variants.{NoItem, Text}
@@ -49,12 +51,14 @@ there none = false
 there (some v) = true
 
 there-iff : (b : Bool) (o : Option ItemValue) → b ≡ there o → (b ≡ true) ↔ ((v : ItemValue) × (o ≡ some v))
-there-iff b none q = (λ e. absurd (false≢true (sym q ∙ e)), λ s. let z : _≡_ {A = ℕ} 0 1 = cc (s .1) in absurd (omega arith))
+there-iff b none q =
+    (λ e. absurd (false≢true (sym q ∙ e)), λ s. let z : _≡_ {A = ℕ} 0 1 = cc (s .1) in absurd (omega arith))
 there-iff b (some v) q = (λ e. (v, refl), λ s. q)
 
 -- ─── What a value comes from ───
 
-whole-some : (make : ℕ → ItemValue) (o : Whole) (v : ItemValue) → wholeAs make o ≡ some v → (x : ℕ) × (o ≡ Value x) × (v ≡ make x)
+whole-some : (make : ℕ → ItemValue) (o : Whole) (v : ItemValue) → wholeAs make o ≡ some v
+    → (x : ℕ) × (o ≡ Value x) × (v ≡ make x)
 whole-some make NoValue v e = let z : _≡_ {A = ℕ} 0 1 = cc in absurd (omega arith)
 whole-some make (Value x) v e = (x, refl, cc)
 
@@ -72,7 +76,8 @@ whole-there : (make : ℕ → ItemValue) (b : Bool) (x : ℕ) → b ≡ there (w
 whole-there make true x = refl
 whole-there make false x = refl
 
-signed-there : (make : Bool → ℕ → ItemValue) (b : Bool) (l : List ℕ) → b ≡ there (signedAs make (cond b (signedOf l) NoSigned))
+signed-there : (make : Bool → ℕ → ItemValue) (b : Bool) (l : List ℕ)
+    → b ≡ there (signedAs make (cond b (signedOf l) NoSigned))
 unfolding signedOf
 signed-there make false l = refl
 signed-there make true l = go (eqb (getD l 0 0) 45) _ _
@@ -150,7 +155,8 @@ record CharRow (kind scale width : ℕ) : Type 0 where
 module _ (f w s : ℕ) where
   any-row : rightForm (row f charKind w s) ≡ true → CharRow charKind s w
   unfolding isValue typedValue charFits
-  any-row h = record { one = eqb-true w 1 (two (eqb w 1) (eqb s 0) h .0); check = λ l. go (eqb (length l) 1); read = λ l. refl }
+  any-row h =
+      record { one = eqb-true w 1 (two (eqb w 1) (eqb s 0) h .0); check = λ l. go (eqb (length l) 1); read = λ l. refl }
     where
       go : (b : Bool) → b ≡ (b && true)
       go true = refl
@@ -269,17 +275,27 @@ module _ (f k w s : ℕ) (form : rightForm (row f k w s) ≡ true) where
       (text-length w l (text-parts w l (t .1) .0), rw (q, p .0, p .1))
   back (number n x) e =
       let t = two (eqb k numberKind) (numberFits w n x) e in
-      let q : k ≡ numberKind = eqb-true k numberKind (t .0) in
-      (number-length w n x (fits-some w n x (t .1) .0), rw q (ap (signedAs number) (value-laws .numberBack w n x (t .1))))
+      let q : k ≡ numberKind = eqb-true k numberKind (t .0) in (
+        number-length w n x (fits-some w n x (t .1) .0),
+        rw q
+            (ap (signedAs number) (value-laws .numberBack w n x (t .1))),
+      )
   back (float n x) e =
       let t = two (eqb k floatKind) (floatFits s w n x) e in
-      let q : k ≡ floatKind = eqb-true k floatKind (t .0) in
-      (float-length s w n x (float-fits s w n x (t .1) .0), rw q (ap (signedAs float) (value-laws .floatBack s w n x (t .1))))
+      let q : k ≡ floatKind = eqb-true k floatKind (t .0) in (
+        float-length s w n x (float-fits s w n x (t .1) .0),
+        rw q
+            (ap (signedAs float) (value-laws .floatBack s w n x (t .1))),
+      )
   back (date d) e =
       let t = two (eqb k dateKind) (dateFits d) e in
       let q : k ≡ dateKind = eqb-true k dateKind (t .0) in
-      let h : (eqb w 8 && eqb s 0) ≡ true = rw q at form in
-      (date-wide d true (sym (t .1)) refl ∙ sym (eqb-true w 8 (two (eqb w 8) (eqb s 0) h .0)), rw q (ap dateAs (value-laws .dateBack d (t .1)) ∙ date-as d (t .1)))
+      let h : (eqb w 8 && eqb s 0) ≡ true = rw q at form in (
+        date-wide d true (sym (t .1)) refl
+            ∙ sym (eqb-true w 8 (two (eqb w 8) (eqb s 0) h .0)),
+        rw q
+            (ap dateAs (value-laws .dateBack d (t .1)) ∙ date-as d (t .1)),
+      )
 
 -- ─── Every row ───
 
@@ -293,7 +309,8 @@ module _ (r : Row) (l : List ℕ) where
   unfolding valueOf
   value-wide v e = go (eqb (length l) (r .width)) refl e
     where
-      go : (b : Bool) → eqb (length l) (r .width) ≡ b → cond b (typedValue (r .kind) (r .scale) l) none ≡ some v → length l ≡ r .width
+      go : (b : Bool) → eqb (length l) (r .width) ≡ b → cond b (typedValue (r .kind) (r .scale) l) none ≡ some v
+          → length l ≡ r .width
       go true p e = eqb-true (length l) (r .width) p
       go false p e = let z : _≡_ {A = ℕ} 0 1 = cc in absurd (omega arith)
 
@@ -301,7 +318,8 @@ module _ (f k w s : ℕ) (form : rightForm (row f k w s) ≡ true) (shows : Show
   typed-laws : RowLaws (row f k w s)
   typed-laws =
       let r : Row = row f k w s in
-      let check : (l : List ℕ) → length l ≡ w → isValue k s l ≡ there (valueOf r l) = λ l n. rw (wide-value r l n) (shows l n) in
+      let check : (l : List ℕ) → length l ≡ w → isValue k s l ≡ there (valueOf r l) =
+      λ l n. rw (wide-value r l n) (shows l n) in
       record {
         accepted = λ l b n. there-iff (isValue k s l) (valueOf r l) (check l n);
         again = λ l b v e. let n = value-wide r l v e in again l b n v (sym (wide-value r l n) ∙ e);
@@ -321,17 +339,21 @@ row-laws f (suc zero) w s h = typed-laws f wordKind w s h (word-shows s w) (word
 row-laws f (suc (suc zero)) w s h = typed-laws f intKind w s h (int-shows s w) (int-again f w s)
 row-laws f (suc (suc (suc zero))) w s h = typed-laws f stringKind w s h (text-shows s w) (text-again f w s)
 row-laws f (suc (suc (suc (suc zero)))) w s h =
-    typed-laws f numberKind w s h (number-shows s w (leb-true w 18 (two (leb w 18) (eqb s 0) (two (leb 1 w) _ h .1) .0))) (number-again f w s)
+    typed-laws f numberKind w s h
+    (number-shows s w (leb-true w 18 (two (leb w 18) (eqb s 0) (two (leb 1 w) _ h .1) .0))) (number-again f w s)
 row-laws f (suc (suc (suc (suc (suc zero))))) w s h =
-    typed-laws f floatKind w s h (float-shows s w (leb-true w 18 (two (leb (s + 2) w) (leb w 18) (two (leb 1 s) _ h .1) .1))) (float-again f w s)
-row-laws f (suc (suc (suc (suc (suc (suc zero)))))) w s h = typed-laws f dateKind w s h (date-shows s w) (date-again f w s)
+    typed-laws f floatKind w s h
+    (float-shows s w (leb-true w 18 (two (leb (s + 2) w) (leb w 18) (two (leb 1 s) _ h .1) .1))) (float-again f w s)
+row-laws f (suc (suc (suc (suc (suc (suc zero)))))) w s h =
+    typed-laws f dateKind w s h (date-shows s w) (date-again f w s)
 row-laws f (suc (suc (suc (suc (suc (suc (suc k))))))) w s h = char-laws f _ w s h (listed-row f w s _ (omega arith) h)
 
 -- ─── The items of a field ───
 
 -- The row of an item is one of the field's.
 row-found : (l : List Row) (at i kind scale start width : ℕ) → itemIn at l i ≡ Place kind scale start width
-    → (i < length l) × (kind ≡ getD l i (row 0 0 0 0) .kind) × (scale ≡ getD l i (row 0 0 0 0) .scale) × (width ≡ getD l i (row 0 0 0 0) .width)
+    → (i < length l) × (kind ≡ getD l i (row 0 0 0 0) .kind) × (scale ≡ getD l i (row 0 0 0 0) .scale)
+    × (width ≡ getD l i (row 0 0 0 0) .width)
 row-found [] at i kind scale start width e = let z : _≡_ {A = ℕ} 0 1 = cc in absurd (omega arith)
 row-found (r ∷ rs) at zero kind scale start width e = (omega arith, cc, cc, cc)
 row-found (r ∷ rs) at (suc i) kind scale start width e =
@@ -378,30 +400,38 @@ given-text start (some (date d)) at len e = let z : _≡_ {A = ℕ} 0 1 = cc in 
 typed-text : (kind scale : ℕ) (l t : List ℕ) → typedValue kind scale l ≡ some (text t)
     → (n : ℕ) × (textValue l ≡ TextValue n) × (take n l ≡ t)
 unfolding typedValue
-typed-text kind scale l t e = go (eqb kind wordKind) (eqb kind intKind) (eqb kind stringKind) (eqb kind numberKind) (eqb kind floatKind) (eqb kind dateKind) e
+typed-text kind scale l t e =
+    go (eqb kind wordKind) (eqb kind intKind) (eqb kind stringKind) (eqb kind numberKind) (eqb kind floatKind)
+    (eqb kind dateKind) e
   where
     whole : (make : ℕ → ItemValue) → ((x : ℕ) → make x ≡ text t → ⊥) → (o : Whole) → wholeAs make o ≡ some (text t) → ⊥
     whole make n o e = let s = whole-some make o (text t) e in n (s .0) (sym (s .2))
 
-    signed : (make : Bool → ℕ → ItemValue) → ((b : Bool) (x : ℕ) → make b x ≡ text t → ⊥) → (o : Signed) → signedAs make o ≡ some (text t) → ⊥
+    signed : (make : Bool → ℕ → ItemValue) → ((b : Bool) (x : ℕ) → make b x ≡ text t → ⊥) → (o : Signed)
+        → signedAs make o ≡ some (text t) → ⊥
     signed make n o e = let s = signed-some make o (text t) e in n (s .0) (s .1) (sym (s .3))
 
     go : (a b c d f g : Bool)
         → cond a (wholeAs word (wordValue l)) (cond b (wholeAs int (intValue l)) (cond c (textAs l (textValue l))
-        (cond d (signedAs number (numberValue l)) (cond f (signedAs float (floatValue scale l)) (cond g (dateAs (dateValue l)) (wholeAs char (charValue kind l)))))))
+        (cond d (signedAs number (numberValue l))
+        (cond f (signedAs float (floatValue scale l))
+        (cond g (dateAs (dateValue l)) (wholeAs char (charValue kind l)))))))
         ≡ some (text t) → (n : ℕ) × (textValue l ≡ TextValue n) × (take n l ≡ t)
     go true b c d f g e = absurd (whole word (λ y q. let z : _≡_ {A = ℕ} 0 1 = cc in omega arith) (wordValue l) e)
     go false true c d f g e = absurd (whole int (λ y q. let z : _≡_ {A = ℕ} 0 1 = cc in omega arith) (intValue l) e)
     go false false true d f g e =
         let s = text-some l (textValue l) (text t) e in
         (s .0, s .1, cc (s .2))
-    go false false false true f g e = absurd (signed number (λ n y q. let z : _≡_ {A = ℕ} 0 1 = cc in omega arith) (numberValue l) e)
-    go false false false false true g e = absurd (signed float (λ n y q. let z : _≡_ {A = ℕ} 0 1 = cc in omega arith) (floatValue scale l) e)
+    go false false false true f g e =
+        absurd (signed number (λ n y q. let z : _≡_ {A = ℕ} 0 1 = cc in omega arith) (numberValue l) e)
+    go false false false false true g e =
+        absurd (signed float (λ n y q. let z : _≡_ {A = ℕ} 0 1 = cc in omega arith) (floatValue scale l) e)
     go false false false false false true e =
         let s = date-some (dateValue l) (text t) e in
         let z : _≡_ {A = ℕ} 0 1 = cc (s .1) in
         absurd (omega arith)
-    go false false false false false false e = absurd (whole char (λ y q. let z : _≡_ {A = ℕ} 0 1 = cc in omega arith) (charValue kind l) e)
+    go false false false false false false e =
+        absurd (whole char (λ y q. let z : _≡_ {A = ℕ} 0 1 = cc in omega arith) (charValue kind l) e)
 
 -- It stands at the front of its item.
 text-front : (r : Row) (l t : List ℕ) → valueOf r l ≡ some (text t) → take (length t) l ≡ t
@@ -411,7 +441,8 @@ text-front r l t e =
     let m : length t ≡ x = ap length (sym p) ∙ text-inside l x q in
     rw m p
 
-front-part : (bytes : List ℕ) (start width at len : ℕ) (t : List ℕ) → start ≡ at → length t ≡ len → take (length t) (part bytes start width) ≡ t
+front-part : (bytes : List ℕ) (start width at len : ℕ) (t : List ℕ) → start ≡ at → length t ≡ len
+    → take (length t) (part bytes start width) ≡ t
     → t ≡ part bytes at len
 front-part bytes start width at len t s n f =
     let m : length (part bytes start width) ≤ width = rw length-take (omega arith) in
@@ -424,7 +455,8 @@ text-place : (fid i kind scale start width : ℕ) → itemOf fid i ≡ Place kin
 unfolding itemValueOf
 text-place fid i kind scale start width e bytes at len h = go (leb (start + width) (length bytes)) (rw e at h)
   where
-    go : (b : Bool) → cond b (givenAt start (valueOf (row fid kind width scale) (part bytes start width))) NoItem ≡ Text at len
+    go : (b : Bool) → cond b (givenAt start (valueOf (row fid kind width scale) (part bytes start width)))
+        NoItem ≡ Text at len
         → valueOf (row fid kind width scale) (part bytes start width) ≡ some (text (part bytes at len))
     go true h =
         let r : Row = row fid kind width scale in
@@ -436,7 +468,9 @@ text-place fid i kind scale start width e bytes at len h = go (leb (start + widt
 pub item-laws : ItemLaws
 item-laws =
     record {
-      each = λ i h. row-laws (rowAt i .fid) (rowAt i .kind) (rowAt i .width) (rowAt i .scale) (table-rule .each i (rw row-count at h) .form);
+      each =
+          λ i h. row-laws (rowAt i .fid) (rowAt i .kind) (rowAt i .width) (rowAt i .scale)
+          (table-rule .each i (rw row-count at h) .form);
       placed = found-laws;
       texts = text-place;
     }

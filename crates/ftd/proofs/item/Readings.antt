@@ -18,7 +18,8 @@ use Rattle.ftd.specs.Item.{char, wholeAs, typedValue, givenAt, itemValue
 use Rattle.ftd.specs.declared.places.ItemPlace.{ItemPlace}
 use Rattle.ftd.specs.declared.places.ItemPlace.the-variants.{NoItem as NoPlace, Item as Place}
 use Rattle.ftd.specs.declared.item.FieldItem.{FieldItem}
-use Rattle.ftd.specs.declared.item.FieldItem.the-variants.{NoItem, NoValue, Char, Word, Int, Text, Number, Float, Date}
+use Rattle.ftd.specs.declared.item.FieldItem.the-variants.{NoItem, NoValue, Char, Word, Int, Text, Number, Float}
+use Rattle.ftd.specs.declared.item.FieldItem.the-variants.{Date}
 use Rattle.ftd.specs.declared.signed.Signed.{Signed}
 use Rattle.ftd.specs.declared.signed.Signed.the-variants.{NoValue as NoSigned, Value as SignedValue}
 use Rattle.ftd.specs.declared.texts.Text.{Text as StringValue}
@@ -139,10 +140,17 @@ module _ (l : List ℕ) (fid i : ℕ) (p : ItemPlace) (q : p ≡ itemOf fid i) w
       pub place-short : length l - start < width → NoItem ≡ itemValueOf fid i l
       place-short h = absent (omega arith)
 
-      pub place-read : width ≤ length l - start → (r : FieldItem) → r ≡ givenAt start (typedValue kind scale (take (start + width - start) (drop start l)))
+      pub place-read : width ≤ length l - start → (r : FieldItem)
+          → r ≡ givenAt start (typedValue kind scale (take (start + width - start) (drop start l)))
           → r ≡ itemValueOf fid i l
       unfolding itemValueOf
       place-read h r g =
           let n : length (part l start width) ≡ width = rw (length-take, length-drop) (omega arith) in
-          rw (← q, e, le-leb (start + width) (length l) (omega arith), wide-value (row fid kind width scale) (part l start width) n)
+          rw (
+            ← q,
+            e,
+            le-leb (start + width) (length l) (omega arith),
+            wide-value (row fid kind width scale)
+                (part l start width) n,
+          )
           (rw add-sub-cancel-left at g)

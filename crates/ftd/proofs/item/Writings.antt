@@ -14,11 +14,13 @@ use Rattle.ftd.specs.Whole.{charFits}
 use Rattle.ftd.specs.Texts.{textBytes, textFits}
 use Rattle.ftd.specs.Dates.{dateBytes, dateFits}
 use Rattle.ftd.specs.Places.{itemOf}
-use Rattle.ftd.specs.Item.{ItemValue, char, word, int, text, number, float, date, valueBytes, fits, takenAs, ofKind, fitsAt, itemFits, itemWritten}
+use Rattle.ftd.specs.Item.{ItemValue, char, word, int, text, number, float, date, valueBytes, fits, takenAs}
+use Rattle.ftd.specs.Item.{ofKind, fitsAt, itemFits, itemWritten}
 use Rattle.ftd.specs.declared.places.ItemPlace.{ItemPlace}
 use Rattle.ftd.specs.declared.places.ItemPlace.the-variants.{NoItem as NoPlace, Item as Place}
 use Rattle.ftd.specs.declared.item.FieldItem.{FieldItem}
-use Rattle.ftd.specs.declared.item.FieldItem.the-variants.{NoItem, NoValue, Char, Word, Int, Text, Number, Float, Date}
+use Rattle.ftd.specs.declared.item.FieldItem.the-variants.{NoItem, NoValue, Char, Word, Int, Text, Number, Float}
+use Rattle.ftd.specs.declared.item.FieldItem.the-variants.{Date}
 use Rattle.ftd.specs.declared.dates.Date.{Date as DateValue}
 use Rattle.ftd.specs.declared.refusal.Refusal.the-variants.{Item}
 use Rattle.ftd.specs.declared.write.Written.{Written}
@@ -78,29 +80,34 @@ module _ (fid i : ℕ) (v : FieldItem) (t out : List ℕ) (p : ItemPlace) (q : p
         unfolding itemFits itemWritten
         taken w b g h r = rw (← q, e, g, h) r
 
-        pub char-taken : {b : ℕ} → v ≡ Char b → b < 256 → Wrote (charFits kind b) (b ∷ []) out a new → ItemWrote fid i v t out a new
+        pub char-taken : {b : ℕ} → v ≡ Char b → b < 256 → Wrote (charFits kind b) (b ∷ []) out a new
+            → ItemWrote fid i v t out a new
         unfolding fits valueBytes
         char-taken {b} g h r = taken (char b) (charFits kind b) (rw g) (rw (lt-ltb b 256 h)) r
 
-        pub word-taken : {x : ℕ} → v ≡ Word x → x < 65536 → Wrote true (bytes16 x) out a new → ItemWrote fid i v t out a new
+        pub word-taken : {x : ℕ} → v ≡ Word x → x < 65536 → Wrote true (bytes16 x) out a new
+            → ItemWrote fid i v t out a new
         unfolding fits valueBytes
         word-taken {x} g h r =
             let z : eqb kind wordKind ≡ true = rw g at (sym k ∙ y) in
             taken (word x) true (rw g) (rw (z, lt-ltb x 65536 h)) r
 
-        pub int-taken : {x : ℕ} → v ≡ Int x → x < 4294967296 → Wrote true (bytes32 x) out a new → ItemWrote fid i v t out a new
+        pub int-taken : {x : ℕ} → v ≡ Int x → x < 4294967296 → Wrote true (bytes32 x) out a new
+            → ItemWrote fid i v t out a new
         unfolding fits valueBytes
         int-taken {x} g h r =
             let z : eqb kind intKind ≡ true = rw g at (sym k ∙ y) in
             taken (int x) true (rw g) (rw (z, lt-ltb x 4294967296 h)) r
 
-        pub text-taken : {at len : ℕ} → v ≡ Text at len → Wrote (textFits width t) (textBytes width t) out a new → ItemWrote fid i v t out a new
+        pub text-taken : {at len : ℕ} → v ≡ Text at len → Wrote (textFits width t) (textBytes width t) out a new
+            → ItemWrote fid i v t out a new
         unfolding fits valueBytes
         text-taken g r =
             let z : eqb kind stringKind ≡ true = rw g at (sym k ∙ y) in
             taken (text t) (textFits width t) (rw g) (rw z) r
 
-        pub number-taken : {n : Bool} {x : ℕ} → v ≡ Number n x → Wrote (numberFits width n x) (numberBytes width n x) out a new
+        pub number-taken : {n : Bool} {x : ℕ} → v ≡ Number n x
+            → Wrote (numberFits width n x) (numberBytes width n x) out a new
             → ItemWrote fid i v t out a new
         unfolding fits valueBytes
         number-taken {n} {x} g r =
@@ -114,7 +121,8 @@ module _ (fid i : ℕ) (v : FieldItem) (t out : List ℕ) (p : ItemPlace) (q : p
             let z : eqb kind floatKind ≡ true = rw g at (sym k ∙ y) in
             taken (float n x) (floatFits scale width n x) (rw g) (rw z) r
 
-        pub date-taken : {d : DateValue} → v ≡ Date d → Wrote (dateFits d) (dateBytes d) out a new → ItemWrote fid i v t out a new
+        pub date-taken : {d : DateValue} → v ≡ Date d → Wrote (dateFits d) (dateBytes d) out a new
+            → ItemWrote fid i v t out a new
         unfolding fits valueBytes
         date-taken {d} g r =
             let z : eqb kind dateKind ≡ true = rw g at (sym k ∙ y) in

@@ -33,7 +33,8 @@ module _ (fid len : ℕ) where
     pub width-empty : count ≡ 0 → false ≡ otherWidth fid len
     width-empty z = rw (rows-length fid, ← e, ← q, z)
 
-    pub width-known : (count ≡ 0 → ⊥) → (j wide : ℕ) → j ≡ fid → wide ≡ rowsPlace j .wide → not (eqb len wide) ≡ otherWidth fid len
+    pub width-known : (count ≡ 0 → ⊥) → (j wide : ℕ) → j ≡ fid → wide ≡ rowsPlace j .wide
+        → not (eqb len wide) ≡ otherWidth fid len
     width-known z j wide f w =
         rw (rows-length fid, table-rule .field fid .sum, ← f, ← w, f, ← e, ← q, lt-ltb 0 count (omega arith))
 
@@ -45,7 +46,13 @@ module _ (l : List ℕ) (at n : ℕ) (e : n ≡ front field (drop at l)) where
     module _ (z : n ≡ 0 → ⊥) (fid : ℕ) (f : fid ≡ be32Of l at) (r : Bool) (q : r ≡ otherWidth fid (n - 6)) where
       step : (r || anyOther (runOf field (drop (at + n) l) .entries)) ≡ t
       step =
-          rw q (rw (run-next field some-field l at n e z, be32-entry l at n (field-head l at n e z), length-drop, entry-length field some-field l at n e, ← f) at inv)
+          rw q (rw (
+            run-next field some-field l at n e z,
+            be32-entry l at n (field-head l at n e z),
+            length-drop,
+            entry-length field some-field l at n e,
+            ← f,
+          ) at inv)
 
       pub widths-here : r ≡ true → true ≡ t
       widths-here w = rw w at step
@@ -59,7 +66,8 @@ module _ (l : List ℕ) (at n : ℕ) (e : n ≡ front field (drop at l)) where
 take-part : (p n to : ℕ) (l : List ℕ) → p + n ≤ to → take n (drop p (take to l)) ≡ take n (drop p l)
 take-part p n to l h = rw drop-part (take-take n (to - p) (drop p l) (omega arith))
 
-module _ (r : Row) (l : List ℕ) (pos end : ℕ) (order : pos ≤ end) (fits : end ≤ length l) (width : ℕ) (w : width ≡ r .width) where
+module _ (r : Row) (l : List ℕ) (pos end : ℕ) (order : pos ≤ end) (fits : end ≤ length l) (width : ℕ)
+    (w : width ≡ r .width) where
   left : length (drop pos (take end l)) ≡ end - pos
   left = simp (length-drop, length-take) (omega arith)
 
@@ -67,7 +75,8 @@ module _ (r : Row) (l : List ℕ) (pos end : ℕ) (order : pos ≤ end) (fits : 
   item-short h = rw (left, ← w, lt-leb width (end - pos) h)
 
   pub item-there : width ≤ end - pos → (kind scale : ℕ) → kind ≡ r .kind → scale ≡ r .scale
-      → (v : Bool) → v ≡ isValue kind scale (take (pos + width - pos) (drop pos l)) → v ≡ itemGood r (drop pos (take end l))
+      → (v : Bool) → v ≡ isValue kind scale (take (pos + width - pos) (drop pos l))
+      → v ≡ itemGood r (drop pos (take end l))
   item-there h kind scale k s v q =
       let d : pos + width - pos ≡ width = omega arith in
       rw (left, ← w, le-leb width (end - pos) h, take-part pos width end l (omega arith), ← k, ← s) (rw d at q)
@@ -79,22 +88,26 @@ module _ (l : List ℕ) (i last pos end : ℕ) (more t : Checked)
   items-end h = rw (rows-over i last h) at inv
 
   module _ (h : i < last) (inside : last ≤ 379) (g : Bool) (q : g ≡ itemGood (rowAt i) (drop pos (take end l))) where
-    next : cond (g && itemsGood (take (last - (i + 1)) (drop (i + 1) table)) (drop (pos + rowAt i .width) (take end l))) more (Refused Item) ≡ t
+    next : cond (g && itemsGood (take (last - (i + 1)) (drop (i + 1) table)) (drop (pos + rowAt i .width) (take end l)))
+        more (Refused Item) ≡ t
     next = rw (q, ← (drop-drop (rowAt i .width) pos (take end l))) (rw (rows-next i last h inside) at inv)
 
     pub items-wrong : g ≡ false → Refused Item ≡ t
     items-wrong w = rw w at next
 
     pub items-turn : g ≡ true → (width : ℕ) → width ≡ rowAt i .width
-        → cond (itemsGood (take (last - (i + 1)) (drop (i + 1) table)) (drop (pos + width) (take end l))) more (Refused Item) ≡ t
+        → cond (itemsGood (take (last - (i + 1)) (drop (i + 1) table)) (drop (pos + width) (take end l))) more
+        (Refused Item) ≡ t
     items-turn w width e = rw e (rw w at next)
 
-module _ (l : List ℕ) (at n : ℕ) (e : n ≡ front field (drop at l)) (t : Checked) (inv : walkFields (runOf field (drop at l) .entries) ≡ t) where
+module _ (l : List ℕ) (at n : ℕ) (e : n ≡ front field (drop at l)) (t : Checked)
+    (inv : walkFields (runOf field (drop at l) .entries) ≡ t) where
   pub walk-over : n ≡ 0 → Passed ≡ t
   walk-over z = rw (run-over field some-field l at n e z) at inv
 
   module _ (z : n ≡ 0 → ⊥) (fid : ℕ) (f : fid ≡ be32Of l at) where
-    here : cond (itemsGood (rowsOf fid) (drop (at + 6) (take (at + n) l))) (walkFields (runOf field (drop (at + n) l) .entries)) (Refused Item) ≡ t
+    here : cond (itemsGood (rowsOf fid) (drop (at + 6) (take (at + n) l)))
+        (walkFields (runOf field (drop (at + n) l) .entries)) (Refused Item) ≡ t
     here =
         let d : at + n - at ≡ n = omega arith in
         rw (f, ← (drop-drop 6 at (take (at + n) l)), drop-part at (at + n) l, d)
@@ -103,7 +116,8 @@ module _ (l : List ℕ) (at n : ℕ) (e : n ≡ front field (drop at l)) (t : Ch
     pub walk-unknown : 46 < fid → walkFields (runOf field (drop (at + n) l) .entries) ≡ t
     walk-unknown h = rw (rows-none fid h) at here
 
-    pub walk-items : (i start : ℕ) → i ≡ fid → start ≡ rowsPlace i .start → (j last : ℕ) → j ≡ fid → last ≡ rowsPlace j .start + rowsPlace j .count
+    pub walk-items : (i start : ℕ) → i ≡ fid → start ≡ rowsPlace i .start → (j last : ℕ) → j ≡ fid
+        → last ≡ rowsPlace j .start + rowsPlace j .count
         → cond (itemsGood (take (last - start) (drop start table)) (drop (at + 6) (take (at + n) l)))
         (walkFields (runOf field (drop (at + n) l) .entries)) (Refused Item) ≡ t
     walk-items i start a p j last b q = rw (rows-from fid i start a p j last b q) at here

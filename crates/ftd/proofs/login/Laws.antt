@@ -1,5 +1,5 @@
--- A login packet or its answer is one message packet, read back with header, trade date and content; and a writer that is not refused writes
--- content that has shape. Assumes nothing.
+-- A login packet or its answer is one message packet, read back with header, trade date and content; and a writer that
+-- is not refused writes content that has shape. Assumes nothing.
 use Prim.Native.Nat.{ℕ, _+_}
 use mathlib.Core.Path.{_≡_, refl, _∙_}
 use mathlib.Core.List.{List, [], _++_, append-nil}
@@ -24,7 +24,8 @@ use Rattle.ftd.proofs.chain.Laws.{date-good, date-back}
 use Rattle.ftd.proofs.chain.Singles.{exact-shaped}
 use Rattle.ftd.proofs.resume.Content.{start-shaped}
 
-pub login-content : (d : TradeDate) (c : List ℕ) → part (loginBytes d c) (4 + length (extensionBytes (tagsFor d)) + 16) (length c) ≡ c
+pub login-content : (d : TradeDate) (c : List ℕ)
+    → part (loginBytes d c) (4 + length (extensionBytes (tagsFor d)) + 16) (length c) ≡ c
 unfolding loginBytes
 login-content d c = rw append-nil at (message-places (loginHeader c) (extensionBytes (tagsFor d)) c [] .1)
 
@@ -41,11 +42,14 @@ module _ (d : TradeDate) (c : List ℕ) (h : shaped c 4080 ≡ true) where
       )
 
   pub login-back : datedOf (loginBytes d c) ≡ record {
-    packet = Message (loginHeader c) (span 4 (length (extensionBytes (tagsFor d)))) (span (4 + length (extensionBytes (tagsFor d)) + 16) (length c));
+    packet =
+        Message (loginHeader c) (span 4 (length (extensionBytes (tagsFor d))))
+        (span (4 + length (extensionBytes (tagsFor d)) + 16) (length c));
     date = d;
   }
   unfolding loginBytes
-  login-back = (rw append-nil at (dated-back (loginHeader c) (extensionBytes (tagsFor d)) c [] login-fine)) ∙ rw (date-back d)
+  login-back =
+      (rw append-nil at (dated-back (loginHeader c) (extensionBytes (tagsFor d)) c [] login-fine)) ∙ rw (date-back d)
 
   login-both : (notOnePacket (loginBytes d c) ≡ false) × (noMessagePacket (loginBytes d c) ≡ false)
   unfolding loginBytes
@@ -63,7 +67,8 @@ by-fine : (b : Bool) → cond b fine (refuse FieldRun) ≡ fine → b ≡ true
 by-fine true e = refl
 by-fine false e = let z : _≡_ {A = ℕ} 0 1 = cc in absurd (omega arith)
 
-pub fine-shaped : (c : List ℕ) (ending : Ending) → loginVerdict c ending ≡ fine → shaped (c ++ endingBytes ending) 4080 ≡ true
+pub fine-shaped : (c : List ℕ) (ending : Ending) → loginVerdict c ending ≡ fine
+    → shaped (c ++ endingBytes ending) 4080 ≡ true
 unfolding loginVerdict
 fine-shaped c Nothing e = rw append-nil (by-fine (shaped c 4080) e)
 fine-shaped c (Resume series number) e = start-shaped c series number 4068 (by-fine (shaped c 4068) e)
@@ -71,4 +76,5 @@ fine-shaped c (Resume series number) e = start-shaped c series number 4068 (by-f
 -- ─── All of it ───
 
 pub login-laws : LoginLaws
-login-laws = record { back = login-back; content-back = login-content; one-packet = login-both; fine-shaped = fine-shaped }
+login-laws =
+    record { back = login-back; content-back = login-content; one-packet = login-both; fine-shaped = fine-shaped }

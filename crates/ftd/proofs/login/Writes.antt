@@ -33,20 +33,30 @@ regroup : (f x n c e : List ℕ) → (((f ++ x) ++ n) ++ c) ++ e ≡ f ++ (x ++ 
 regroup f x n c e = simp append-assoc
 
 -- A message whose content is put in two parts.
-parts-put : (l o1 o2 o3 o4 : List ℕ) (to : ℕ) (h : Header) (extension content more : List ℕ) → to + 4 + length extension ≤ length l
-    → o1 ≡ put (put l to (frameHead 1 (length extension) (16 + (length content + length more)))) (to + 4 + length extension)
+parts-put : (l o1 o2 o3 o4 : List ℕ) (to : ℕ) (h : Header) (extension content more : List ℕ)
+    → to + 4 + length extension ≤ length l
+    → o1 ≡ put (put l to (frameHead 1 (length extension) (16 + (length content + length more))))
+    (to + 4 + length extension)
     (headerBytes h (length content + length more))
     → o2 ≡ put o1 (to + 4) extension → o3 ≡ put o2 (to + 4 + length extension + 16) content
-    → o4 ≡ put o3 (to + 4 + length extension + 16 + length content) more → o4 ≡ put l to (messageBytes h extension (content ++ more))
+    → o4 ≡ put o3 (to + 4 + length extension + 16 + length content) more
+    → o4 ≡ put l to (messageBytes h extension (content ++ more))
 unfolding messageBytes packetBytes
 parts-put l o1 o2 o3 o4 to h extension content more room b1 b2 b3 b4 =
     let s : length (content ++ more) ≡ length content + length more = length-append content more in
     let n : List ℕ = headerBytes h (length content + length more) in
-    let e : length (n ++ (content ++ more)) ≡ 16 + (length content + length more) = rw (length-append n (content ++ more), length-header, s) in
+    let e : length (n ++ (content ++ more)) ≡ 16 + (length content + length more) =
+    rw (length-append n (content ++ more), length-header, s) in
     let f : List ℕ = frameHead 1 (length extension) (16 + (length content + length more)) in
     rw (s, e)
-    ((then l o3 o4 to (to + 4 + length extension + 16 + length content) (((f ++ extension) ++ n) ++ content) more (omega arith)
-    (rw (length-append ((f ++ extension) ++ n) content, length-append (f ++ extension) n, length-append f extension, length-header) (omega arith))
+    ((then l o3 o4 to (to + 4 + length extension + 16 + length content) (((f ++ extension) ++ n) ++ content) more
+    (omega arith)
+    (rw (
+      length-append ((f ++ extension) ++ n) content,
+      length-append (f ++ extension) n,
+      length-append f extension,
+      length-header,
+    ) (omega arith))
     (then l o2 o3 to (to + 4 + length extension + 16) ((f ++ extension) ++ n) content (omega arith)
     (rw (length-append (f ++ extension) n, length-append f extension, length-header) (omega arith))
     (between-put l o1 o2 to (to + 4) f extension n room refl b1 b2) b3) b4)
@@ -54,10 +64,12 @@ parts-put l o1 o2 o3 o4 to h extension content more room b1 b2 b3 b4 =
 
 -- The login packet, put in four.
 module _ (l o1 o2 o3 o4 : List ℕ) (d : TradeDate) (content : List ℕ) (ending : Ending) (tags tail fields : ℕ) where
-  pub login-put : tags ≡ length (extensionBytes (tagsFor d)) → tail ≡ length (endingBytes ending) → fields ≡ length (fieldsOf (content ++ endingBytes ending))
+  pub login-put : tags ≡ length (extensionBytes (tagsFor d)) → tail ≡ length (endingBytes ending)
+      → fields ≡ length (fieldsOf (content ++ endingBytes ending))
       → fields < 65536 → 4 + tags ≤ length l
       → o1 ≡ put (put l 0 (frameHead 1 tags (16 + (length content + tail)))) (4 + tags)
-      (headerBytes (record { tid = loginTid; chain = Single; series = 0; number = 0; fields = fields % 65536 }) (length content + tail))
+      (headerBytes (record { tid = loginTid; chain = Single; series = 0; number = 0; fields = fields % 65536 })
+      (length content + tail))
       → o2 ≡ put o1 4 (extensionBytes (tagsFor d)) → o3 ≡ put o2 (4 + tags + 16) content
       → o4 ≡ put o3 (4 + tags + 16 + length content) (endingBytes ending)
       → o4 ≡ put l 0 (loginBytes d (content ++ endingBytes ending))
@@ -65,10 +77,19 @@ module _ (l o1 o2 o3 o4 : List ℕ) (d : TradeDate) (content : List ℕ) (ending
   login-put t e f small room b1 b2 b3 b4 =
       let k : fields % 65536 ≡ length (fieldsOf (content ++ endingBytes ending)) = omega arith in
       parts-put l o1 o2 o3 o4 0
-      (record { tid = loginTid; chain = Single; series = 0; number = 0; fields = length (fieldsOf (content ++ endingBytes ending)) })
-      (extensionBytes (tagsFor d)) content (endingBytes ending) (rw t at room) (rw (t, e, k) at b1) b2 (rw t at b3) (rw t at b4)
+      (record {
+        tid = loginTid;
+        chain = Single;
+        series = 0;
+        number = 0;
+        fields = length
+            (fieldsOf (content ++ endingBytes ending));
+      })
+      (extensionBytes (tagsFor d)) content (endingBytes ending) (rw t at room) (rw (t, e, k) at b1) b2 (rw t at b3)
+      (rw t at b4)
 
-pub login-size : (d : TradeDate) (content : List ℕ) (ending : Ending) (tags tail : ℕ) → tags ≡ length (extensionBytes (tagsFor d)) → tail ≡ length (endingBytes ending)
+pub login-size : (d : TradeDate) (content : List ℕ) (ending : Ending) (tags tail : ℕ)
+    → tags ≡ length (extensionBytes (tagsFor d)) → tail ≡ length (endingBytes ending)
     → length (loginBytes d (content ++ endingBytes ending)) ≡ 4 + tags + (16 + (length content + tail))
 unfolding loginBytes
 login-size d content ending tags tail p q = rw (length-message, length-append content (endingBytes ending), p, q)
@@ -84,20 +105,24 @@ unfolding runOf
 one-field series number = sym (ap (λ (r : Run). length (r .entries)) (behind [] series number refl))
 
 fields-more : (content : List ℕ) (ending : Ending) → ended (runOf field content) ≡ true
-    → length (fieldsOf content) + length (fieldsOf (endingBytes ending)) ≡ length (fieldsOf (content ++ endingBytes ending))
+    → length (fieldsOf content) + length (fieldsOf (endingBytes ending)) ≡ length
+    (fieldsOf (content ++ endingBytes ending))
 fields-more content Nothing whole = rw (append-nil content, ← no-fields) (omega arith)
 fields-more content (Resume series number) whole =
     let one = one-field series number in
     let all : length (fieldsOf (content ++ resumeBytes series number)) ≡ length (fieldsOf content) + 1 =
-    ap (λ (r : Run). length (r .entries)) (behind content series number whole) ∙ length-append (fieldsOf content) (resumeBytes series number ∷ []) in
+    ap (λ (r : Run). length (r .entries)) (behind content series number whole)
+    ∙ length-append (fieldsOf content) (resumeBytes series number ∷ []) in
     omega arith
 
 -- ─── The verdict ───
 
 -- The first piece of content that one packet holds is all of it.
-all-taken : (l : List ℕ) (c : Cut) → NextPiece l 0 c → shaped l 4080 ≡ true → (c .end ≡ length l) × (c .count ≡ length (fieldsOf l))
+all-taken : (l : List ℕ) (c : Cut) → NextPiece l 0 c → shaped l 4080 ≡ true
+    → (c .end ≡ length l) × (c .count ≡ length (fieldsOf l))
 all-taken l c next s =
-    let e : pieceAt l 0 c ∷ othersOf (fieldsOf (drop (c .end) l)) ≡ record { count = length (fieldsOf l); bytes = l } ∷ [] =
+    let e : pieceAt l 0 c ∷ othersOf (fieldsOf (drop (c .end) l)) ≡ record
+    { count = length (fieldsOf l); bytes = l } ∷ [] =
     sym (next .pieces (shaped-facts l 4080 (shaped l 4080) refl s .1)) ∙ one-piece l s in
     let p : pieceAt l 0 c ≡ record { count = length (fieldsOf l); bytes = l } = cc in
     (omega (arith, ap (λ (x : Piece). length (x .bytes)) p, piece-length l 0 c next), ap (λ (x : Piece). x .count) p)
@@ -131,5 +156,8 @@ module _ (content : List ℕ) (ending : Ending) (tail : ℕ) (e : tail ≡ lengt
       unfolding loginVerdict
       login-right = rw (← e, whole)
 
-      pub login-fields : (more : ℕ) → more ≡ length (fieldsOf (endingBytes ending)) → c .count + more ≡ length (fieldsOf (content ++ endingBytes ending))
-      login-fields more q = rw (q, all-taken content c next (shape-all whole) .1) (fields-more content ending (shaped-ended content (4080 - tail) whole))
+      pub login-fields : (more : ℕ) → more ≡ length (fieldsOf (endingBytes ending))
+          → c .count + more ≡ length (fieldsOf (content ++ endingBytes ending))
+      login-fields more q =
+          rw (q, all-taken content c next (shape-all whole) .1)
+          (fields-more content ending (shaped-ended content (4080 - tail) whole))

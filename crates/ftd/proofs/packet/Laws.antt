@@ -15,19 +15,29 @@ use Rattle.ftd.specs.Tags.{goodTags}
 use Rattle.ftd.specs.Fields.{field, fieldsOf, fidOf, bytesOf, exactRun, fieldIn, fieldPlaceOf, FieldInside}
 use Rattle.ftd.specs.declared.fields.FieldPlace.{FieldPlace}
 use Rattle.ftd.specs.declared.fields.FieldPlace.the-variants.{NoField, Field}
-use Rattle.ftd.specs.Packet.{kindOf, extensionLength, bodyLength, saidLength, extensionOf, versionOf, tidOf, letterOf, seriesOf, messageNumberOf, fieldCountOf, contentLengthOf, contentOf, headMissing, restMissing, longExtension, wrongBody, isSkipped, brokenTag, isLink, wrongVersion, isLetter, wrongLetter, wrongContentLength, wrongFields, chainOf, span, bodyStart, extensionSpan, contentSpan, headerOf, acceptedOf, messageOf, wholeOf, readOf, isShort, fieldsWithin, messageFields, movedBy, fieldWithin, fieldOf, partAt, fieldBytes}
+use Rattle.ftd.specs.Packet.{kindOf, extensionLength, bodyLength, saidLength, extensionOf, versionOf, tidOf}
+use Rattle.ftd.specs.Packet.{letterOf, seriesOf, messageNumberOf, fieldCountOf, contentLengthOf, contentOf}
+use Rattle.ftd.specs.Packet.{headMissing, restMissing, longExtension, wrongBody, isSkipped, brokenTag, isLink}
+use Rattle.ftd.specs.Packet.{wrongVersion, isLetter, wrongLetter, wrongContentLength, wrongFields, chainOf, span}
+use Rattle.ftd.specs.Packet.{bodyStart, extensionSpan, contentSpan, headerOf, acceptedOf, messageOf, wholeOf}
+use Rattle.ftd.specs.Packet.{readOf, isShort, fieldsWithin, messageFields, movedBy, fieldWithin, fieldOf, partAt}
+use Rattle.ftd.specs.Packet.{fieldBytes}
 use Rattle.ftd.specs.Packet.Helpers.{SaysLengths, FitsIn}
 use Rattle.ftd.specs.Packet.Laws.{IsMessage, IsLink, IsSkipped, Inside, InWidth, ReadLaws}
 use Rattle.ftd.specs.declared.refusal.Refusal.{Refusal}
-use Rattle.ftd.specs.declared.refusal.Refusal.the-variants.{LongExtension, BrokenTag, BodyLength, Version, ChainLetter, ContentLength, FieldRun}
+use Rattle.ftd.specs.declared.refusal.Refusal.the-variants.{LongExtension, BrokenTag, BodyLength, Version}
+use Rattle.ftd.specs.declared.refusal.Refusal.the-variants.{ChainLetter, ContentLength, FieldRun}
 use Rattle.ftd.specs.declared.packet.Header.{Header}
 use Rattle.ftd.specs.declared.packet.Span.{Span}
 use Rattle.ftd.specs.declared.packet.Packet.{Packet}
 use Rattle.ftd.specs.declared.packet.Packet.the-variants.{Short, Link, Skipped, Message, Refused}
-use Rattle.ftd.proofs.Lists.{byte-append, be16-append, be32-append, part-append, be16-width, be32-width, part-part, drop-part, joined-part, joined-inside}
+use Rattle.ftd.proofs.Lists.{byte-append, be16-append, be32-append, part-append, be16-width, be32-width}
+use Rattle.ftd.proofs.Lists.{part-part, drop-part, joined-part, joined-inside}
 use Rattle.ftd.proofs.runs.Laws.{run-whole}
 use Rattle.ftd.proofs.runs.Turns.{and-false}
-use Rattle.ftd.proofs.packet.Verdicts.{header-made, version-wrong, letter-wrong, length-wrong, fields-wrong, message-good, whole-skipped, whole-broken, whole-link, whole-message, body-bounds, body-least, read-long, read-body, read-there}
+use Rattle.ftd.proofs.packet.Verdicts.{header-made, version-wrong, letter-wrong, length-wrong, fields-wrong}
+use Rattle.ftd.proofs.packet.Verdicts.{message-good, whole-skipped, whole-broken, whole-link, whole-message}
+use Rattle.ftd.proofs.packet.Verdicts.{body-bounds, body-least, read-long, read-body, read-there}
 
 -- A test decides between two answers: both cases are shown.
 pub by-test : {A : Type 0} (P : A → Type 0) (b : Bool) {x y : A} → (b ≡ true → P x) → (b ≡ false → P y) → P (cond b x y)
@@ -56,8 +66,10 @@ pub record Right (p : List ℕ) : Type 0 where
 
 -- What holds of each answer, with what has led to it, holds of the reader's.
 pub read-cases : (p : List ℕ) (Q : Packet → Type 0) → Q Short → ((r : Refusal) → Q (Refused r))
-    → (There p → isSkipped (kindOf p) (bodyLength p) ≡ true → Q (Skipped (kindOf p) (extensionSpan p) (span (bodyStart p) (bodyLength p))))
-    → (There p → isSkipped (kindOf p) (bodyLength p) ≡ false → goodTags (extensionOf p) ≡ true → bodyLength p ≡ 0 → Q (Link (kindOf p) (extensionSpan p)))
+    → (There p → isSkipped (kindOf p) (bodyLength p) ≡ true
+    → Q (Skipped (kindOf p) (extensionSpan p) (span (bodyStart p) (bodyLength p))))
+    → (There p → isSkipped (kindOf p) (bodyLength p) ≡ false → goodTags (extensionOf p) ≡ true → bodyLength p ≡ 0
+    → Q (Link (kindOf p) (extensionSpan p)))
     → (There p → Right p → Q (acceptedOf p)) → Q (readOf p)
 unfolding readOf restMissing wholeOf messageOf
 read-cases p Q short refused skipped link message =
@@ -88,7 +100,8 @@ read-cases p Q short refused skipped link message =
       tags = not-false (goodTags (extensionOf p)) f;
       version = eqb-true (versionOf p) 1 (not-false (eqb (versionOf p) 1) v);
       letter = not-false (isLetter (letterOf p)) l;
-      size = eqb-true (contentLengthOf p + 16) (bodyLength p) (not-false (eqb (contentLengthOf p + 16) (bodyLength p)) k);
+      size =
+          eqb-true (contentLengthOf p + 16) (bodyLength p) (not-false (eqb (contentLengthOf p + 16) (bodyLength p)) k);
       fields = not-false (exactRun (contentOf p) (fieldCountOf p)) r;
     }))))))))))))
 
@@ -120,7 +133,8 @@ which (Refused r) = 4
 pub accepted : (p : List ℕ) (h : Header) (x y : Span) → readOf p ≡ Message h x y → Accepted p h x y
 unfolding acceptedOf
 accepted p h x y =
-    read-cases p (λ z. z ≡ Message h x y → Accepted p h x y) (λ e. absurd (omega (arith, ap which e))) (λ r e. absurd (omega (arith, ap which e)))
+    read-cases p (λ z. z ≡ Message h x y → Accepted p h x y) (λ e. absurd (omega (arith, ap which e)))
+    (λ r e. absurd (omega (arith, ap which e)))
     (λ w s e. absurd (omega (arith, ap which e))) (λ w s g z e. absurd (omega (arith, ap which e)))
     (λ w r e. record { whole = w; right = r; header = cc; extent = cc; content = cc })
 
@@ -135,7 +149,8 @@ pub record Linked (p : List ℕ) (kind : ℕ) (e : Span) : Type 0 where
 pub linked : (p : List ℕ) (kind : ℕ) (x : Span) → readOf p ≡ Link kind x → Linked p kind x
 unfolding acceptedOf
 linked p kind x =
-    read-cases p (λ z. z ≡ Link kind x → Linked p kind x) (λ e. absurd (omega (arith, ap which e))) (λ r e. absurd (omega (arith, ap which e)))
+    read-cases p (λ z. z ≡ Link kind x → Linked p kind x) (λ e. absurd (omega (arith, ap which e)))
+    (λ r e. absurd (omega (arith, ap which e)))
     (λ w s e. absurd (omega (arith, ap which e)))
     (λ w s g z e. record { whole = w; plain = s; tags = g; body = z; type = cc; extent = cc })
     (λ w r e. absurd (omega (arith, ap which e)))
@@ -150,7 +165,8 @@ pub record Passed (p : List ℕ) (kind : ℕ) (e b : Span) : Type 0 where
 pub passed : (p : List ℕ) (kind : ℕ) (x y : Span) → readOf p ≡ Skipped kind x y → Passed p kind x y
 unfolding acceptedOf
 passed p kind x y =
-    read-cases p (λ z. z ≡ Skipped kind x y → Passed p kind x y) (λ e. absurd (omega (arith, ap which e))) (λ r e. absurd (omega (arith, ap which e)))
+    read-cases p (λ z. z ≡ Skipped kind x y → Passed p kind x y) (λ e. absurd (omega (arith, ap which e)))
+    (λ r e. absurd (omega (arith, ap which e)))
     (λ w s e. record { whole = w; skipped = s; type = cc; extent = cc; body = cc })
     (λ w s g z e. absurd (omega (arith, ap which e))) (λ w r e. absurd (omega (arith, ap which e)))
 
@@ -159,20 +175,35 @@ passed p kind x y =
 -- What is there whole is what the rest says.
 there-read : (p : List ℕ) → There p → readOf p ≡ wholeOf p
 unfolding readOf restMissing
-there-read p w = rw (le-ltb (length p) 4 (w .four), le-ltb 127 (extensionLength p) (w .extension), w .right, le-ltb (length p) (saidLength p) (w .there))
+there-read p w =
+    rw (
+      le-ltb (length p) 4 (w .four),
+      le-ltb 127 (extensionLength p) (w .extension),
+      w .right,
+      le-ltb (length p)
+          (saidLength p) (w .there),
+    )
 
 -- Type and body alone, kind by kind.
-message-body : (kind body : ℕ) → kind ≡ 1 → 16 ≤ body → body ≤ 4096 → (wrongBody kind body ≡ false) × (isSkipped kind body ≡ false)
+message-body : (kind body : ℕ) → kind ≡ 1 → 16 ≤ body → body ≤ 4096
+    → (wrongBody kind body ≡ false) × (isSkipped kind body ≡ false)
 unfolding wrongBody isSkipped
-message-body kind body k l m =
-    (rw (eq-eqb kind 1 k, ne-eqb body 0 (λ z. omega arith), le-ltb body 16 l, le-ltb 4096 body m), rw (le-ltb 1 kind (omega arith), ne-eqb kind 0 (λ z. omega arith)))
+message-body kind body k l m = (
+  rw (eq-eqb kind 1 k, ne-eqb body 0 (λ z. omega arith), le-ltb body 16 l, le-ltb 4096 body m),
+  rw
+      (le-ltb 1 kind (omega arith), ne-eqb kind 0 (λ z. omega arith)),
+)
 
 link-body : (kind body : ℕ) → kind ≤ 1 → body ≡ 0 → (wrongBody kind body ≡ false) × (isSkipped kind body ≡ false)
 unfolding wrongBody isSkipped
-link-body kind body k z =
-    (rw (eq-eqb body 0 z) (and-false (eqb kind 1)), rw (le-ltb 1 kind k, le-ltb 0 body (omega arith)) (and-false (eqb kind 0)))
+link-body kind body k z = (
+  rw (eq-eqb body 0 z) (and-false (eqb kind 1)),
+  rw (le-ltb 1 kind k, le-ltb 0 body (omega arith))
+      (and-false (eqb kind 0)),
+)
 
-skipped-body : (kind body : ℕ) → ((kind ≡ 0) × (0 < body)) ⊎ (2 ≤ kind) → (wrongBody kind body ≡ false) × (isSkipped kind body ≡ true)
+skipped-body : (kind body : ℕ) → ((kind ≡ 0) × (0 < body)) ⊎ (2 ≤ kind)
+    → (wrongBody kind body ≡ false) × (isSkipped kind body ≡ true)
 unfolding wrongBody isSkipped
 skipped-body kind body (inl h) =
     let k = h .0 in
@@ -194,7 +225,8 @@ skipped-kind : (kind body : ℕ) → isSkipped kind body ≡ true → ((kind ≡
 unfolding isSkipped
 skipped-kind kind body = go (ltb 1 kind) refl (eqb kind 0) refl
   where
-    go : (a : Bool) → ltb 1 kind ≡ a → (b : Bool) → eqb kind 0 ≡ b → (a || (b && ltb 0 body)) ≡ true → ((kind ≡ 0) × (0 < body)) ⊎ (2 ≤ kind)
+    go : (a : Bool) → ltb 1 kind ≡ a → (b : Bool) → eqb kind 0 ≡ b → (a || (b && ltb 0 body)) ≡ true
+        → ((kind ≡ 0) × (0 < body)) ⊎ (2 ≤ kind)
     go true e b f s = inr (ltb-true 1 kind e)
     go false e true f s = inl (eqb-true kind 0 f, ltb-true 0 body s)
     go false e false f s = clash (sym s)
@@ -222,7 +254,8 @@ link-read p m =
     there-read p (record { four = m .four; extension = m .extension; right = b .0; there = m .there })
     ∙ rw (b .1, m .tags, eq-eqb (bodyLength p) 0 (m .empty))
 
-skipped-read : (p : List ℕ) → IsSkipped p → readOf p ≡ Skipped (kindOf p) (extensionSpan p) (span (bodyStart p) (bodyLength p))
+skipped-read : (p : List ℕ) → IsSkipped p
+    → readOf p ≡ Skipped (kindOf p) (extensionSpan p) (span (bodyStart p) (bodyLength p))
 unfolding wholeOf
 skipped-read p m =
     let b = skipped-body (kindOf p) (bodyLength p) (m .type) in
@@ -283,7 +316,12 @@ module _ (p : List ℕ) where
       go : Passed p (kindOf p) (extensionSpan p) (span (bodyStart p) (bodyLength p)) → IsSkipped p
       go a =
           let w = a .whole in
-          record { four = w .four; type = skipped-kind (kindOf p) (bodyLength p) (a .skipped); extension = w .extension; there = w .there }
+          record {
+            four = w .four;
+            type = skipped-kind (kindOf p) (bodyLength p) (a .skipped);
+            extension = w .extension;
+            there = w .there;
+          }
 
   pub skipped-only : (kind : ℕ) (x y : Span) → readOf p ≡ Skipped kind x y
       → Skipped kind x y ≡ Skipped (kindOf p) (extensionSpan p) (span (bodyStart p) (bodyLength p))
@@ -307,14 +345,16 @@ module _ (p q : List ℕ) (four : 4 ≤ length p) where
     two-same : (i : ℕ) → i + 2 ≤ 16 → be16Of p (4 + extensionLength p + i) ≡ be16Of (p ++ q) (4 + extensionLength p + i)
     two-same i h = sym (be16-append p q (4 + extensionLength p + i) (omega arith))
 
-    four-same : (i : ℕ) → i + 4 ≤ 16 → be32Of p (4 + extensionLength p + i) ≡ be32Of (p ++ q) (4 + extensionLength p + i)
+    four-same : (i : ℕ) → i + 4 ≤ 16 → be32Of p (4 + extensionLength p + i) ≡ be32Of (p ++ q)
+        (4 + extensionLength p + i)
     four-same i h = sym (be32-append p q (4 + extensionLength p + i) (omega arith))
 
     version-same : versionOf p ≡ getD (p ++ q) (4 + extensionLength p) 0
     unfolding versionOf
     version-same = sym (byte-append p q (4 + extensionLength p) (omega arith))
 
-    content-same : contentOf p ≡ take (4 + extensionLength p + bodyLength p - (4 + extensionLength p + 16)) (drop (4 + extensionLength p + 16) (p ++ q))
+    content-same : contentOf p ≡ take (4 + extensionLength p + bodyLength p - (4 + extensionLength p + 16))
+        (drop (4 + extensionLength p + 16) (p ++ q))
     unfolding contentOf
     content-same =
         let d : 4 + extensionLength p + bodyLength p - (4 + extensionLength p + 16) ≡ bodyLength p - 16 = omega arith in
@@ -323,7 +363,8 @@ module _ (p q : List ℕ) (four : 4 ≤ length p) where
     header-same : headerOf p ≡ headerOf (p ++ q)
     unfolding headerOf tidOf letterOf seriesOf messageNumberOf fieldCountOf
     header-same =
-        header-made (p ++ q) (extensionLength p) (said-same .0) _ _ _ _ _ (four-same 1 (omega arith)) (ap chainOf (byte-same 5 (omega arith)))
+        header-made (p ++ q) (extensionLength p) (said-same .0) _ _ _ _ _ (four-same 1 (omega arith))
+        (ap chainOf (byte-same 5 (omega arith)))
         (two-same 6 (omega arith)) (four-same 8 (omega arith)) (two-same 12 (omega arith))
 
     accepted-same : acceptedOf p ≡ acceptedOf (p ++ q)
@@ -337,25 +378,31 @@ module _ (p q : List ℕ) (four : 4 ≤ length p) where
         by-test (λ x. x ≡ messageOf l) (wrongVersion p)
         (λ v. version-wrong l _ _ said-same (λ e. eqb-false (versionOf p) 1 (not-true _ v) (version-same ∙ e))) (λ v.
         let one : getD l (4 + extensionLength p) 0 ≡ 1 = sym version-same ∙ eqb-true (versionOf p) 1 (not-false _ v) in
-        let letter : isLetter (letterOf p) ≡ isLetter (getD l (4 + extensionLength p + 5) 0) = ap isLetter (byte-same 5 (omega arith)) in
+        let letter : isLetter (letterOf p) ≡ isLetter (getD l (4 + extensionLength p + 5) 0) =
+        ap isLetter (byte-same 5 (omega arith)) in
         by-test (λ x. x ≡ messageOf l) (wrongLetter p)
         (λ w. letter-wrong l _ _ said-same one _ letter (not-true _ w)) (λ w.
         let size = two-same 14 (omega arith) in
         by-test (λ x. x ≡ messageOf l) (wrongContentLength p)
-        (λ k. length-wrong l _ _ said-same one _ letter (not-false _ w) _ _ size refl (eqb-false _ (bodyLength p) (not-true _ k))) (λ k.
+        (λ k. length-wrong l _ _ said-same one _ letter (not-false _ w) _ _ size refl
+        (eqb-false _ (bodyLength p) (not-true _ k))) (λ k.
         let fits = eqb-true (contentLengthOf p + 16) (bodyLength p) (not-false _ k) in
         let count = two-same 12 (omega arith) in
         by-test (λ x. x ≡ messageOf l) (wrongFields p)
-        (λ r. fields-wrong l _ _ said-same one _ letter (not-false _ w) _ _ size refl fits _ count _ (ap (λ (c : List ℕ). exactRun c (fieldCountOf p)) content-same) (not-true _ r))
-        (λ r. message-good l _ _ said-same one _ letter (not-false _ w) _ _ size refl fits _ count _ (ap (λ (c : List ℕ). exactRun c (fieldCountOf p)) content-same) (not-false _ r) _ accepted-same))))
+        (λ r. fields-wrong l _ _ said-same one _ letter (not-false _ w) _ _ size refl fits _ count _
+        (ap (λ (c : List ℕ). exactRun c (fieldCountOf p)) content-same) (not-true _ r))
+        (λ r. message-good l _ _ said-same one _ letter (not-false _ w) _ _ size refl fits _ count _
+        (ap (λ (c : List ℕ). exactRun c (fieldCountOf p)) content-same) (not-false _ r) _ accepted-same))))
 
-  tags-same : 4 + extensionLength p ≤ length p → goodTags (extensionOf p) ≡ goodTags (take (4 + extensionLength p - 4) (drop 4 (p ++ q)))
+  tags-same : 4 + extensionLength p ≤ length p
+      → goodTags (extensionOf p) ≡ goodTags (take (4 + extensionLength p - 4) (drop 4 (p ++ q)))
   unfolding extensionOf
   tags-same h =
       let d : 4 + extensionLength p - 4 ≡ extensionLength p = omega arith in
       rw (d, part-append p q 4 (extensionLength p) h)
 
-  whole-same : 4 + extensionLength p + bodyLength p ≤ length p → wrongBody (kindOf p) (bodyLength p) ≡ false → wholeOf p ≡ wholeOf (p ++ q)
+  whole-same : 4 + extensionLength p + bodyLength p ≤ length p → wrongBody (kindOf p) (bodyLength p) ≡ false
+      → wholeOf p ≡ wholeOf (p ++ q)
   unfolding wholeOf
   whole-same there right =
       let l = p ++ q in
@@ -382,9 +429,11 @@ stays p q =
     by-test P (wrongBody (kindOf p) (bodyLength p))
     (λ c e. sym (read-body l long _ (said .0) fits _ _ _ (kind-same p q four) (said .1) refl _ refl c)) (λ c.
     by-test P (restMissing p) (λ d e. clash e) (λ d e.
-    let there : 4 + extensionLength p + bodyLength p ≤ length p = ltb-false (length p) (4 + extensionLength p + bodyLength p) d in
+    let there : 4 + extensionLength p + bodyLength p ≤ length p =
+    ltb-false (length p) (4 + extensionLength p + bodyLength p) d in
     let more : 4 + extensionLength p + bodyLength p ≤ length (p ++ q) = rw length-append (omega arith) in
-    sym (read-there l long _ (said .0) fits _ _ _ (kind-same p q four) (said .1) refl _ refl c more _ (whole-same p q four there c))))))
+    sym (read-there l long _ (said .0) fits _ _ _ (kind-same p q four) (said .1) refl _ refl c more _
+    (whole-same p q four there c))))))
   where
     l : List ℕ
     l = p ++ q
@@ -429,11 +478,13 @@ module _ (p : List ℕ) (h : Header) (x y : Span) (e : readOf p ≡ Message h x 
 
 -- Field i of a list of fields that starts at a place.
 place-some : (base : ℕ) (fs : List (List ℕ)) (i : ℕ) → i < length fs
-    → fieldIn base fs i ≡ Field (fidOf (getD fs i [])) (base + length (joined (take i fs)) + 6) (length (getD fs i []) - 6)
+    → fieldIn base fs i ≡ Field (fidOf (getD fs i [])) (base + length (joined (take i fs)) + 6)
+    (length (getD fs i []) - 6)
 place-some base [] i h = absurd (omega arith)
 place-some base (f ∷ fs) zero h = ap (λ (n : ℕ). Field (fidOf f) (n + 6) (length f - 6)) (omega arith)
 place-some base (f ∷ fs) (suc i) h =
-    let k : base + length (f ++ joined (take i fs)) + 6 ≡ base + length f + length (joined (take i fs)) + 6 = rw length-append (omega arith) in
+    let k : base + length (f ++ joined (take i fs)) + 6 ≡ base + length f + length (joined (take i fs)) + 6 =
+    rw length-append (omega arith) in
     rw k (place-some (base + length f) fs i (omega arith))
 
 place-none : (base : ℕ) (fs : List (List ℕ)) (i : ℕ) → length fs ≤ i → fieldIn base fs i ≡ NoField
@@ -470,12 +521,15 @@ module _ (p : List ℕ) (i : ℕ) where
             ∙ ap (drop 6) here,
       )
 
-  pub some : i < length (messageFields p) → (start : ℕ) × (fieldOf p i ≡ Field (fidOf (getD (messageFields p) i [])) start (length (getD (messageFields p) i []) - 6))
+  pub some : i < length (messageFields p)
+      → (start : ℕ)
+      × (fieldOf p i ≡ Field (fidOf (getD (messageFields p) i [])) start (length (getD (messageFields p) i []) - 6))
       × (fieldBytes p i ≡ bytesOf (getD (messageFields p) i []))
   unfolding messageFields fieldOf fieldBytes
   some = go (readOf p) refl
     where
-      go : (x : Packet) → readOf p ≡ x → i < length (fieldsWithin p x) → Found p (getD (fieldsWithin p x) i []) (fieldWithin p x i)
+      go : (x : Packet) → readOf p ≡ x → i < length (fieldsWithin p x)
+          → Found p (getD (fieldsWithin p x) i []) (fieldWithin p x i)
       go Short e k = absurd (omega arith)
       go (Link kind extension) e k = absurd (omega arith)
       go (Skipped kind extension body) e k = absurd (omega arith)
@@ -486,7 +540,8 @@ module _ (p : List ℕ) (i : ℕ) where
   unfolding messageFields fieldOf fieldBytes fieldPlaceOf
   none = go (readOf p)
     where
-      go : (x : Packet) → length (fieldsWithin p x) ≤ i → (fieldWithin p x i ≡ NoField) × (partAt p (fieldWithin p x i) ≡ [])
+      go : (x : Packet) → length (fieldsWithin p x) ≤ i
+          → (fieldWithin p x i ≡ NoField) × (partAt p (fieldWithin p x i) ≡ [])
       go Short k = (refl, refl)
       go (Link kind extension) k = (refl, refl)
       go (Skipped kind extension body) k = (refl, refl)

@@ -1,4 +1,5 @@
--- What is one packet, and what a message packet, by the first four bytes. A written packet is one packet: as long as its first four bytes say. One with content of at most 4,080 bytes is a message packet. Assumes nothing.
+-- What is one packet, and what a message packet, by the first four bytes. A written packet is one packet: as long as
+-- its first four bytes say. One with content of at most 4,080 bytes is a message packet. Assumes nothing.
 use Prim.Native.Nat.{ℕ, _+_, _<_, _≤_}
 use mathlib.Core.Path.{_≡_, refl, ap, _∙_}
 use mathlib.Core.List.{List, _++_}
@@ -79,5 +80,13 @@ module _ (h : Header) (extension content : List ℕ) where
   unfolding noMessagePacket messageBytes
   one-message small =
       let body = headerBytes h (length content) ++ content in
-      let n : length body ≡ 16 + length content = length-append (headerBytes h (length content)) content ∙ ap (λ (k : ℕ). k + length content) (length-header h (length content)) in
-      rw (kind-said 1 extension body, body-said 1 extension body, n, le-leb 16 (16 + length content) (omega arith), le-leb (16 + length content) 4096 (omega arith))
+      let n : length body ≡ 16 + length content =
+      length-append (headerBytes h (length content)) content
+      ∙ ap (λ (k : ℕ). k + length content) (length-header h (length content)) in
+      rw (
+        kind-said 1 extension body,
+        body-said 1 extension body,
+        n,
+        le-leb 16 (16 + length content) (omega arith),
+        le-leb (16 + length content) 4096 (omega arith),
+      )

@@ -10,22 +10,29 @@ use lib.Dec.{ltb, eqb}
 use Rattle.ftd.specs.Bytes.{be16Of, be32Of}
 use Rattle.ftd.specs.Tags.{goodTags}
 use Rattle.ftd.specs.Fields.{exactRun}
-use Rattle.ftd.specs.Packet.{kindOf, bodyLength, extensionLength, extensionOf, versionOf, tidOf, letterOf, seriesOf, messageNumberOf, fieldCountOf, contentLengthOf, contentOf, wrongBody, isSkipped, restMissing, saidLength, isLetter, span, chainOf, headerOf, acceptedOf, messageOf, wholeOf, readOf}
+use Rattle.ftd.specs.Packet.{kindOf, bodyLength, extensionLength, extensionOf, versionOf, tidOf, letterOf}
+use Rattle.ftd.specs.Packet.{seriesOf, messageNumberOf, fieldCountOf, contentLengthOf, contentOf, wrongBody}
+use Rattle.ftd.specs.Packet.{isSkipped, restMissing, saidLength, isLetter, span, chainOf, headerOf, acceptedOf}
+use Rattle.ftd.specs.Packet.{messageOf, wholeOf, readOf}
 use Rattle.ftd.specs.Packet.Helpers.{SaysLengths}
-use Rattle.ftd.specs.declared.refusal.Refusal.the-variants.{LongExtension, BrokenTag, BodyLength, Version, ChainLetter, ContentLength, FieldRun}
+use Rattle.ftd.specs.declared.refusal.Refusal.the-variants.{LongExtension, BrokenTag, BodyLength, Version}
+use Rattle.ftd.specs.declared.refusal.Refusal.the-variants.{ChainLetter, ContentLength, FieldRun}
 use Rattle.ftd.specs.declared.packet.Chain.{Chain}
 use Rattle.ftd.specs.declared.packet.Header.{Header}
 use Rattle.ftd.specs.declared.packet.Packet.{Packet}
 use Rattle.ftd.specs.declared.packet.Packet.the-variants.{Short, Link, Skipped, Message, Refused}
 
-pub header-made : (p : List ℕ) (ext : ℕ) → ext ≡ extensionLength p → (tid : ℕ) (chain : Chain) (series number fields : ℕ) → tid ≡ be32Of p (4 + ext + 1)
-    → chain ≡ chainOf (getD p (4 + ext + 5) 0) → series ≡ be16Of p (4 + ext + 6) → number ≡ be32Of p (4 + ext + 8) → fields ≡ be16Of p (4 + ext + 12)
+pub header-made : (p : List ℕ) (ext : ℕ) → ext ≡ extensionLength p
+    → (tid : ℕ) (chain : Chain) (series number fields : ℕ) → tid ≡ be32Of p (4 + ext + 1)
+    → chain ≡ chainOf (getD p (4 + ext + 5) 0) → series ≡ be16Of p (4 + ext + 6) → number ≡ be32Of p (4 + ext + 8)
+    → fields ≡ be16Of p (4 + ext + 12)
     → record { tid = tid; chain = chain; series = series; number = number; fields = fields } ≡ headerOf p
 unfolding headerOf tidOf letterOf seriesOf messageNumberOf fieldCountOf
 header-made p ext x tid chain series number fields a b c d e = rw (← x, a, b, c, d, e)
 
 module _ (p : List ℕ) (ext body : ℕ) (said : SaysLengths p ext body) where
-  pub accepted-made : (h : Header) → h ≡ headerOf p → Message h (span 4 ext) (span (4 + ext + 16) (body - 16)) ≡ acceptedOf p
+  pub accepted-made : (h : Header) → h ≡ headerOf p
+      → Message h (span 4 ext) (span (4 + ext + 16) (body - 16)) ≡ acceptedOf p
   unfolding acceptedOf
   accepted-made h e = rw (← (said .0), ← (said .1), e)
 
@@ -83,7 +90,8 @@ module _ (p : List ℕ) (ext body : ℕ) (said : SaysLengths p ext body) where
       whole-message w z r m = rw (← (said .0), ← (said .1), ← a, ← s, not-skipped, ← tags-same, w, ne-eqb _ _ z) m
 
 -- A packet with a body that is neither skipped nor refused with 3 is of type 0x01, and its body has 16 to 4,096 bytes.
-pub body-bounds : (kind body : ℕ) (skipped : Bool) → skipped ≡ isSkipped kind body → skipped ≡ false → wrongBody kind body ≡ false → (body ≡ 0 → ⊥)
+pub body-bounds : (kind body : ℕ) (skipped : Bool) → skipped ≡ isSkipped kind body → skipped ≡ false
+    → wrongBody kind body ≡ false → (body ≡ 0 → ⊥)
     → (kind ≡ 1) × (16 ≤ body) × (body ≤ 4096)
 unfolding isSkipped wrongBody
 body-bounds kind body skipped s n w z =
@@ -92,8 +100,10 @@ body-bounds kind body skipped s n w z =
     clash : true ≡ false → ⊥
     clash x = let y : _≡_ {A = ℕ} 0 1 = cc in omega arith
 
-    go : (a : Bool) → ltb 1 kind ≡ a → (b : Bool) → eqb kind 0 ≡ b → (c : Bool) → eqb kind 1 ≡ c → (d : Bool) → ltb body 16 ≡ d
-        → (a || (b && ltb 0 body)) ≡ false → (c && (true && (d || ltb 4096 body))) ≡ false → (kind ≡ 1) × (16 ≤ body) × (body ≤ 4096)
+    go : (a : Bool) → ltb 1 kind ≡ a → (b : Bool) → eqb kind 0 ≡ b → (c : Bool) → eqb kind 1 ≡ c → (d : Bool)
+        → ltb body 16 ≡ d
+        → (a || (b && ltb 0 body)) ≡ false → (c && (true && (d || ltb 4096 body))) ≡ false
+        → (kind ≡ 1) × (16 ≤ body) × (body ≤ 4096)
     go true e b f c g d h p q = absurd (clash p)
     go false e true f c g d h p q = absurd (z (omega (arith, ltb-false 0 body p)))
     go false e false f true g true h p q = absurd (clash q)
@@ -101,7 +111,8 @@ body-bounds kind body skipped s n w z =
     go false e false f false g d h p q =
         absurd (omega (arith, ltb-false 1 kind e, eqb-false kind 0 f, eqb-false kind 1 g))
 
-pub body-least : (kind body : ℕ) (skipped : Bool) → skipped ≡ isSkipped kind body → skipped ≡ false → wrongBody kind body ≡ false → (body ≡ 0 → ⊥)
+pub body-least : (kind body : ℕ) (skipped : Bool) → skipped ≡ isSkipped kind body → skipped ≡ false
+    → wrongBody kind body ≡ false → (body ≡ 0 → ⊥)
     → 16 ≤ body
 body-least kind body skipped s n w z = body-bounds kind body skipped s n w z .1
 
@@ -115,7 +126,8 @@ module _ (p : List ℕ) where
     unfolding readOf
     read-long w = rw (le-ltb (length p) 4 four, ← x, lt-ltb 127 ext w)
 
-    module _ (fits : ext ≤ 127) (kind body n : ℕ) (a : kind ≡ kindOf p) (m : n ≡ bodyLength p) (b : body ≡ n) (wrong : Bool) (q : wrong ≡ wrongBody kind body) where
+    module _ (fits : ext ≤ 127) (kind body n : ℕ) (a : kind ≡ kindOf p) (m : n ≡ bodyLength p) (b : body ≡ n)
+        (wrong : Bool) (q : wrong ≡ wrongBody kind body) where
       pub read-body : wrong ≡ true → Refused BodyLength ≡ readOf p
       unfolding readOf
       read-body w = rw (le-ltb (length p) 4 four, ← x, le-ltb 127 ext fits, ← m, ← b, ← a, ← q, w)
@@ -123,8 +135,32 @@ module _ (p : List ℕ) where
       module _ (right : wrong ≡ false) where
         pub read-rest-missing : length p < 4 + ext + body → Short ≡ readOf p
         unfolding readOf restMissing saidLength
-        read-rest-missing w = rw (le-ltb (length p) 4 four, ← x, le-ltb 127 ext fits, ← m, ← b, ← a, ← q, right, lt-ltb (length p) (4 + ext + body) w)
+        read-rest-missing w =
+            rw (
+              le-ltb (length p) 4 four,
+              ← x,
+              le-ltb 127 ext fits,
+              ← m,
+              ← b,
+              ← a,
+              ← q,
+              right,
+              lt-ltb (length p)
+                  (4 + ext + body) w,
+            )
 
         pub read-there : 4 + ext + body ≤ length p → (r : Packet) → r ≡ wholeOf p → r ≡ readOf p
         unfolding readOf restMissing saidLength
-        read-there w r e = rw (le-ltb (length p) 4 four, ← x, le-ltb 127 ext fits, ← m, ← b, ← a, ← q, right, le-ltb (length p) (4 + ext + body) w) e
+        read-there w r e =
+            rw (
+              le-ltb (length p) 4 four,
+              ← x,
+              le-ltb 127 ext fits,
+              ← m,
+              ← b,
+              ← a,
+              ← q,
+              right,
+              le-ltb (length p)
+                  (4 + ext + body) w,
+            ) e

@@ -18,7 +18,8 @@ module _ (fid i : ℕ) where
   unfolding itemOf
   place-unknown h = rw (rows-none fid h)
 
-  pub place-start : (a start : ℕ) → a ≡ fid → start ≡ rowsPlace a .start → (b last : ℕ) → b ≡ fid → last ≡ rowsPlace b .start + rowsPlace b .count
+  pub place-start : (a start : ℕ) → a ≡ fid → start ≡ rowsPlace a .start → (b last : ℕ) → b ≡ fid
+      → last ≡ rowsPlace b .start + rowsPlace b .count
       → itemIn 0 (take (last - start) (drop start table)) i ≡ itemOf fid i
   unfolding itemOf
   place-start a start p q b last r s = rw (rows-from fid a start p q b last r s)
@@ -31,7 +32,8 @@ module _ (row last at left : ℕ) (t : ItemPlace) (inv : itemIn at (take (last -
     next : itemIn at (rowAt row ∷ take (last - (row + 1)) (drop (row + 1) table)) left ≡ t
     next = rw (rows-next row last h inside) at inv
 
-    pub place-here : left ≡ 0 → (kind scale width : ℕ) → kind ≡ rowAt row .kind → scale ≡ rowAt row .scale → width ≡ rowAt row .width
+    pub place-here : left ≡ 0 → (kind scale width : ℕ) → kind ≡ rowAt row .kind → scale ≡ rowAt row .scale
+        → width ≡ rowAt row .width
         → Item kind scale at width ≡ t
     place-here z kind scale width a b c = rw (a, b, c) (rw z at next)
 

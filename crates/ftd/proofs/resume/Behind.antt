@@ -54,7 +54,8 @@ first-behind : (series number at : ℕ) (fs : List (List ℕ)) (n : ℕ) → cou
 first-behind series number at [] n z = rw (fid-is series number) (ap (λ (k : ℕ). Field 4 (k + 6) 6) (omega arith))
 first-behind series number at (f ∷ fs) n z =
     let none : oneIf (fidOf f) 4 ≡ 0 = omega (arith, counted-least fs (n + oneIf (fidOf f) 4)) in
-    let k : at + length (f ++ joined fs) + 6 ≡ at + length f + length (joined fs) + 6 = rw length-append (omega arith) in
+    let k : at + length (f ++ joined fs) + 6 ≡ at + length f + length (joined fs) + 6 =
+    rw length-append (omega arith) in
     rw (differs (fidOf f) none, k) (first-behind series number (at + length f) fs n (same none z))
   where
     same : oneIf (fidOf f) 4 ≡ 0 → counted 4 fs (n + oneIf (fidOf f) 4) ≡ n → counted 4 fs n ≡ n
@@ -73,13 +74,17 @@ module _ (content : List ℕ) (series number : ℕ) (whole : ended (runOf field 
       ∙ ap (λ (l : List ℕ). l ++ (resumeBytes series number ++ [])) (run-whole field content whole)
       ∙ ap (λ (l : List ℕ). content ++ l) (append-nil (resumeBytes series number))
 
-  pub behind : runOf field (content ++ resumeBytes series number) ≡ record { entries = fieldsOf content ++ (resumeBytes series number ∷ []); rest = [] }
+  pub behind : runOf field (content ++ resumeBytes series number) ≡ record
+      { entries = fieldsOf content ++ (resumeBytes series number ∷ []); rest = [] }
   unfolding both
   behind =
       ap (runOf field) (sym together)
-      ∙ run-of field some-field both (entries-snoc (fieldsOf content) (resumeBytes series number) (fields-entries content) (resume-entry series number))
+      ∙ run-of field some-field both
+      (entries-snoc (fieldsOf content) (resumeBytes series number) (fields-entries content)
+      (resume-entry series number))
 
-  counted-behind : (fs : List (List ℕ)) (n : ℕ) → counted 4 (fs ++ (resumeBytes series number ∷ [])) n ≡ counted 4 fs n + 1
+  counted-behind : (fs : List (List ℕ)) (n : ℕ)
+      → counted 4 (fs ++ (resumeBytes series number ∷ [])) n ≡ counted 4 fs n + 1
   unfolding oneIf
   counted-behind [] n = rw (fid-is series number)
   counted-behind (f ∷ fs) n = counted-behind fs (n + oneIf (fidOf f) 4)

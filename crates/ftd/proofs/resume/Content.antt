@@ -1,5 +1,5 @@
--- Content with the start field behind it: shape, widths, items, counts and make-up; and where 8 and 10 pass, the start field is right or absent.
--- Assumes nothing.
+-- Content with the start field behind it: shape, widths, items, counts and make-up; and where 8 and 10 pass, the start
+-- field is right or absent. Assumes nothing.
 use Prim.Native.Nat.{ℕ, _+_, _-_, _≤_, _/_, _%_}
 use mathlib.Core.Path.{_≡_, refl, sym, ap, _∙_}
 use mathlib.Core.List.{List, [], _∷_, _++_}
@@ -11,7 +11,8 @@ use lib.ListN.{length, length-append, length-drop}
 use lib.Dec.{T, leb, eqb}
 use Rattle.ftd.specs.Bytes.{be16Of, be32Of}
 use Rattle.ftd.specs.Runs.{Run, runOf, ended}
-use Rattle.ftd.specs.Fields.{field, fieldsOf, fidOf, bytesOf, allSmall, shaped, oneIf, counted, countOf, firstIn, firstOf}
+use Rattle.ftd.specs.Fields.{field, fieldsOf, fidOf, bytesOf, allSmall, shaped, oneIf, counted, countOf, firstIn}
+use Rattle.ftd.specs.Fields.{firstOf}
 use Rattle.ftd.specs.Table.{table, rowsOf, widthOf, known}
 use Rattle.ftd.specs.Values.{isValue}
 use Rattle.ftd.specs.Items.{otherWidth, anyOther, wrongWidth, itemsGood, walkFields, walkOf, isRefused, wrongItem}
@@ -62,21 +63,30 @@ widths-behind s k (f ∷ fs) = ap (λ (b : Bool). otherWidth (fidOf f) (length (
 
 items-behind : (s k : ℕ) (fs : List (List ℕ)) → walkFields (fs ++ (resumeBytes s k ∷ [])) ≡ walkFields fs
 items-behind s k [] = rw (fid-is s k, start-items s k)
-items-behind s k (f ∷ fs) = ap (λ (c : Checked). cond (itemsGood (rowsOf (fidOf f)) (bytesOf f)) c (Refused Item)) (items-behind s k fs)
+items-behind s k (f ∷ fs) =
+    ap (λ (c : Checked). cond (itemsGood (rowsOf (fidOf f)) (bytesOf f)) c (Refused Item)) (items-behind s k fs)
 
-counted-behind : (s k fid : ℕ) (fs : List (List ℕ)) (n : ℕ) → counted fid (fs ++ (resumeBytes s k ∷ [])) n ≡ counted fid fs n + oneIf resumeFid fid
+counted-behind : (s k fid : ℕ) (fs : List (List ℕ)) (n : ℕ)
+    → counted fid (fs ++ (resumeBytes s k ∷ [])) n ≡ counted fid fs n + oneIf resumeFid fid
 counted-behind s k fid [] n = rw (fid-is s k)
 counted-behind s k fid (f ∷ fs) n = counted-behind s k fid fs (n + oneIf (fidOf f) fid)
 
 -- ─── Content with it behind ───
 
 -- 7: from a limit to one that is 12 above it.
-pub start-shaped : (c : List ℕ) (s k limit : ℕ) → shaped c limit ≡ true → shaped (c ++ resumeBytes s k) (limit + 12) ≡ true
+pub start-shaped : (c : List ℕ) (s k limit : ℕ) → shaped c limit ≡ true
+    → shaped (c ++ resumeBytes s k) (limit + 12) ≡ true
 unfolding shaped
 start-shaped c s k limit h =
     let f = shaped-facts c limit (shaped c limit) refl h in
-    let n : length (c ++ resumeBytes s k) ≤ limit + 12 = rw (length-append c (resumeBytes s k)) (let g = f .0 in omega arith) in
-    rw (le-leb (length (c ++ resumeBytes s k)) (limit + 12) n, behind c s k (shaped-ended c limit h), small-behind s k (fieldsOf c))
+    let n : length (c ++ resumeBytes s k) ≤ limit + 12 =
+    rw (length-append c (resumeBytes s k)) (let g = f .0 in omega arith) in
+    rw (
+      le-leb (length (c ++ resumeBytes s k)) (limit + 12) n,
+      behind c s k (shaped-ended c limit h),
+      small-behind s k
+          (fieldsOf c),
+    )
     (small (ended (runOf field c)) (f .1))
   where
     small : (b : Bool) → (b && allSmall (fieldsOf c)) ≡ true → allSmall (fieldsOf c) ≡ true
@@ -84,7 +94,8 @@ start-shaped c s k limit h =
     small false e = let z : _≡_ {A = ℕ} 0 1 = cc in absurd (omega arith)
 
 -- Where each field is counted as often, make-up is the same.
-holds-same : (rs : List CompositionLine) (tid direction : ℕ) (a b : List ℕ) → ((fid : ℕ) → countOf fid a ≡ countOf fid b) → allHold rs tid direction a ≡ allHold rs tid direction b
+holds-same : (rs : List CompositionLine) (tid direction : ℕ) (a b : List ℕ)
+    → ((fid : ℕ) → countOf fid a ≡ countOf fid b) → allHold rs tid direction a ≡ allHold rs tid direction b
 holds-same [] tid direction a b e = refl
 holds-same (r ∷ rs) tid direction a b e = rw (e (r .fid), holds-same rs tid direction a b e)
 
@@ -105,7 +116,8 @@ module _ (c : List ℕ) (s k : ℕ) (whole : ended (runOf field c) ≡ true) whe
   -- The count of each FID; only that of the start field grows.
   pub start-counts : (fid : ℕ) → countOf fid (c ++ resumeBytes s k) ≡ countOf fid c + oneIf resumeFid fid
   unfolding countOf
-  start-counts fid = ap (λ (r : Run). counted fid (r .entries) 0) (behind c s k whole) ∙ counted-behind s k fid (fieldsOf c) 0
+  start-counts fid =
+      ap (λ (r : Run). counted fid (r .entries) 0) (behind c s k whole) ∙ counted-behind s k fid (fieldsOf c) 0
 
   -- 10, of a login upward: the login field once, and the start field at most once.
   login-composed : (l : List ℕ) → composed 22 Up l ≡ (inRange 1 1 (countOf 35 l) && (inRange 0 1 (countOf 4 l) && true))
@@ -126,7 +138,9 @@ module _ (c : List ℕ) (s k : ℕ) (whole : ended (runOf field c) ≡ true) whe
 pub start-any : (c : List ℕ) (s k : ℕ) → ended (runOf field c) ≡ true → (tid : ℕ) (d : Direction)
     → composed tid d (c ++ resumeBytes s k) ≡ composed tid d (c ++ resumeBytes 0 0)
 unfolding composed
-start-any c s k whole tid d = holds-same appendixE tid (directionOf d) _ _ (λ fid. start-counts c s k whole fid ∙ sym (start-counts c 0 0 whole fid))
+start-any c s k whole tid d =
+    holds-same appendixE tid (directionOf d) _ _
+    (λ fid. start-counts c s k whole fid ∙ sym (start-counts c 0 0 whole fid))
 
 -- ─── Where 8 and 10 pass ───
 
@@ -141,7 +155,8 @@ neither true b h = (h, cc)
 neither false b h = (refl, h)
 
 module _ (c : List ℕ) where
-  found-right : (f : List ℕ) (at : ℕ) → otherWidth (fidOf f) (length (bytesOf f)) ≡ false → eqb (fidOf f) resumeFid ≡ true
+  found-right : (f : List ℕ) (at : ℕ) → otherWidth (fidOf f) (length (bytesOf f)) ≡ false
+      → eqb (fidOf f) resumeFid ≡ true
       → Right (resumeAt c (Field (fidOf f) (at + 6) (length f - 6)))
   found-right f at h e =
       let w : otherWidth resumeFid (length f - 6) ≡ false = rw (eqb-true (fidOf f) resumeFid e, length-drop) at h in
@@ -151,7 +166,8 @@ module _ (c : List ℕ) where
   first-right at [] h = inl refl
   first-right at (f ∷ fs) h =
       let x = neither _ _ h in
-      by-test (λ (p : FieldPlace). Right (resumeAt c p)) (eqb (fidOf f) resumeFid) (λ b. found-right f at (x .0) b) (λ b. first-right (at + length f) fs (x .1))
+      by-test (λ (p : FieldPlace). Right (resumeAt c p)) (eqb (fidOf f) resumeFid) (λ b. found-right f at (x .0) b)
+      (λ b. first-right (at + length f) fs (x .1))
 
   pub start-right : wrongWidth c ≡ false → countOf resumeFid c ≤ 1 → Right (resumeOf c)
   unfolding resumeOf firstOf wrongWidth

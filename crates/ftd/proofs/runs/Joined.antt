@@ -32,7 +32,8 @@ unfolding runOf
 run-empty F = refl
 
 -- A run of entries, joined, is those entries.
-pub run-of : (F : Form) → 0 < F .head → (es : List (List ℕ)) → Entries F es → runOf F (joined es) ≡ record { entries = es; rest = [] }
+pub run-of : (F : Form) → 0 < F .head → (es : List (List ℕ)) → Entries F es
+    → runOf F (joined es) ≡ record { entries = es; rest = [] }
 run-of F some [] a = run-empty F
 run-of F some (e ∷ es) a =
     run-step F some (e ++ joined es)
@@ -51,7 +52,8 @@ module _ (F : Form) (some : 0 < F .head) (local : Local F) where
   front-entry l n e =
       go (leb (F .head + F .follow l) (length l)) refl e
     where
-      go : (b : Bool) → leb (F .head + F .follow l) (length l) ≡ b → cond b (F .head + F .follow l) 0 ≡ suc n → Entry F (take (suc n) l)
+      go : (b : Bool) → leb (F .head + F .follow l) (length l) ≡ b → cond b (F .head + F .follow l) 0 ≡ suc n
+          → Entry F (take (suc n) l)
       go false q p = absurd (omega arith)
       go true q p =
           let inside : suc n ≤ length l = omega (arith, leb-true (F .head + F .follow l) (length l) q) in
@@ -69,7 +71,8 @@ module _ (F : Form) (some : 0 < F .head) (local : Local F) where
   in-entries zero l = tt
   in-entries (suc most) l = go (front F l) refl (λ r. in-entries most r)
     where
-      go : (w : ℕ) → front F l ≡ w → ((r : List ℕ) → Entries F (runIn F most r .entries)) → Entries F (cutOff (runIn F most) l w .entries)
+      go : (w : ℕ) → front F l ≡ w → ((r : List ℕ) → Entries F (runIn F most r .entries))
+          → Entries F (cutOff (runIn F most) l w .entries)
       go zero e ih = tt
       go (suc n) e ih = (front-entry l n e, ih (drop (suc n) l))
 

@@ -43,7 +43,9 @@ module _ (F : Form) (some : 0 < F .head) where
       go : (w : ℕ) → w ≤ length l → ((r : List ℕ) → length r ≤ n → length r ≤ m → runIn F n r ≡ runIn F m r)
           → cutOff (runIn F n) l w ≡ cutOff (runIn F m) l w
       go zero w ih = refl
-      go (suc x) w ih = ap (inFront (take (suc x) l)) (ih (drop (suc x) l) (rw length-drop (omega arith)) (rw length-drop (omega arith)))
+      go (suc x) w ih =
+          ap (inFront (take (suc x) l))
+          (ih (drop (suc x) l) (rw length-drop (omega arith)) (rw length-drop (omega arith)))
 
   -- A run is the entry at its front and the run behind it.
   pub run-step : (l : List ℕ) → runOf F l ≡ cutOff (runOf F) l (front F l)
@@ -53,7 +55,8 @@ module _ (F : Form) (some : 0 < F .head) where
       go : (w : ℕ) → w ≤ length l → cutOff (runIn F (length l)) l w ≡ cutOff (λ (r : List ℕ). runIn F (length r) r) l w
       go zero w = refl
       go (suc x) w =
-          ap (inFront (take (suc x) l)) (fuel (length l) (length (drop (suc x) l)) (drop (suc x) l) (rw length-drop (omega arith)) (omega arith))
+          ap (inFront (take (suc x) l))
+          (fuel (length l) (length (drop (suc x) l)) (drop (suc x) l) (rw length-drop (omega arith)) (omega arith))
 
 -- The run from a place on, by what the entry there takes.
 module _ (F : Form) (some : 0 < F .head) (l : List ℕ) (at n : ℕ) (e : n ≡ front F (drop at l)) where
@@ -65,7 +68,8 @@ module _ (F : Form) (some : 0 < F .head) (l : List ℕ) (at n : ℕ) (e : n ≡ 
   pub run-next : (n ≡ 0 → ⊥) → runOf F (drop at l) ≡ inFront (take n (drop at l)) (runOf F (drop (at + n) l))
   run-next z = rw (run-step F some (drop at l), ← e, ← (drop-drop n at l)) (go n z)
     where
-      go : (k : ℕ) → (k ≡ 0 → ⊥) → cutOff (runOf F) (drop at l) k ≡ inFront (take k (drop at l)) (runOf F (drop k (drop at l)))
+      go : (k : ℕ) → (k ≡ 0 → ⊥) → cutOff (runOf F) (drop at l) k ≡ inFront (take k (drop at l))
+          (runOf F (drop k (drop at l)))
       go zero z = absurd (z refl)
       go (suc k) z = refl
 
@@ -84,7 +88,8 @@ module _ (F : Form) (some : 0 < F .head) (l : List ℕ) (at n : ℕ) (e : n ≡ 
   entry-length = simp (length-take, length-drop) (omega (arith, entry-inside))
 
 -- The entries, with what is left behind them, make up the bytes.
-cut-joined : (more : List ℕ → Run) → ((l : List ℕ) → joined (more l .entries) ++ more l .rest ≡ l) → (l : List ℕ) (n : ℕ)
+cut-joined : (more : List ℕ → Run) → ((l : List ℕ) → joined (more l .entries) ++ more l .rest ≡ l)
+    → (l : List ℕ) (n : ℕ)
     → joined (cutOff more l n .entries) ++ cutOff more l n .rest ≡ l
 cut-joined more ih l zero = refl
 cut-joined more ih l (suc k) =

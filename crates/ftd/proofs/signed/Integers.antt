@@ -50,7 +50,8 @@ module _ (v : Signed) where
     integer-over h = rw (e, lt-leb units 999999999999999999 h)
 
     module _ (h : units ≤ 999999999999999999) (r : ℤ) where
-      pub integer-below : negative ≡ true → r ≡ pos units → Number (toZ w64 (ofZ w64 (pos 0 -ℤ toZ w64 (ofZ w64 r)))) ≡ integerOf v
+      pub integer-below : negative ≡ true → r ≡ pos units
+          → Number (toZ w64 (ofZ w64 (pos 0 -ℤ toZ w64 (ofZ w64 r)))) ≡ integerOf v
       unfolding integerOf
       integer-below n q = rw (e, n, le-leb units 999999999999999999 h, below-again units h r q)
 
@@ -92,7 +93,8 @@ module _ (x : ℤ) (f : SFits w64 x) where
       minus : (n : ℕ) × (x ≡ negsuc n) × (n ≤ 999999999999999998)
       minus = go x (rw same at a) (rw same at b)
         where
-          go : (x : ℤ) → ltZ x (pos 0) ≡ true → ltZ x (negsuc 999999999999999998) ≡ false → (n : ℕ) × (x ≡ negsuc n) × (n ≤ 999999999999999998)
+          go : (x : ℤ) → ltZ x (pos 0) ≡ true → ltZ x (negsuc 999999999999999998) ≡ false
+              → (n : ℕ) × (x ≡ negsuc n) × (n ≤ 999999999999999998)
           go (pos n) a b = absurd (omega (arith, ltb-true n 0 a))
           go (negsuc n) a b = (n, refl, ltb-false 999999999999999998 n b)
 
@@ -103,15 +105,18 @@ module _ (x : ℤ) (f : SFits w64 x) where
       from-fits = rw turned (fits-above (suc (minus .0)) (omega (arith, minus .2)))
 
       turned-again : toZ w64 (ofZ w64 (pos 0 -ℤ toZ w64 (ofZ w64 x))) ≡ pos (suc (minus .0))
-      turned-again = rw turned (toZ-ofZ w64 (pos (suc (minus .0))) (fits-above (suc (minus .0)) (omega (arith, minus .2))))
+      turned-again =
+          rw turned (toZ-ofZ w64 (pos (suc (minus .0))) (fits-above (suc (minus .0)) (omega (arith, minus .2))))
 
-      pub from-cast : T (nonNeg (toZ w64 (ofZ w64 (pos 0 -ℤ toZ w64 (ofZ w64 x))))) × Fits w64 (natAbs (toZ w64 (ofZ w64 (pos 0 -ℤ toZ w64 (ofZ w64 x)))))
+      pub from-cast : T (nonNeg (toZ w64 (ofZ w64 (pos 0 -ℤ toZ w64 (ofZ w64 x)))))
+          × Fits w64 (natAbs (toZ w64 (ofZ w64 (pos 0 -ℤ toZ w64 (ofZ w64 x)))))
       from-cast = wide-above (suc (minus .0)) (omega (arith, minus .2)) _ turned-again
 
       pub from-minus : Value true (natAbs (toZ w64 (ofZ w64 (pos 0 -ℤ toZ w64 (ofZ w64 x))))) ≡ fromInteger x
       unfolding fromInteger
       from-minus =
-          ap (λ (y : ℤ). Value true (natAbs y)) turned-again ∙ sym (ap fromInteger (minus .1) ∙ from-below (minus .0) (minus .2))
+          ap (λ (y : ℤ). Value true (natAbs y)) turned-again
+          ∙ sym (ap fromInteger (minus .1) ∙ from-below (minus .0) (minus .2))
 
   module _ (a : ltZ (toZ w64 (ofZ w64 x)) (pos 0) ≡ false) where
     pub from-high : ltZ (pos 999999999999999999) (toZ w64 (ofZ w64 x)) ≡ true → NoValue ≡ fromInteger x
@@ -126,7 +131,8 @@ module _ (x : ℤ) (f : SFits w64 x) where
       plus : (n : ℕ) × (x ≡ pos n) × (n ≤ 999999999999999999)
       plus = go x (rw same at a) (rw same at b)
         where
-          go : (x : ℤ) → ltZ x (pos 0) ≡ false → ltZ (pos 999999999999999999) x ≡ false → (n : ℕ) × (x ≡ pos n) × (n ≤ 999999999999999999)
+          go : (x : ℤ) → ltZ x (pos 0) ≡ false → ltZ (pos 999999999999999999) x ≡ false
+              → (n : ℕ) × (x ≡ pos n) × (n ≤ 999999999999999999)
           go (pos n) a b = (n, refl, ltb-false 999999999999999999 n b)
           go (negsuc n) a b = absurd (false≢true (sym a))
 
@@ -135,7 +141,9 @@ module _ (x : ℤ) (f : SFits w64 x) where
 
       pub from-plus : Value false (natAbs (toZ w64 (ofZ w64 x))) ≡ fromInteger x
       unfolding fromInteger
-      from-plus = ap (λ (y : ℤ). Value false (natAbs y)) (same ∙ plus .1) ∙ sym (ap fromInteger (plus .1) ∙ from-above (plus .0) (plus .2))
+      from-plus =
+          ap (λ (y : ℤ). Value false (natAbs y)) (same ∙ plus .1)
+          ∙ sym (ap fromInteger (plus .1) ∙ from-above (plus .0) (plus .2))
 
 -- ─── Round trips ───
 
@@ -145,11 +153,13 @@ no-value negative units p = let z : _≡_ {A = ℕ} 0 1 = cc in omega arith
 no-number : (x : ℤ) → NoInteger ≡ Number x → ⊥
 no-number x p = let z : _≡_ {A = ℕ} 0 1 = cc in omega arith
 
-pub integer-back : (x : ℤ) (negative : Bool) (units : ℕ) → fromInteger x ≡ Value negative units → integerOf (Value negative units) ≡ Number x
+pub integer-back : (x : ℤ) (negative : Bool) (units : ℕ) → fromInteger x ≡ Value negative units
+    → integerOf (Value negative units) ≡ Number x
 unfolding fromInteger integerOf
 integer-back (pos n) negative units e = go (leb n 999999999999999999) refl e
   where
-    go : (b : Bool) → leb n 999999999999999999 ≡ b → cond b (Value false n) NoValue ≡ Value negative units → integerOf (Value negative units) ≡ Number (pos n)
+    go : (b : Bool) → leb n 999999999999999999 ≡ b → cond b (Value false n) NoValue ≡ Value negative units
+        → integerOf (Value negative units) ≡ Number (pos n)
     go true p e =
         let s : false ≡ negative = cc in
         let u : n ≡ units = cc in
@@ -165,12 +175,14 @@ integer-back (negsuc n) negative units e = go (leb (suc n) 999999999999999999) r
         rw (← s, ← u, p)
     go false p e = absurd (no-value negative units e)
 
-pub integer-again : (negative : Bool) (units : ℕ) (x : ℤ) → (negative ≡ true → 0 < units) → integerOf (Value negative units) ≡ Number x
+pub integer-again : (negative : Bool) (units : ℕ) (x : ℤ) → (negative ≡ true → 0 < units)
+    → integerOf (Value negative units) ≡ Number x
     → fromInteger x ≡ Value negative units
 unfolding fromInteger integerOf
 integer-again false units x s e = go (leb units 999999999999999999) refl e
   where
-    go : (b : Bool) → leb units 999999999999999999 ≡ b → cond b (Number (pos units)) NoInteger ≡ Number x → fromInteger x ≡ Value false units
+    go : (b : Bool) → leb units 999999999999999999 ≡ b → cond b (Number (pos units)) NoInteger ≡ Number x
+        → fromInteger x ≡ Value false units
     go true p e =
         let v : pos units ≡ x = cc in
         rw (← v, p)
@@ -178,7 +190,8 @@ integer-again false units x s e = go (leb units 999999999999999999) refl e
 integer-again true zero x s e = absurd (omega (arith, s refl))
 integer-again true (suc n) x s e = go (leb (suc n) 999999999999999999) refl e
   where
-    go : (b : Bool) → leb (suc n) 999999999999999999 ≡ b → cond b (Number (negsuc n)) NoInteger ≡ Number x → fromInteger x ≡ Value true (suc n)
+    go : (b : Bool) → leb (suc n) 999999999999999999 ≡ b → cond b (Number (negsuc n)) NoInteger ≡ Number x
+        → fromInteger x ≡ Value true (suc n)
     go true p e =
         let v : negsuc n ≡ x = cc in
         rw (← v, p)

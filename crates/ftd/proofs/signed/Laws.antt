@@ -36,14 +36,16 @@ digits-right (suc n) x =
 digits-back : (n x : ℕ) → x < pow10 n → digitsOf 0 (digitsIn n x) ≡ x
 digits-back zero x h = omega arith
 digits-back (suc n) x h =
-    rw (digits-append 0 (digitsIn n (x / 10)) ((48 + x % 10) ∷ []), digits-back n (x / 10) (omega arith), digit-back x) (omega arith)
+    rw (digits-append 0 (digitsIn n (x / 10)) ((48 + x % 10) ∷ []), digits-back n (x / 10) (omega arith), digit-back x)
+    (omega arith)
 
 -- Digits that are all 0 stand for 0.
 zeros : (l : List ℕ) → every isZero l ≡ true → digitsOf 0 l ≡ 0
 zeros [] h = refl
 zeros (d ∷ ds) h = go (eqb d 48) refl (λ k. zeros ds k) h
   where
-    go : (b : Bool) → eqb d 48 ≡ b → (every isZero ds ≡ true → digitsOf 0 ds ≡ 0) → (b && every isZero ds) ≡ true → digitsOf (0 * 10 + digitOf d) ds ≡ 0
+    go : (b : Bool) → eqb d 48 ≡ b → (every isZero ds ≡ true → digitsOf 0 ds ≡ 0) → (b && every isZero ds) ≡ true
+        → digitsOf (0 * 10 + digitOf d) ds ≡ 0
     go true e ih k = rw (eqb-true d 48 e) (ih k)
     go false e ih k = absurd (false≢true k)
 
@@ -60,7 +62,8 @@ digits-div : (ds : List ℕ) (m : ℕ) → digitsOf m ds / pow10 (length ds) ≡
 digits-div [] m = omega arith
 digits-div (d ∷ ds) m =
     let x : ℕ = digitsOf (m * 10 + digitOf d) ds in
-    let e : x / pow10 (length ds) / 10 ≡ x / (10 * pow10 (length ds)) = div-div-eq-div-mul x (pow10 (length ds)) 10 ∙ ap (λ (k : ℕ). x / k) (mul-comm (pow10 (length ds)) 10) in
+    let e : x / pow10 (length ds) / 10 ≡ x / (10 * pow10 (length ds)) =
+    div-div-eq-div-mul x (pow10 (length ds)) 10 ∙ ap (λ (k : ℕ). x / k) (mul-comm (pow10 (length ds)) 10) in
     sym e ∙ ap (λ (k : ℕ). k / 10) (digits-div ds (m * 10 + digitOf d)) ∙ omega (arith, digit-most d)
 
 -- The first of n + 1 digits, and the others.
@@ -84,7 +87,8 @@ digits-again : (ds : List ℕ) → every isDigit ds ≡ true → (m : ℕ) → d
 digits-again [] h m = refl
 digits-again (d ∷ ds) h m = go (isDigit d) refl (λ k. digits-again ds k (m * 10 + digitOf d)) h
   where
-    go : (b : Bool) → isDigit d ≡ b → (every isDigit ds ≡ true → digitsIn (length ds) (digitsOf (m * 10 + digitOf d) ds) ≡ ds)
+    go : (b : Bool) → isDigit d ≡ b
+        → (every isDigit ds ≡ true → digitsIn (length ds) (digitsOf (m * 10 + digitOf d) ds) ≡ ds)
         → (b && every isDigit ds) ≡ true → digitsIn (suc (length ds)) (digitsOf (m * 10 + digitOf d) ds) ≡ d ∷ ds
     go true e ih k =
         let b = digit-bounds d e in
@@ -133,9 +137,11 @@ module _ (width units : ℕ) where
   unfolding numberFits
   fits-negative e =
       let b = fits-some width true units e in
-      go (ltb 0 units) refl (ltb units (pow10 (width - 1))) refl (rw (le-leb width 18 (b .1), le-leb 1 width (b .0)) at e)
+      go (ltb 0 units) refl (ltb units (pow10 (width - 1))) refl
+      (rw (le-leb width 18 (b .1), le-leb 1 width (b .0)) at e)
     where
-      go : (p : Bool) → ltb 0 units ≡ p → (q : Bool) → ltb units (pow10 (width - 1)) ≡ q → (p && q) ≡ true → (0 < units) × (units < pow10 (width - 1))
+      go : (p : Bool) → ltb 0 units ≡ p → (q : Bool) → ltb units (pow10 (width - 1)) ≡ q → (p && q) ≡ true
+          → (0 < units) × (units < pow10 (width - 1))
       go true e true f h = (ltb-true 0 units e, ltb-true units (pow10 (width - 1)) f)
       go true e false f h = absurd (false≢true h)
       go false e q f h = absurd (false≢true h)
@@ -154,14 +160,28 @@ number-back width true units e =
     let f = fits-negative width units e in
     let d : List ℕ = digitsIn (width - 1) units in
     let n : length d ≤ 17 = rw (digits-length (width - 1) units) (omega arith) in
-    rw (le-leb (suc (length d)) 18 (omega arith), digits-right (width - 1) units, not-zeros (width - 1) units (f .1) (f .0), digits-back (width - 1) units (f .1))
+    rw (
+      le-leb (suc (length d)) 18 (omega arith),
+      digits-right (width - 1) units,
+      not-zeros (width - 1) units (f .1)
+          (f .0),
+      digits-back (width - 1) units (f .1),
+    )
 number-back width false units e =
     let b = fits-some width false units e in
     let n : length (digitsIn width units) ≡ width = digits-length width units in
-    rw (n, le-leb width 18 (b .1), no-minus (digitsIn width units) (digits-right width units), lt-ltb 0 width (b .0), digits-right width units, digits-back width units (fits-positive width units e))
+    rw (
+      n,
+      le-leb width 18 (b .1),
+      no-minus (digitsIn width units) (digits-right width units),
+      lt-ltb 0 width (b .0),
+      digits-right width units,
+      digits-back width units (fits-positive width units e),
+    )
 
 -- Bytes with a value are at most 18, and a Number.
-value-parts : (g : Bool) (short : ℕ) (v : Signed) (negative : Bool) (units : ℕ) → cond (leb short 18 && g) v NoValue ≡ Value negative units
+value-parts : (g : Bool) (short : ℕ) (v : Signed) (negative : Bool) (units : ℕ)
+    → cond (leb short 18 && g) v NoValue ≡ Value negative units
     → (short ≤ 18) × (g ≡ true) × (v ≡ Value negative units)
 value-parts g short v negative units e = go (leb short 18) refl g e
   where
@@ -180,7 +200,8 @@ unfolding numberValue
 number-parts l negative units e = value-parts (isNumber l) (length l) (signedOf l) negative units e
 
 -- The bytes of a Number are those that its value writes.
-number-same : (l : List ℕ) (negative : Bool) (units : ℕ) → length l ≤ 18 → isNumber l ≡ true → signedOf l ≡ Value negative units
+number-same : (l : List ℕ) (negative : Bool) (units : ℕ) → length l ≤ 18 → isNumber l ≡ true
+    → signedOf l ≡ Value negative units
     → (numberFits (length l) negative units ≡ true) × (numberBytes (length l) negative units ≡ l)
 unfolding isNumber signedOf numberFits numberBytes
 number-same [] negative units s g v = absurd (false≢true g)
@@ -195,12 +216,22 @@ number-same (x ∷ xs) negative units s g v = go (eqb x 45) refl g v
     less : suc (length xs) - 1 ≡ length xs
     less = omega arith
 
-    minus : x ≡ 45 → every isDigit xs ≡ true → every isZero xs ≡ false → Value true (digitsOf 0 xs) ≡ Value negative units
+    minus : x ≡ 45 → every isDigit xs ≡ true → every isZero xs ≡ false
+        → Value true (digitsOf 0 xs) ≡ Value negative units
         → (numberFits (suc (length xs)) negative units ≡ true) × (numberBytes (suc (length xs)) negative units ≡ x ∷ xs)
     minus e d z v =
         let n : true ≡ negative = cc in
         let u : digitsOf 0 xs ≡ units = cc in (
-          rw (← n, ← u, short, low, less, lt-ltb 0 (digitsOf 0 xs) (some-digit xs d z), lt-ltb (digitsOf 0 xs) (pow10 (length xs)) (digits-below xs)),
+          rw (
+            ← n,
+            ← u,
+            short,
+            low,
+            less,
+            lt-ltb 0 (digitsOf 0 xs) (some-digit xs d z),
+            lt-ltb (digitsOf 0 xs)
+                (pow10 (length xs)) (digits-below xs),
+          ),
           rw (← n, ← u, less, digits-again xs d 0, e),
         )
 
@@ -208,16 +239,21 @@ number-same (x ∷ xs) negative units s g v = go (eqb x 45) refl g v
         → (numberFits (suc (length xs)) negative units ≡ true) × (numberBytes (suc (length xs)) negative units ≡ x ∷ xs)
     plain d v =
         let n : false ≡ negative = cc in
-        let u : digitsOf 0 (x ∷ xs) ≡ units = cc in
-        (rw (← n, ← u, short, low, lt-ltb (digitsOf 0 (x ∷ xs)) (pow10 (suc (length xs))) (digits-below (x ∷ xs))), rw (← n, ← u) (digits-again (x ∷ xs) d 0))
+        let u : digitsOf 0 (x ∷ xs) ≡ units = cc in (
+          rw (← n, ← u, short, low, lt-ltb (digitsOf 0 (x ∷ xs)) (pow10 (suc (length xs))) (digits-below (x ∷ xs))),
+          rw
+              (← n, ← u) (digits-again (x ∷ xs) d 0),
+        )
 
-    split : (d z : Bool) → every isDigit xs ≡ d → every isZero xs ≡ z → (d && not z) ≡ true → x ≡ 45 → Value true (digitsOf 0 xs) ≡ Value negative units
+    split : (d z : Bool) → every isDigit xs ≡ d → every isZero xs ≡ z → (d && not z) ≡ true → x ≡ 45
+        → Value true (digitsOf 0 xs) ≡ Value negative units
         → (numberFits (suc (length xs)) negative units ≡ true) × (numberBytes (suc (length xs)) negative units ≡ x ∷ xs)
     split true false d z g e v = minus e d z v
     split true true d z g e v = absurd (false≢true g)
     split false z d w g e v = absurd (false≢true g)
 
-    go : (b : Bool) → eqb x 45 ≡ b → cond b (every isDigit xs && not (every isZero xs)) (ltb 0 (suc (length xs)) && every isDigit (x ∷ xs)) ≡ true
+    go : (b : Bool) → eqb x 45 ≡ b → cond b (every isDigit xs && not (every isZero xs))
+        (ltb 0 (suc (length xs)) && every isDigit (x ∷ xs)) ≡ true
         → cond b (Value true (digitsOf 0 xs)) (Value false (digitsOf 0 (x ∷ xs))) ≡ Value negative units
         → (numberFits (suc (length xs)) negative units ≡ true) × (numberBytes (suc (length xs)) negative units ≡ x ∷ xs)
     go true e g v = split (every isDigit xs) (every isZero xs) refl refl g (eqb-true x 45 e) v
@@ -238,7 +274,8 @@ digits-split a zero x =
     rw (add-zero, e, append-nil)
 digits-split a (suc b) x =
     let e : x / 10 / pow10 b ≡ x / (10 * pow10 b) = div-div-eq-div-mul x 10 (pow10 b) in
-    rw (add-suc, digits-split a b (x / 10), e) (append-assoc (digitsIn a (x / (10 * pow10 b))) (digitsIn b (x / 10)) ((48 + x % 10) ∷ []))
+    rw (add-suc, digits-split a b (x / 10), e)
+    (append-assoc (digitsIn a (x / (10 * pow10 b))) (digitsIn b (x / 10)) ((48 + x % 10) ∷ []))
 
 number-split : (p s : ℕ) (negative : Bool) (units : ℕ) → 1 ≤ p
     → numberBytes (p + s) negative units ≡ numberBytes p negative (units / pow10 s) ++ digitsIn s units
@@ -269,12 +306,14 @@ module _ (scale width : ℕ) (negative : Bool) (units : ℕ) (low : scale + 2 �
   unfolding floatBytes before point
   point-there = getD-at before 46 (digitsIn scale units) 0 point before-length
 
-  point-out : take point (floatBytes scale width negative units) ++ drop (point + 1) (floatBytes scale width negative units) ≡ numberBytes (width - 1) negative units
+  point-out : take point (floatBytes scale width negative units) ++ drop (point + 1)
+      (floatBytes scale width negative units) ≡ numberBytes (width - 1) negative units
   unfolding floatBytes before point
   point-out =
       let n : length (before ++ (46 ∷ [])) ≡ point + 1 = rw (length-append, before-length) in
       let d : drop (point + 1) (before ++ (46 ∷ digitsIn scale units)) ≡ digitsIn scale units =
-      rw (append-assoc before (46 ∷ []) (digitsIn scale units)) at (drop-at (before ++ (46 ∷ [])) (digitsIn scale units) (point + 1) n) in
+      rw (append-assoc before (46 ∷ []) (digitsIn scale units)) at (drop-at (before ++ (46 ∷ [])) (digitsIn scale units)
+      (point + 1) n) in
       rw (take-at before (46 ∷ digitsIn scale units) point before-length, d) joined-bytes
 
 pub float-back : (scale width : ℕ) (negative : Bool) (units : ℕ) → floatFits scale width negative units ≡ true
@@ -282,7 +321,9 @@ pub float-back : (scale width : ℕ) (negative : Bool) (units : ℕ) → floatFi
 unfolding floatValue isFloat withoutPoint point
 float-back scale width negative units e =
     let f = float-fits scale width negative units e in
-    let b = number-parts (numberBytes (width - 1) negative units) negative units (number-back (width - 1) negative units (f .2)) in
+    let b =
+    number-parts (numberBytes (width - 1) negative units) negative units
+    (number-back (width - 1) negative units (f .2)) in
     rw (
       float-length scale width negative units (f .0),
       le-leb width 18 (f .1),
@@ -333,6 +374,7 @@ float-again scale l negative units e =
     let m : length (numberBytes p negative (units / pow10 scale)) ≡ length (take p l) =
     rw a (number-length p negative (units / pow10 scale) (omega arith)) in
     let x : numberBytes p negative (units / pow10 scale) ≡ take p l = same-front _ _ _ _ m j in
-    let y : digitsIn scale units ≡ drop (p + 1) l = same-back (numberBytes p negative (units / pow10 scale)) _ (take p l) _ m j in
+    let y : digitsIn scale units ≡ drop (p + 1) l =
+    same-back (numberBytes p negative (units / pow10 scale)) _ (take p l) _ m j in
     let z : drop p l ≡ 46 ∷ drop (p + 1) l = rw (add-one p) (rw (f .1) at (drop-cons l p 0 (omega arith))) in
     (rw (le-leb (scale + 2) (length l) low, le-leb (length l) 18 (v .0)) h, rw (x, y, ← z) (take-append-drop p l))

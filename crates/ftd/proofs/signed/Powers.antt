@@ -3,7 +3,8 @@ use Prim.Native.Nat.{ℕ, zero, suc, _+_, _-_, _*_, _<_, _≤_}
 use mathlib.Core.Path.{_≡_, refl, sym, ap, _∙_}
 use mathlib.Core.List.{List, [], _∷_, _++_, append-nil}
 use mathlib.Core.Bool.{Bool, true, false, _&&_, false≢true}
-use native.Mathlib.Nat.{le-refl, le-trans, mul-assoc, one-mul, mul-one, mul-le-mul-right, le-mul-of-pos-right, suc-add, zero-add}
+use native.Mathlib.Nat.{le-refl, le-trans, mul-assoc, one-mul, mul-one, mul-le-mul-right, le-mul-of-pos-right, suc-add}
+use native.Mathlib.Nat.{zero-add}
 use native.Mathlib.Numerals.{add-one}
 use native.Mathlib.Omega.{arith}
 use borrow.Author.Tests.{le-leb, lt-leb, eq-eqb, ne-eqb, leb-true}
@@ -44,7 +45,8 @@ module _ (n i to b : ℕ) (h : i < to) (bound : (n + 1) * pow10 (to - i) ≤ b) 
 
   pub bound-digit : (d : ℕ) → d ≤ 9 → b ≤ pow10 18 → n * 10 + d < 1000000000000000000
   bound-digit d k f =
-      let w : n * 10 + d + 1 ≤ (n * 10 + d + 1) * pow10 (to - (i + 1)) = le-mul-of-pos-right (n * 10 + d + 1) (pow10-some (to - (i + 1))) in
+      let w : n * 10 + d + 1 ≤ (n * 10 + d + 1) * pow10 (to - (i + 1)) =
+      le-mul-of-pos-right (n * 10 + d + 1) (pow10-some (to - (i + 1))) in
       let m : n * 10 + d + 1 ≤ b = le-trans w (bound-turn d k) in
       omega arith
 
@@ -70,7 +72,8 @@ pub digits-append : (n : ℕ) (a b : List ℕ) → digitsOf n (a ++ b) ≡ digit
 digits-append n [] b = refl
 digits-append n (d ∷ ds) b = digits-append (n * 10 + digitOf d) ds b
 
-module _ (s : List ℕ) (from point behind : ℕ) (first : from ≤ point) (order : point ≤ behind) (fits : behind ≤ length s) (short : length s ≤ 18) where
+module _ (s : List ℕ) (from point behind : ℕ) (first : from ≤ point) (order : point ≤ behind) (fits : behind ≤ length s)
+    (short : length s ≤ 18) where
   pub first-bound : (0 + 1) * pow10 (point - from) ≤ pow10 18
   first-bound = rw one-mul (pow10-le (point - from) 18 (omega arith))
 
@@ -78,11 +81,13 @@ module _ (s : List ℕ) (from point behind : ℕ) (first : from ≤ point) (orde
   second-bound n h =
       let m : (n + 1) * pow10 (length s - behind) ≤ pow10 (point - from) * pow10 (length s - behind) =
       mul-le-mul-right (pow10 (length s - behind)) (rw one-mul at h) in
-      le-trans (rw (← (pow10-add (point - from) (length s - behind))) at m) (pow10-le (point - from + (length s - behind)) 18 (omega arith))
+      le-trans (rw (← (pow10-add (point - from) (length s - behind))) at m)
+      (pow10-le (point - from + (length s - behind)) 18 (omega arith))
 
 pub parts-units : (s : List ℕ) (from point behind n r : ℕ) → n ≡ digitsOf 0 (drop from (take point s))
     → r ≡ digitsOf n (drop behind (take (length s) s)) → r ≡ digitsOf 0 (drop from (take point s) ++ drop behind s)
-parts-units s from point behind n r p q = rw (digits-append 0 (drop from (take point s)) (drop behind s), ← p) (rw take-length at q)
+parts-units s from point behind n r p q =
+    rw (digits-append 0 (drop from (take point s)) (drop behind s), ← p) (rw take-length at q)
 
 -- ─── The value ───
 
@@ -107,10 +112,12 @@ module _ (s : List ℕ) where
     unfolding numberValue
     number-wrong e = rw (le-leb (length s) 18 short, ← q, e)
 
-    pub number-read : g ≡ true → (v : Signed) → v ≡ signedOf (take (length s) s ++ drop (length s) s) → v ≡ numberValue s
+    pub number-read : g ≡ true → (v : Signed) → v ≡ signedOf (take (length s) s ++ drop (length s) s)
+        → v ≡ numberValue s
     unfolding numberValue
     number-read e v p =
-        rw (le-leb (length s) 18 short, ← q, e) (rw (take-length, drop-of-length-le s (le-refl (length s)), append-nil) at p)
+        rw (le-leb (length s) 18 short, ← q, e)
+        (rw (take-length, drop-of-length-le s (le-refl (length s)), append-nil) at p)
 
     -- A Number has a byte.
     pub number-some : g ≡ true → 1 ≤ length s
@@ -142,6 +149,7 @@ module _ (s : List ℕ) (scale : ℕ) where
     float-some e = go (leb (scale + 2) (length s)) refl (sym q ∙ e)
       where
         go : (b : Bool) → leb (scale + 2) (length s) ≡ b
-            → (b && (eqb (getD s (pointAt scale s) 0) 46 && isNumber (withoutPoint scale s))) ≡ true → scale + 2 ≤ length s
+            → (b && (eqb (getD s (pointAt scale s) 0) 46 && isNumber (withoutPoint scale s))) ≡ true
+            → scale + 2 ≤ length s
         go true w v = leb-true (scale + 2) (length s) w
         go false w v = absurd (false≢true v)

@@ -12,7 +12,8 @@ use lib.Seq.{getD-take, getD-drop, drop-cons}
 use lib.Dec.{leb, ltb, eqb, T, eqb→eq, leb→le, ltb→lt}
 use Rattle.ftd.specs.Table.{Row, row, table, keep, total, rowsOf}
 use Rattle.ftd.specs.Table.Rule.{Place, place, places, rowsPlace, rowAt, rightForm, RowRule, FieldRule, TableRule}
-use Rattle.ftd.specs.Table.Helpers.{kindColumn, widthColumn, scaleColumn, rowHolds, rowsHold, sameRow, sameRows, fieldHolds, allBelow, ruled}
+use Rattle.ftd.specs.Table.Helpers.{kindColumn, widthColumn, scaleColumn, rowHolds, rowsHold, sameRow, sameRows}
+use Rattle.ftd.specs.Table.Helpers.{fieldHolds, allBelow, ruled}
 
 test : T ruled
 unfolding table rowsOf places
@@ -78,7 +79,8 @@ kept fid [] j h = absurd (omega arith)
 kept fid (r ∷ rs) j h = go (eqb (r .fid) fid) refl (λ i k. kept fid rs i k) j h
   where
     go : (b : Bool) → eqb (r .fid) fid ≡ b → ((i : ℕ) → i < length (keep fid rs) → getD (keep fid rs) i none .fid ≡ fid)
-        → (j : ℕ) → j < length (cond b (r ∷ keep fid rs) (keep fid rs)) → getD (cond b (r ∷ keep fid rs) (keep fid rs)) j none .fid ≡ fid
+        → (j : ℕ) → j < length (cond b (r ∷ keep fid rs) (keep fid rs))
+        → getD (cond b (r ∷ keep fid rs) (keep fid rs)) j none .fid ≡ fid
     go true e ih zero h = eqb-true (r .fid) fid e
     go true e ih (suc j) h = ih j (omega arith)
     go false e ih j h = ih j h
@@ -108,12 +110,14 @@ place-none fid h = List·getD-eq-default places (place 0 0 0) h
 
 keep-none : (fid : ℕ) → 47 ≤ fid → (l : List Row) (k : ℕ) → T (rowsHold k l) → keep fid l ≡ []
 keep-none fid h [] k t = refl
-keep-none fid h (r ∷ rs) k t = go (eqb (r .fid) fid) refl (keep-none fid h rs (suc k) (both-right (rowHolds k r) (rowsHold (suc k) rs) t))
+keep-none fid h (r ∷ rs) k t =
+    go (eqb (r .fid) fid) refl (keep-none fid h rs (suc k) (both-right (rowHolds k r) (rowsHold (suc k) rs) t))
   where
     go : (b : Bool) → eqb (r .fid) fid ≡ b → keep fid rs ≡ [] → cond b (r ∷ keep fid rs) (keep fid rs) ≡ []
     go true e ih =
         let p : Place = rowsPlace (r .fid) in
-        let u : T (leb (p .start) k && ltb k (p .start + p .count)) = both-right (rightForm r) _ (both-left (rowHolds k r) (rowsHold (suc k) rs) t) in
+        let u : T (leb (p .start) k && ltb k (p .start + p .count)) =
+        both-right (rightForm r) _ (both-left (rowHolds k r) (rowsHold (suc k) rs) t) in
         let v : k < p .start + p .count = ltb→lt _ _ (both-right (leb (p .start) k) _ u) in
         let w : k < 0 + 0 = rw (eqb-true (r .fid) fid e, place-none fid h) at v in
         absurd (omega arith)
@@ -123,7 +127,8 @@ module _ (fid : ℕ) where
   known-rule : fid < 47 → FieldRule fid
   unfolding rowsOf
   known-rule h =
-      let t : T (fieldHolds fid) = below-at fieldHolds 47 (both-right (rowsHold 0 table) (allBelow fieldHolds 47) test) fid h in
+      let t : T (fieldHolds fid) =
+      below-at fieldHolds 47 (both-right (rowsHold 0 table) (allBelow fieldHolds 47) test) fid h in
       let p : Place = rowsPlace fid in
       let same : Bool = sameRows (rowsOf fid) (take (p .count) (drop (p .start) table)) in
       let u : T (same && eqb (total (rowsOf fid)) (p .wide)) = both-right (leb (p .start + p .count) 379) _ t in
@@ -135,7 +140,8 @@ module _ (fid : ℕ) where
         sum = eqb→eq _ _ (both-right same _ u);
         apart = λ i a b.
             let e : p .start + (i - p .start) ≡ i = omega arith in
-            let k : i - p .start < length (keep fid table) = rw (s, length-take, length-drop, row-count) (omega arith) in
+            let k : i - p .start < length (keep fid table) =
+            rw (s, length-take, length-drop, row-count) (omega arith) in
             let g : getD (keep fid table) (i - p .start) none ≡ getD table i none =
             rw (s, getD-take (p .count) (drop (p .start) table) (i - p .start) none (omega arith), getD-drop, e) in
             rw (← g) (kept fid table (i - p .start) k);
@@ -145,7 +151,13 @@ module _ (fid : ℕ) where
   unfolding rowsOf
   unknown-rule h =
       let e = keep-none fid h table 0 (both-left (rowsHold 0 table) (allBelow fieldHolds 47) test) in
-      record { inside = rw (place-none fid h) (omega arith); rows = rw (e, place-none fid h); sum = rw (e, place-none fid h); apart = λ i a b. absurd (omega (arith, rw (place-none fid h) at b)) }
+      record {
+        inside = rw (place-none fid h) (omega arith);
+        rows = rw (e, place-none fid h);
+        sum = rw
+            (e, place-none fid h);
+        apart = λ i a b. absurd (omega (arith, rw (place-none fid h) at b));
+      }
 
 pub table-rule : TableRule
 table-rule = record { each = row-rule; field = λ fid. go fid (ltb fid 47) refl }
@@ -200,7 +212,8 @@ module _ (fid : ℕ) where
   pub rows-none : 47 ≤ fid → rowsOf fid ≡ []
   rows-none h = rw (table-rule .field fid .rows, place-none fid h)
 
-  pub rows-from : (i start : ℕ) → i ≡ fid → start ≡ rowsPlace i .start → (j last : ℕ) → j ≡ fid → last ≡ rowsPlace j .start + rowsPlace j .count
+  pub rows-from : (i start : ℕ) → i ≡ fid → start ≡ rowsPlace i .start → (j last : ℕ) → j ≡ fid
+      → last ≡ rowsPlace j .start + rowsPlace j .count
       → rowsOf fid ≡ take (last - start) (drop start table)
   rows-from i start a p j last b q =
       let d : rowsPlace fid .start + rowsPlace fid .count - rowsPlace fid .start ≡ rowsPlace fid .count = omega arith in
@@ -211,7 +224,8 @@ module _ (fid : ℕ) where
       let h : rowsPlace fid .start + rowsPlace fid .count ≤ 379 = table-rule .field fid .inside in
       rw (table-rule .field fid .rows, length-take, length-drop, row-count) (omega arith)
 
-pub rows-next : (i last : ℕ) → i < last → last ≤ 379 → take (last - i) (drop i table) ≡ rowAt i ∷ take (last - (i + 1)) (drop (i + 1) table)
+pub rows-next : (i last : ℕ) → i < last → last ≤ 379
+    → take (last - i) (drop i table) ≡ rowAt i ∷ take (last - (i + 1)) (drop (i + 1) table)
 rows-next i last h k =
     let n : i < length table = rw row-count (omega arith) in
     let s : last - i ≡ suc (last - suc i) = omega arith in

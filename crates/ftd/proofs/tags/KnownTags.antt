@@ -24,7 +24,8 @@ unfolding knownTags
 seven = refl
 
 row : (kind len i : ℕ) → i < 7 →
-    rightIn (drop i knownTags) kind len ≡ cond (eqb (getD kinds i 0) kind) (eqb (getD lengths i 0) len) (rightIn (drop (i + 1) knownTags) kind len)
+    rightIn (drop i knownTags) kind len ≡ cond (eqb (getD kinds i 0) kind) (eqb (getD lengths i 0) len)
+    (rightIn (drop (i + 1) knownTags) kind len)
 unfolding kinds lengths
 row kind len i h =
     let k : i < length knownTags = rw seven h in
@@ -41,7 +42,8 @@ module _ (kind i : ℕ) (inv : (len : ℕ) → rightIn (drop i knownTags) kind l
   unfolding kinds
   row-here h e = record { low = omega arith; here = λ w. e; same = inv }
 
-  pub row-turn : i < 7 → (getD kinds i 0 ≡ kind → ⊥) → (len : ℕ) → rightIn (drop (i + 1) knownTags) kind len ≡ lengthRight kind len
+  pub row-turn : i < 7 → (getD kinds i 0 ≡ kind → ⊥) → (len : ℕ)
+      → rightIn (drop (i + 1) knownTags) kind len ≡ lengthRight kind len
   row-turn h e len = rw (row kind len i h, ne-eqb (getD kinds i 0) kind e) at (inv len)
 
   pub row-end : i ≤ 7 → 7 ≤ i → KnownRow kind 7

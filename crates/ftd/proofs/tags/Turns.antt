@@ -31,10 +31,14 @@ unfolding tag
 some-tag = omega arith
 
 -- A tag of the right length is taken off a run.
-good-behind : (e : List ℕ) (r : Run) (k m kind len : ℕ) (t : Bool) → getD e 0 0 ≡ kind → getD e 1 0 ≡ len → lengthRight kind len ≡ true
+good-behind : (e : List ℕ) (r : Run) (k m kind len : ℕ) (t : Bool) → getD e 0 0 ≡ kind → getD e 1 0 ≡ len
+    → lengthRight kind len ≡ true
     → m ≡ countDate kind k → goodRun (inFront e r) k ≡ t → goodRun r m ≡ t
 good-behind e r k m kind len t p q w c g =
-    let h : (ended r && ((lengthRight (getD e 0 0) (getD e 1 0) && allRight (r .entries)) && leb (dates (r .entries) (countDate (getD e 0 0) k)) 1)) ≡ t = g in
+    let h : (ended r
+    && ((lengthRight (getD e 0 0) (getD e 1 0) && allRight (r .entries))
+    && leb (dates (r .entries) (countDate (getD e 0 0) k)) 1)) ≡ t =
+    g in
     rw c (rw (p, q, w) at h)
 
 module _ (l : List ℕ) (at n : ℕ) (e : n ≡ front tag (drop at l)) where
@@ -56,7 +60,8 @@ module _ (l : List ℕ) (at n : ℕ) (e : n ≡ front tag (drop at l)) where
     pub tags-end : n ≡ 0 → length l ≤ at → leb k 1 ≡ t
     tags-end z h = rw (run-over tag some-tag l at n e z, is-ended l at h) at inv
 
-    pub tags-wrong : (n ≡ 0 → ⊥) → (r : Bool) → r ≡ lengthRight (getD l at 0) (getD l (at + 1) 0) → r ≡ false → false ≡ t
+    pub tags-wrong : (n ≡ 0 → ⊥) → (r : Bool) → r ≡ lengthRight (getD l at 0) (getD l (at + 1) 0) → r ≡ false
+        → false ≡ t
     tags-wrong z r q w =
         sym (and-false (ended (runOf tag (drop (at + n) l))))
         ∙ (rw (run-next tag some-tag l at n e z, kind-at z, length-at z, ← q, w) at inv)
@@ -64,7 +69,8 @@ module _ (l : List ℕ) (at n : ℕ) (e : n ≡ front tag (drop at l)) where
     pub tags-turn : (m : ℕ) → (n ≡ 0 → ⊥) → (r : Bool) → r ≡ lengthRight (getD l at 0) (getD l (at + 1) 0) → r ≡ true
         → m ≡ countDate (getD l at 0) k → goodRun (runOf tag (drop (at + n) l)) m ≡ t
     tags-turn m z r q w d =
-        good-behind (take n (drop at l)) (runOf tag (drop (at + n) l)) k m (getD l at 0) (getD l (at + 1) 0) t (kind-at z) (length-at z) (sym q ∙ w) d
+        good-behind (take n (drop at l)) (runOf tag (drop (at + n) l)) k m (getD l at 0) (getD l (at + 1) 0) t
+        (kind-at z) (length-at z) (sym q ∙ w) d
         (rw (run-next tag some-tag l at n e z) at inv)
 
   module _ (kind : ℕ) (t : TagPlace) (inv : tagIn at (runOf tag (drop at l) .entries) kind ≡ t) where
@@ -73,8 +79,21 @@ module _ (l : List ℕ) (at n : ℕ) (e : n ≡ front tag (drop at l)) where
 
     pub find-here : (n ≡ 0 → ⊥) → getD l at 0 ≡ kind → Data (at + 2) (n - 2) ≡ t
     find-here z h =
-        rw (run-next tag some-tag l at n e z, kind-at z, eq-eqb (getD l at 0) kind h, entry-length tag some-tag l at n e) at inv
+        rw (
+          run-next tag some-tag l at n e z,
+          kind-at z,
+          eq-eqb (getD l at 0) kind h,
+          entry-length tag some-tag l at n
+              e,
+        ) at inv
 
-    pub find-turn : (n ≡ 0 → ⊥) → (getD l at 0 ≡ kind → ⊥) → tagIn (at + n) (runOf tag (drop (at + n) l) .entries) kind ≡ t
+    pub find-turn : (n ≡ 0 → ⊥) → (getD l at 0 ≡ kind → ⊥)
+        → tagIn (at + n) (runOf tag (drop (at + n) l) .entries) kind ≡ t
     find-turn z h =
-        rw (run-next tag some-tag l at n e z, kind-at z, ne-eqb (getD l at 0) kind h, entry-length tag some-tag l at n e) at inv
+        rw (
+          run-next tag some-tag l at n e z,
+          kind-at z,
+          ne-eqb (getD l at 0) kind h,
+          entry-length tag some-tag l at n
+              e,
+        ) at inv

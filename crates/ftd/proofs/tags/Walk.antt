@@ -9,14 +9,16 @@ use lib.ListN.{length, getD, drop}
 use lib.Dec.{leb, eqb}
 use Rattle.ftd.specs.Bytes.{be32Of}
 use Rattle.ftd.specs.Runs.{front, runOf}
-use Rattle.ftd.specs.Tags.{tag, knownTags, lengthRight, countDate, goodRun, goodTags, tagIn, tagPlace, tradeDateOf, tagRunOf}
+use Rattle.ftd.specs.Tags.{tag, knownTags, lengthRight, countDate, goodRun, goodTags, tagIn, tagPlace}
+use Rattle.ftd.specs.Tags.{tradeDateOf, tagRunOf}
 use Rattle.ftd.specs.Tags.Helpers.{datePlace}
 use Rattle.ftd.specs.declared.tags.TagPlace.the-variants.{Data}
 use Rattle.ftd.specs.declared.tags.TradeDate.{TradeDate}
 use Rattle.ftd.specs.declared.tags.TradeDate.the-variants.{None, At}
 use Rattle.ftd.specs.declared.tags.TagRun.{TagRun}
 use Rattle.ftd.specs.declared.tags.TagRun.the-variants.{Broken, Good}
-use Rattle.ftd.proofs.tags.Turns.{tags-stop, tags-end, tags-wrong, find-over, find-here, find-turn, tag-short, tag-whole}
+use Rattle.ftd.proofs.tags.Turns.{tags-stop, tags-end, tags-wrong, find-over, find-here, find-turn, tag-short}
+use Rattle.ftd.proofs.tags.Turns.{tag-whole}
 
 -- What is seen of the trade date up to a place: none, and it is still to be found, or one, and where it lies.
 pub record Seen (l : List ℕ) (at k place : ℕ) : Type 0 where
@@ -44,7 +46,8 @@ module _ (l : List ℕ) (at n : ℕ) (e : n ≡ front tag (drop at l)) where
       go false q = absurd (z (e ∙ tag-short l at (leb-false (2 + getD l (at + 1) 0) (length l - at) q)))
 
   module _ (k place : ℕ) (s : Seen l at k place) where
-    pub seen-turn : (m q : ℕ) → (n ≡ 0 → ⊥) → n ≤ length l - at → (r : Bool) → r ≡ lengthRight (getD l at 0) (getD l (at + 1) 0) → r ≡ true
+    pub seen-turn : (m q : ℕ) → (n ≡ 0 → ⊥) → n ≤ length l - at → (r : Bool)
+        → r ≡ lengthRight (getD l at 0) (getD l (at + 1) 0) → r ≡ true
         → m ≡ countDate (getD l at 0) k → q ≡ datePlace (getD l at 0) place at → Seen l (at + n) m q
     unfolding countDate datePlace
     seen-turn m q z h r g w a b = go (eqb (getD l at 0) 5) refl
@@ -60,8 +63,11 @@ module _ (l : List ℕ) (at n : ℕ) (e : n ≡ front tag (drop at l)) where
               none = λ y. absurd (omega arith);
               one =
                   λ y.
-                  let first : k ≡ 0 = omega arith in
-                  (rw here (sym (rw long at (find-here l at n e 5 _ (s .none first) z kind))), omega (arith, tag-long z));
+                  let first : k ≡ 0 = omega arith in (
+                    rw here (sym (rw long at (find-here l at n e 5 _ (s .none first) z kind))),
+                    omega
+                        (arith, tag-long z),
+                  );
             }
         go false f =
             let count : m ≡ k = rw f at a in
@@ -76,7 +82,8 @@ module _ (l : List ℕ) (at n : ℕ) (e : n ≡ front tag (drop at l)) where
       unfolding tagRunOf
       run-stop z h = rw (← (tags-stop l at n e k _ inv z h))
 
-      pub run-wrong : (n ≡ 0 → ⊥) → (r : Bool) → r ≡ lengthRight (getD l at 0) (getD l (at + 1) 0) → r ≡ false → Broken ≡ tagRunOf l
+      pub run-wrong : (n ≡ 0 → ⊥) → (r : Bool) → r ≡ lengthRight (getD l at 0) (getD l (at + 1) 0) → r ≡ false
+          → Broken ≡ tagRunOf l
       unfolding tagRunOf
       run-wrong z r g w = rw (← (tags-wrong l at n e k _ inv z r g w))
 

@@ -29,7 +29,8 @@ pub spaces-are : (l : List ℕ) → every isSpace l ≡ true → replicate (leng
 spaces-are [] h = refl
 spaces-are (x ∷ xs) h = go (eqb x 32) refl (λ k. spaces-are xs k) h
   where
-    go : (b : Bool) → eqb x 32 ≡ b → (every isSpace xs ≡ true → replicate (length xs) 32 ≡ xs) → (b && every isSpace xs) ≡ true
+    go : (b : Bool) → eqb x 32 ≡ b → (every isSpace xs ≡ true → replicate (length xs) 32 ≡ xs)
+        → (b && every isSpace xs) ≡ true
         → 32 ∷ replicate (length xs) 32 ≡ x ∷ xs
     go true e ih k = rw (ih k, eqb-true x 32 e)
     go false e ih k = absurd (false≢true k)
@@ -47,12 +48,15 @@ one-more x e l h = rw e h
 -- ─── The walk from the end ───
 
 -- With only spaces from n on, and no space before it, n bytes are left.
-trim-size : (s : List ℕ) (n : ℕ) → every isSpace (drop (suc n) s) ≡ true → n < length s → (getD s n 0 ≡ 32 → ⊥) → length (trimmed s) ≡ suc n
+trim-size : (s : List ℕ) (n : ℕ) → every isSpace (drop (suc n) s) ≡ true → n < length s → (getD s n 0 ≡ 32 → ⊥)
+    → length (trimmed s) ≡ suc n
 trim-size [] n h k d = absurd (omega arith)
 trim-size (x ∷ xs) n h k d = go n (every isSpace (x ∷ xs)) refl h k d (λ m a b e. trim-size xs m a b e)
   where
-    go : (n : ℕ) (b : Bool) → every isSpace (x ∷ xs) ≡ b → every isSpace (drop n xs) ≡ true → n < suc (length xs) → (getD (x ∷ xs) n 0 ≡ 32 → ⊥)
-        → ((m : ℕ) → every isSpace (drop (suc m) xs) ≡ true → m < length xs → (getD xs m 0 ≡ 32 → ⊥) → length (trimmed xs) ≡ suc m)
+    go : (n : ℕ) (b : Bool) → every isSpace (x ∷ xs) ≡ b → every isSpace (drop n xs) ≡ true → n < suc (length xs)
+        → (getD (x ∷ xs) n 0 ≡ 32 → ⊥)
+        → ((m : ℕ) → every isSpace (drop (suc m) xs) ≡ true → m < length xs → (getD xs m 0 ≡ 32 → ⊥)
+        → length (trimmed xs) ≡ suc m)
         → length (cond b [] (x ∷ trimmed xs)) ≡ suc n
     go n true e h k d ih = absurd (d (space-at (x ∷ xs) n e k))
     go zero false e h k d ih = rw (trim-spaces xs h)
@@ -62,7 +66,8 @@ module _ (s : List ℕ) (n : ℕ) (inv : every isSpace (drop n s) ≡ true) wher
   pub trim-found : 0 < n → n ≤ length s → (getD s (n - 1) 0 ≡ 32 → ⊥) → n ≡ length (trimmed s)
   trim-found h k d = go n inv h k d
     where
-      go : (n : ℕ) → every isSpace (drop n s) ≡ true → 0 < n → n ≤ length s → (getD s (n - 1) 0 ≡ 32 → ⊥) → n ≡ length (trimmed s)
+      go : (n : ℕ) → every isSpace (drop n s) ≡ true → 0 < n → n ≤ length s → (getD s (n - 1) 0 ≡ 32 → ⊥)
+          → n ≡ length (trimmed s)
       go zero i h k d = absurd (omega arith)
       go (suc m) i h k d =
           let e : suc m - 1 ≡ m = omega arith in
@@ -148,11 +153,13 @@ module _ (width : ℕ) (v : List ℕ) where
     unfolding textFits
     text-ends e n p = rw (le-leb (length v) width h, ← (rw take-length at q), e, p)
 
-  pub text-parts : textFits width v ≡ true → (length v ≤ width) × (every isText v ≡ true) × (length (trimmed v) ≡ length v)
+  pub text-parts : textFits width v ≡ true
+      → (length v ≤ width) × (every isText v ≡ true) × (length (trimmed v) ≡ length v)
   unfolding textFits
   text-parts e = go (leb (length v) width) refl (every isText v) (eqb (length (trimmed v)) (length v)) refl e
     where
-      go : (a : Bool) → leb (length v) width ≡ a → (b c : Bool) → eqb (length (trimmed v)) (length v) ≡ c → (a && (b && c)) ≡ true
+      go : (a : Bool) → leb (length v) width ≡ a → (b c : Bool) → eqb (length (trimmed v)) (length v) ≡ c
+          → (a && (b && c)) ≡ true
           → (length v ≤ width) × (b ≡ true) × (length (trimmed v) ≡ length v)
       go true p true true r e = (leb-true (length v) width p, refl, eqb-true (length (trimmed v)) (length v) r)
       go true p true false r e = absurd (false≢true e)
@@ -173,7 +180,8 @@ module _ (width : ℕ) (v : List ℕ) where
 -- ─── Spaces put, and the bytes of a value ───
 
 module _ (out : List ℕ) (i to : ℕ) (t : List ℕ) (inv : put out i (replicate (to - i) 32) ≡ t) where
-  pub spaces-turn : i < to → to ≤ length out → (next : List ℕ) → next ≡ put out i (32 ∷ []) → put next (i + 1) (replicate (to - (i + 1)) 32) ≡ t
+  pub spaces-turn : i < to → to ≤ length out → (next : List ℕ) → next ≡ put out i (32 ∷ [])
+      → put next (i + 1) (replicate (to - (i + 1)) 32) ≡ t
   spaces-turn h k next q =
       let s : to - i ≡ suc (to - (i + 1)) = omega arith in
       rw (q, put-put out i (32 ∷ []) (replicate (to - (i + 1)) 32) (omega arith)) (rw s at inv)
@@ -183,10 +191,12 @@ module _ (out : List ℕ) (i to : ℕ) (t : List ℕ) (inv : put out i (replicat
       let z : to - i ≡ 0 = omega arith in
       sym (put-none out i) ∙ (rw z at inv)
 
-pub text-put : (out v : List ℕ) (width : ℕ) (a b : List ℕ) → a ≡ put out 0 v → b ≡ put a (length v) (replicate (width - length v) 32)
+pub text-put : (out v : List ℕ) (width : ℕ) (a b : List ℕ) → a ≡ put out 0 v
+    → b ≡ put a (length v) (replicate (width - length v) 32)
     → b ≡ put out 0 (textBytes width v)
 unfolding textBytes
-text-put out v width a b p q = q ∙ rw p (rw zero-add at (put-put out 0 v (replicate (width - length v) 32) (omega arith)))
+text-put out v width a b p q =
+    q ∙ rw p (rw zero-add at (put-put out 0 v (replicate (width - length v) 32) (omega arith)))
 
 pub trim-end : (s : List ℕ) → every isSpace (drop (length s) s) ≡ true
 trim-end s = rw (drop-of-length-le s (le-refl (length s)))
@@ -210,7 +220,8 @@ trim-full : (v : List ℕ) → length (trimmed v) ≡ length v → trimmed v ≡
 trim-full [] h = refl
 trim-full (x ∷ xs) h = go (every isSpace (x ∷ xs)) (λ k. trim-full xs k) h
   where
-    go : (b : Bool) → (length (trimmed xs) ≡ length xs → trimmed xs ≡ xs) → length (cond b [] (x ∷ trimmed xs)) ≡ suc (length xs)
+    go : (b : Bool) → (length (trimmed xs) ≡ length xs → trimmed xs ≡ xs)
+        → length (cond b [] (x ∷ trimmed xs)) ≡ suc (length xs)
         → cond b [] (x ∷ trimmed xs) ≡ x ∷ xs
     go true ih h = absurd (omega arith)
     go false ih h = ap (λ (r : List ℕ). x ∷ r) (ih (omega arith))
@@ -243,8 +254,16 @@ unfolding textBytes textFits
 again l h =
     let s : List ℕ = replicate (length l - length (trimmed l)) 32 in
     let t : trimmed (trimmed l) ≡ trimmed l =
-    sym (trim-behind (trimmed l) s (all-spaces (length l - length (trimmed l)))) ∙ ap trimmed (trim-padded l) in
-    (rw (le-leb (length (trimmed l)) (length l) (trim-least l), trim-text l h, t, eq-eqb (length (trimmed l)) (length (trimmed l)) refl), trim-padded l)
+    sym (trim-behind (trimmed l) s (all-spaces (length l - length (trimmed l)))) ∙ ap trimmed (trim-padded l) in (
+      rw (
+        le-leb (length (trimmed l)) (length l) (trim-least l),
+        trim-text l h,
+        t,
+        eq-eqb (length (trimmed l))
+            (length (trimmed l)) refl,
+      ),
+      trim-padded l,
+    )
 
 pub text-again : (l : List ℕ) (n : ℕ) → textValue l ≡ Value n
     → (textFits (length l) (take n l) ≡ true) × (textBytes (length l) (take n l) ≡ l)

@@ -10,9 +10,11 @@ use borrow.Author.Tests.{lt-ltb, le-leb, lt-leb, eq-eqb, ne-eqb}
 use lib.ListN.{length, getD, take, drop, length-append, length-take, drop-of-length-le, List·getD-append}
 use lib.Seq.{drop-cons, getD-take, take-length, drop-append-le}
 use lib.Dec.{leb, ltb, eqb, T, ltb→lt}
-use Rattle.ftd.specs.Table.{charKind, wordKind, intKind, stringKind, numberKind, floatKind, dateKind, firstListed, lastListed, enumerations}
+use Rattle.ftd.specs.Table.{charKind, wordKind, intKind, stringKind, numberKind, floatKind, dateKind, firstListed}
+use Rattle.ftd.specs.Table.{lastListed, enumerations}
 use Rattle.ftd.specs.Table.Helpers.{allBelow}
-use Rattle.ftd.specs.Values.{every, among, isListed, isNumber, withoutPoint, isFloat, monthOf, dayDigits, rightDay, isDate, isValue}
+use Rattle.ftd.specs.Values.{every, among, isListed, isNumber, withoutPoint, isFloat, monthOf, dayDigits}
+use Rattle.ftd.specs.Values.{rightDay, isDate, isValue}
 use Rattle.ftd.specs.Values.Helpers.{inClass}
 use Rattle.ftd.specs.declared.values.Class.{Class}
 use Rattle.ftd.specs.declared.values.Class.the-variants.{Text, Digit, Zero, Space}
@@ -41,7 +43,8 @@ module _ (k : Class) (b : ℕ) where
 
 -- ─── The bytes of a part, one at a time ───
 
-module _ (k : Class) (s : List ℕ) (i to : ℕ) (fits : to ≤ length s) (t : Bool) (inv : every (inClass k) (drop i (take to s)) ≡ t) where
+module _ (k : Class) (s : List ℕ) (i to : ℕ) (fits : to ≤ length s) (t : Bool)
+    (inv : every (inClass k) (drop i (take to s)) ≡ t) where
   pub every-end : to ≤ i → true ≡ t
   every-end h =
       let e : length (take to s) ≤ i = rw length-take (omega arith) in
@@ -60,7 +63,8 @@ module _ (k : Class) (s : List ℕ) (i to : ℕ) (fits : to ≤ length s) (t : B
     every-turn w = rw (← q, w) at (step h)
 
 -- The same for a walk to the end: what was found so far, and the rest.
-module _ (k : Class) (s : List ℕ) (i to : ℕ) (fits : to ≤ length s) (t g : Bool) (inv : (g && every (inClass k) (drop i (take to s))) ≡ t) where
+module _ (k : Class) (s : List ℕ) (i to : ℕ) (fits : to ≤ length s) (t g : Bool)
+    (inv : (g && every (inClass k) (drop i (take to s))) ≡ t) where
   pub all-end : to ≤ i → g ≡ t
   all-end h = go g (rw (← (every-end k s i to fits (every (inClass k) (drop i (take to s))) refl h)) at inv)
     where
@@ -68,8 +72,11 @@ module _ (k : Class) (s : List ℕ) (i to : ℕ) (fits : to ≤ length s) (t g :
       go true e = e
       go false e = e
 
-  pub all-turn : i < to → (r : Bool) → r ≡ inClass k (getD s i 0) → (n : Bool) → n ≡ (g && r) → (n && every (inClass k) (drop (i + 1) (take to s))) ≡ t
-  all-turn h r q n p = rw p (go g r (every (inClass k) (drop (i + 1) (take to s))) (rw (← (rw (← q) at (step k s i to fits (every (inClass k) (drop i (take to s))) refl h))) at inv))
+  pub all-turn : i < to → (r : Bool) → r ≡ inClass k (getD s i 0) → (n : Bool) → n ≡ (g && r)
+      → (n && every (inClass k) (drop (i + 1) (take to s))) ≡ t
+  all-turn h r q n p =
+      rw p (go g r (every (inClass k) (drop (i + 1) (take to s)))
+      (rw (← (rw (← q) at (step k s i to fits (every (inClass k) (drop i (take to s))) refl h))) at inv))
     where
       go : (x y z : Bool) → (x && (y && z)) ≡ t → ((x && y) && z) ≡ t
       go true y z e = e
@@ -79,11 +86,13 @@ pub every-append : (p : ℕ → Bool) (a b : List ℕ) → every p (a ++ b) ≡ 
 every-append p [] b = refl
 every-append p (x ∷ xs) b = go (p x) (every-append p xs b)
   where
-    go : (c : Bool) → every p (xs ++ b) ≡ (every p xs && every p b) → (c && every p (xs ++ b)) ≡ ((c && every p xs) && every p b)
+    go : (c : Bool) → every p (xs ++ b) ≡ (every p xs && every p b)
+        → (c && every p (xs ++ b)) ≡ ((c && every p xs) && every p b)
     go true e = e
     go false e = refl
 
-module _ (k : Class) (s : List ℕ) (from point behind : ℕ) (a : Bool) (p : a ≡ every (inClass k) (drop from (take point s))) where
+module _ (k : Class) (s : List ℕ) (from point behind : ℕ) (a : Bool)
+    (p : a ≡ every (inClass k) (drop from (take point s))) where
   pub parts-wrong : a ≡ false → false ≡ every (inClass k) (drop from (take point s) ++ drop behind s)
   parts-wrong w = rw (every-append (inClass k) (drop from (take point s)) (drop behind s), ← p, w)
 
@@ -104,21 +113,23 @@ module _ (s : List ℕ) (point behind : ℕ) (low : 1 ≤ point) (order : point 
   pub rest : drop 1 (take point s ++ drop behind s) ≡ drop 1 (take point s) ++ drop behind s
   rest = drop-append-le 1 (take point s) (drop behind s) (omega (arith, some))
 
-  module _ (minus : getD s 0 0 ≡ 45) (d : Bool) (q : d ≡ every (inClass Digit) (drop 1 (take point s) ++ drop behind s)) where
-    pub minus-wrong : d ≡ false → false ≡ isNumber (take point s ++ drop behind s)
-    unfolding isNumber
-    minus-wrong w = rw (first, eq-eqb _ _ minus, rest, ← q, w)
-
-    module _ (w : d ≡ true) (z : Bool) (y : z ≡ every (inClass Zero) (drop 1 (take point s) ++ drop behind s)) where
-      pub minus-zero : z ≡ true → false ≡ isNumber (take point s ++ drop behind s)
+  module _ (minus : getD s 0 0 ≡ 45) (d : Bool) (q : d ≡ every (inClass Digit) (drop 1 (take point s) ++ drop behind s))
+    where
+      pub minus-wrong : d ≡ false → false ≡ isNumber (take point s ++ drop behind s)
       unfolding isNumber
-      minus-zero v = rw (first, eq-eqb _ _ minus, rest, ← q, w, ← y, v)
+      minus-wrong w = rw (first, eq-eqb _ _ minus, rest, ← q, w)
 
-      pub minus-number : z ≡ false → true ≡ isNumber (take point s ++ drop behind s)
-      unfolding isNumber
-      minus-number v = rw (first, eq-eqb _ _ minus, rest, ← q, w, ← y, v)
+      module _ (w : d ≡ true) (z : Bool) (y : z ≡ every (inClass Zero) (drop 1 (take point s) ++ drop behind s)) where
+        pub minus-zero : z ≡ true → false ≡ isNumber (take point s ++ drop behind s)
+        unfolding isNumber
+        minus-zero v = rw (first, eq-eqb _ _ minus, rest, ← q, w, ← y, v)
 
-  pub plain-number : (getD s 0 0 ≡ 45 → ⊥) → (d : Bool) → d ≡ every (inClass Digit) (drop 0 (take point s) ++ drop behind s)
+        pub minus-number : z ≡ false → true ≡ isNumber (take point s ++ drop behind s)
+        unfolding isNumber
+        minus-number v = rw (first, eq-eqb _ _ minus, rest, ← q, w, ← y, v)
+
+  pub plain-number : (getD s 0 0 ≡ 45 → ⊥) → (d : Bool)
+      → d ≡ every (inClass Digit) (drop 0 (take point s) ++ drop behind s)
       → d ≡ isNumber (take point s ++ drop behind s)
   unfolding isNumber
   plain-number n d q =
@@ -170,7 +181,8 @@ module _ (s : List ℕ) where
       unfolding isDate
       date-other v = rw (eq-eqb _ _ h, ← (rw all at p), w, ← (rw all at q), v)
 
-      pub date-digits : b ≡ true → (month day : ℕ) → month ≡ monthOf s → day ≡ dayDigits s → (r : Bool) → r ≡ rightDay month day → r ≡ isDate s
+      pub date-digits : b ≡ true → (month day : ℕ) → month ≡ monthOf s → day ≡ dayDigits s → (r : Bool)
+          → r ≡ rightDay month day → r ≡ isDate s
       unfolding isDate
       date-digits v month day m n r x = rw (eq-eqb _ _ h, ← (rw all at p), w, ← (rw all at q), v, ← m, ← n) x
 
@@ -222,14 +234,22 @@ module _ (kind : ℕ) (low : firstListed ≤ kind) (high : kind ≤ lastListed) 
   unfolding isListed
   listed-over h =
       let k : kind - firstListed < 10 = omega arith in
-      rw (ne-eqb b 0 (λ e. omega arith), among-over b h (getD enumerations (kind - firstListed) []) (below-at (λ k. every (λ v. ltb v 8) (getD enumerations k [])) 10 small (kind - firstListed) k))
+      rw (
+        ne-eqb b 0 (λ e. omega arith),
+        among-over b h (getD enumerations (kind - firstListed) [])
+            (below-at (λ k. every (λ v. ltb v 8) (getD enumerations k [])) 10 small (kind - firstListed) k),
+      )
 
-  pub listed-entry : b < 8 → (m n : ℕ) → m ≡ kind - firstListed → n ≡ b → eqb (getD listed (m * 8 + n) 0) 1 ≡ isListed kind b
+  pub listed-entry : b < 8 → (m n : ℕ) → m ≡ kind - firstListed → n ≡ b
+      → eqb (getD listed (m * 8 + n) 0) 1 ≡ isListed kind b
   listed-entry h m n x y =
       let k : kind - firstListed < 10 = omega arith in
       let e : kind - firstListed + 7 ≡ kind = omega arith in
-      let t : T (listedRight (kind - firstListed) b) = below-at (listedRight (kind - firstListed)) 8 (below-at (λ k. allBelow (listedRight k) 8) 10 entries (kind - firstListed) k) b h in
-      let g : eqb (getD listed ((kind - firstListed) * 8 + b) 0) 1 ≡ isListed (kind - firstListed + 7) b = same-bool _ _ t in
+      let t : T (listedRight (kind - firstListed) b) =
+      below-at (listedRight (kind - firstListed)) 8
+      (below-at (λ k. allBelow (listedRight k) 8) 10 entries (kind - firstListed) k) b h in
+      let g : eqb (getD listed ((kind - firstListed) * 8 + b) 0) 1 ≡ isListed (kind - firstListed + 7) b =
+      same-bool _ _ t in
       rw (x, y) (rw e at g)
 
 -- ─── A value, by kind ───
@@ -250,7 +270,8 @@ module _ (kind scale : ℕ) (s : List ℕ) where
   unfolding isValue
   int-value e = rw e
 
-  pub text-value : kind ≡ stringKind → (r : Bool) → r ≡ every (inClass Text) (drop 0 (take (length s) s)) → r ≡ isValue kind scale s
+  pub text-value : kind ≡ stringKind → (r : Bool) → r ≡ every (inClass Text) (drop 0 (take (length s) s))
+      → r ≡ isValue kind scale s
   unfolding isValue
   text-value e r q = rw e (rw take-length at q)
 
@@ -275,13 +296,15 @@ module _ (kind scale : ℕ) (s : List ℕ) where
 
   abbrev pub Other : Type 0
   Other =
-      (((((((Unit {0} × Not charKind) × Not wordKind) × Not intKind) × Not stringKind) × Not numberKind) × Not floatKind) × Not dateKind)
+      (((((((Unit {0} × Not charKind) × Not wordKind) × Not intKind) × Not stringKind) × Not numberKind)
+      × Not floatKind) × Not dateKind)
 
   pub above : Other → firstListed ≤ kind
   above o =
       after kind dateKind (after kind floatKind (after kind numberKind (after kind stringKind (after kind intKind
       (after kind wordKind (after kind charKind (omega arith)
-      (o .0 .0 .0 .0 .0 .0 .1)) (o .0 .0 .0 .0 .0 .1)) (o .0 .0 .0 .0 .1)) (o .0 .0 .0 .1)) (o .0 .0 .1)) (o .0 .1)) (o .1)
+      (o .0 .0 .0 .0 .0 .0 .1)) (o .0 .0 .0 .0 .0 .1)) (o .0 .0 .0 .0 .1)) (o .0 .0 .0 .1)) (o .0 .0 .1)) (o .0 .1))
+      (o .1)
 
   module _ (other : Other) where
     low : firstListed ≤ kind

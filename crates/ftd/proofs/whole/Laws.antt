@@ -87,7 +87,8 @@ char-again kind l b e =
     one (x ∷ []) h = refl
     one (x ∷ y ∷ ys) h = absurd (omega arith)
 
-    go : (a : Bool) → eqb (length l) 1 ≡ a → (a && charFits kind (getD l 0 0)) ≡ true → getD l 0 0 ≡ b → (charFits kind b ≡ true) × (b ∷ [] ≡ l)
+    go : (a : Bool) → eqb (length l) 1 ≡ a → (a && charFits kind (getD l 0 0)) ≡ true → getD l 0 0 ≡ b
+        → (charFits kind b ≡ true) × (b ∷ [] ≡ l)
     go true p f v = (rw (← v) f, rw (← v) (one l (eqb-true (length l) 1 p)))
     go false p f v = absurd (false≢true f)
 

@@ -10,7 +10,8 @@ use lib.Dec.{ltb, eqb}
 use Rattle.ftd.specs.Bytes.{put, bytes16, bytes32}
 use Rattle.ftd.specs.Fields.{fieldWith}
 use Rattle.ftd.specs.Packet.{chainLetter}
-use Rattle.ftd.specs.Write.{frameHead, packetBytes, headerBytes, messageBytes, isPlain, Verdict, fine, refuse, other, writtenAnswer, writtenOutput}
+use Rattle.ftd.specs.Write.{frameHead, packetBytes, headerBytes, messageBytes, isPlain, Verdict, fine, refuse}
+use Rattle.ftd.specs.Write.{other, writtenAnswer, writtenOutput}
 use Rattle.ftd.specs.declared.refusal.Refusal.{Refusal}
 use Rattle.ftd.specs.declared.refusal.Refusal.the-variants.{TooSmall}
 use Rattle.ftd.specs.Tags.{extensionBytes, tagsFor}
@@ -22,11 +23,14 @@ use Rattle.ftd.specs.declared.packet.Header.{Header}
 use Rattle.ftd.proofs.bytes.Put.{length-put, put-put, put-before, put-zero}
 
 -- A put right behind a put is one put of both.
-pub then : (l o p : List ℕ) (to at : ℕ) (vs ws : List ℕ) → to ≤ length l → at ≡ to + length vs → o ≡ put l to vs → p ≡ put o at ws → p ≡ put l to (vs ++ ws)
+pub then : (l o p : List ℕ) (to at : ℕ) (vs ws : List ℕ) → to ≤ length l → at ≡ to + length vs → o ≡ put l to vs
+    → p ≡ put o at ws → p ≡ put l to (vs ++ ws)
 then l o p to at vs ws h e a b = rw (b, a, e) (put-put l to vs ws h)
 
-pub frame-put : (l o1 o2 o3 : List ℕ) (to kind ext body : ℕ) → to ≤ length l → ext < 256 → body < 65536 → o1 ≡ put l to (kind ∷ [])
-    → o2 ≡ put o1 (to + 1) (ext % 256 ∷ []) → o3 ≡ put o2 (to + 2) (bytes16 (body % 65536)) → o3 ≡ put l to (frameHead kind ext body)
+pub frame-put : (l o1 o2 o3 : List ℕ) (to kind ext body : ℕ) → to ≤ length l → ext < 256 → body < 65536
+    → o1 ≡ put l to (kind ∷ [])
+    → o2 ≡ put o1 (to + 1) (ext % 256 ∷ []) → o3 ≡ put o2 (to + 2) (bytes16 (body % 65536))
+    → o3 ≡ put l to (frameHead kind ext body)
 frame-put l o1 o2 o3 to kind ext body h small16 small b1 b2 b3 =
     let e : ext % 256 ≡ ext = omega arith in
     let b : body % 65536 ≡ body = omega arith in
@@ -34,9 +38,12 @@ frame-put l o1 o2 o3 to kind ext body h small16 small b1 b2 b3 =
     (then l o1 o2 to (to + 1) (kind ∷ []) (ext ∷ []) h refl b1 (rw e at b2))
     (rw b at b3)
 
-pub header-put : (l o1 o2 o3 o4 o5 o6 o7 : List ℕ) (to : ℕ) (h : Header) (letter size : ℕ) → to ≤ length l → size < 65536
-    → o1 ≡ put l to (1 ∷ []) → o2 ≡ put o1 (to + 1) (bytes32 (h .tid)) → letter ≡ chainLetter (h .chain) → o3 ≡ put o2 (to + 5) (letter ∷ [])
-    → o4 ≡ put o3 (to + 6) (bytes16 (h .series)) → o5 ≡ put o4 (to + 8) (bytes32 (h .number)) → o6 ≡ put o5 (to + 12) (bytes16 (h .fields))
+pub header-put : (l o1 o2 o3 o4 o5 o6 o7 : List ℕ) (to : ℕ) (h : Header) (letter size : ℕ) → to ≤ length l
+    → size < 65536
+    → o1 ≡ put l to (1 ∷ []) → o2 ≡ put o1 (to + 1) (bytes32 (h .tid)) → letter ≡ chainLetter (h .chain)
+    → o3 ≡ put o2 (to + 5) (letter ∷ [])
+    → o4 ≡ put o3 (to + 6) (bytes16 (h .series)) → o5 ≡ put o4 (to + 8) (bytes32 (h .number))
+    → o6 ≡ put o5 (to + 12) (bytes16 (h .fields))
     → o7 ≡ put o6 (to + 14) (bytes16 (size % 65536)) → o7 ≡ put l to (headerBytes h size)
 unfolding headerBytes
 header-put l o1 o2 o3 o4 o5 o6 o7 to h letter size room small b1 b2 c b3 b4 b5 b6 b7 =
@@ -54,8 +61,10 @@ header-put l o1 o2 o3 o4 o5 o6 o7 to h letter size room small b1 b2 c b3 b4 b5 b
     (then l o1 o2 to (to + 1) (1 ∷ []) (bytes32 (h .tid)) room refl b1 b2)
     (rw c at b3)) b4) b5) b6) (rw s at b7)
 
-pub packet-put : (l o1 o2 o3 : List ℕ) (to kind : ℕ) (extension body : List ℕ) → to ≤ length l → o1 ≡ put l to (frameHead kind (length extension) (length body))
-    → o2 ≡ put o1 (to + 4) extension → o3 ≡ put o2 (to + 4 + length extension) body → o3 ≡ put l to (packetBytes kind extension body)
+pub packet-put : (l o1 o2 o3 : List ℕ) (to kind : ℕ) (extension body : List ℕ) → to ≤ length l
+    → o1 ≡ put l to (frameHead kind (length extension) (length body))
+    → o2 ≡ put o1 (to + 4) extension → o3 ≡ put o2 (to + 4 + length extension) body
+    → o3 ≡ put l to (packetBytes kind extension body)
 unfolding packetBytes
 packet-put l o1 o2 o3 to kind extension body h b1 b2 b3 =
     let f : List ℕ = frameHead kind (length extension) (length body) in
@@ -68,16 +77,26 @@ unfolding headerBytes
 length-header h size = refl
 
 -- What stands before and behind an extension, and then the extension between them, is one put of the three.
-pub between-put : (l o1 o2 : List ℕ) (to n : ℕ) (f e h : List ℕ) → to + length f + length e ≤ length l → n ≡ to + length f
+pub between-put : (l o1 o2 : List ℕ) (to n : ℕ) (f e h : List ℕ) → to + length f + length e ≤ length l
+    → n ≡ to + length f
     → o1 ≡ put (put l to f) (n + length e) h → o2 ≡ put o1 n e → o2 ≡ put l to ((f ++ e) ++ h)
 between-put l o1 o2 to n f e h room s b1 b2 =
     let kept : length (put l to f) ≡ length l = length-put l to f (omega arith) in
     let low : to ≤ length l = omega arith in
-    rw (b2, b1, s, put-before (put l to f) (to + length f) (to + length f + length e) e h refl (rw kept room), put-put l to f (e ++ h) low)
+    rw (
+      b2,
+      b1,
+      s,
+      put-before (put l to f) (to + length f) (to + length f + length e) e h refl (rw kept room),
+      put-put l
+          to f (e ++ h) low,
+    )
     (ap (put l to) (sym (append-assoc f e h)))
 
-pub message-put : (l o1 o2 o3 : List ℕ) (to : ℕ) (h : Header) (extension content : List ℕ) → to + 4 + length extension ≤ length l
-    → o1 ≡ put (put l to (frameHead 1 (length extension) (16 + length content))) (to + 4 + length extension) (headerBytes h (length content))
+pub message-put : (l o1 o2 o3 : List ℕ) (to : ℕ) (h : Header) (extension content : List ℕ)
+    → to + 4 + length extension ≤ length l
+    → o1 ≡ put (put l to (frameHead 1 (length extension) (16 + length content))) (to + 4 + length extension)
+    (headerBytes h (length content))
     → o2 ≡ put o1 (to + 4) extension → o3 ≡ put o2 (to + 4 + length extension + 16) content
     → o3 ≡ put l to (messageBytes h extension content)
 unfolding messageBytes packetBytes
@@ -91,11 +110,13 @@ message-put l o1 o2 o3 to h extension content room b1 b2 b3 =
     (between-put l o1 o2 to (to + 4) f extension n room refl b1 b2) b3)
     ∙ ap (put l to) (append-assoc (f ++ extension) n content ∙ append-assoc f extension (n ++ content)))
 
-pub length-packet : (kind : ℕ) (extension body : List ℕ) → length (packetBytes kind extension body) ≡ 4 + length extension + length body
+pub length-packet : (kind : ℕ) (extension body : List ℕ)
+    → length (packetBytes kind extension body) ≡ 4 + length extension + length body
 unfolding packetBytes
 length-packet kind extension body = rw (length-append extension body) (omega arith)
 
-pub length-message : (h : Header) (extension content : List ℕ) → length (messageBytes h extension content) ≡ 4 + length extension + (16 + length content)
+pub length-message : (h : Header) (extension content : List ℕ)
+    → length (messageBytes h extension content) ≡ 4 + length extension + (16 + length content)
 unfolding messageBytes
 length-message h extension content =
     length-packet 1 extension (headerBytes h (length content) ++ content) ∙ rw (length-append, length-header)
@@ -103,7 +124,8 @@ length-message h extension content =
 -- ─── What a verdict makes of the answer and the output ───
 
 module _ (v : Verdict) (bytes out : List ℕ) where
-  pub by-refusal : (r : Refusal) → v ≡ refuse r → (Refused r ≡ writtenAnswer v bytes out) × (out ≡ writtenOutput v bytes out)
+  pub by-refusal : (r : Refusal) → v ≡ refuse r
+      → (Refused r ≡ writtenAnswer v bytes out) × (out ≡ writtenOutput v bytes out)
   unfolding writtenAnswer writtenOutput
   by-refusal r e = rw e (refl, refl)
 
@@ -116,11 +138,13 @@ module _ (v : Verdict) (bytes out : List ℕ) where
     unfolding writtenAnswer writtenOutput
     by-room h = rw (e, long, lt-ltb (length out) n h) (refl, refl)
 
-    pub by-filling : (o : List ℕ) → n ≤ length out → o ≡ bytes ++ drop n out → (Bytes n ≡ writtenAnswer v bytes out) × (o ≡ writtenOutput v bytes out)
+    pub by-filling : (o : List ℕ) → n ≤ length out → o ≡ bytes ++ drop n out
+        → (Bytes n ≡ writtenAnswer v bytes out) × (o ≡ writtenOutput v bytes out)
     unfolding writtenAnswer writtenOutput
     by-filling o h p = (rw (e, long, le-ltb (length out) n h), p ∙ rw (e, long, le-ltb (length out) n h))
 
-    pub by-writing : (o : List ℕ) → n ≤ length out → o ≡ put out 0 bytes → (Bytes n ≡ writtenAnswer v bytes out) × (o ≡ writtenOutput v bytes out)
+    pub by-writing : (o : List ℕ) → n ≤ length out → o ≡ put out 0 bytes
+        → (Bytes n ≡ writtenAnswer v bytes out) × (o ≡ writtenOutput v bytes out)
     by-writing o h p = by-filling o h (p ∙ put-zero out bytes ∙ rw long)
 
 -- A body that may be written has a length of two bytes.
@@ -133,25 +157,32 @@ plain-body kind body plain e t = go (ltb 65535 body) refl (sym e ∙ t)
     go false q f = omega (arith, ltb-false 65535 body q)
 
 -- The trade date as the only tag.
-pub date-put : (l o1 o2 o3 : List ℕ) (to d : ℕ) → to ≤ length l → o1 ≡ put l to (5 ∷ []) → o2 ≡ put o1 (to + 1) (4 ∷ []) → o3 ≡ put o2 (to + 2) (bytes32 d)
+pub date-put : (l o1 o2 o3 : List ℕ) (to d : ℕ) → to ≤ length l → o1 ≡ put l to (5 ∷ []) → o2 ≡ put o1 (to + 1) (4 ∷ [])
+    → o3 ≡ put o2 (to + 2) (bytes32 d)
     → o3 ≡ put l to (extensionBytes (tagsFor (At d)))
 date-put l o1 o2 o3 to d h b1 b2 b3 =
-    then l o2 o3 to (to + 2) (5 ∷ 4 ∷ []) (bytes32 d) h refl (then l o1 o2 to (to + 1) (5 ∷ []) (4 ∷ []) h refl b1 b2) b3
+    then l o2 o3 to (to + 2) (5 ∷ 4 ∷ []) (bytes32 d) h refl (then l o1 o2 to (to + 1) (5 ∷ []) (4 ∷ []) h refl b1 b2)
+    b3
 
 -- The start field.
-pub resume-put : (l o1 o2 o3 o4 : List ℕ) (to series number : ℕ) → to ≤ length l → o1 ≡ put l to (bytes32 4) → o2 ≡ put o1 (to + 4) (bytes16 6)
-    → o3 ≡ put o2 (to + 6) (bytes16 series) → o4 ≡ put o3 (to + 8) (bytes32 number) → o4 ≡ put l to (resumeBytes series number)
+pub resume-put : (l o1 o2 o3 o4 : List ℕ) (to series number : ℕ) → to ≤ length l → o1 ≡ put l to (bytes32 4)
+    → o2 ≡ put o1 (to + 4) (bytes16 6)
+    → o3 ≡ put o2 (to + 6) (bytes16 series) → o4 ≡ put o3 (to + 8) (bytes32 number)
+    → o4 ≡ put l to (resumeBytes series number)
 resume-put l o1 o2 o3 o4 to series number h b1 b2 b3 b4 =
     then l o3 o4 to (to + 8) (bytes32 4 ++ bytes16 6 ++ bytes16 series) (bytes32 number) h refl
-    (then l o2 o3 to (to + 6) (bytes32 4 ++ bytes16 6) (bytes16 series) h refl (then l o1 o2 to (to + 4) (bytes32 4) (bytes16 6) h refl b1 b2) b3) b4
+    (then l o2 o3 to (to + 6) (bytes32 4 ++ bytes16 6) (bytes16 series) h refl
+    (then l o1 o2 to (to + 4) (bytes32 4) (bytes16 6) h refl b1 b2) b3) b4
 
 -- A field.
 pub length-field : (fid : ℕ) (bytes : List ℕ) → length (fieldWith fid bytes) ≡ 6 + length bytes
 unfolding fieldWith
 length-field fid bytes = omega arith
 
-pub field-put : (l o1 o2 o3 : List ℕ) (to fid : ℕ) (bytes : List ℕ) → to ≤ length l → length bytes < 65536 → o1 ≡ put l to (bytes32 fid)
-    → o2 ≡ put o1 (to + 4) (bytes16 (length bytes % 65536)) → o3 ≡ put o2 (to + 6) bytes → o3 ≡ put l to (fieldWith fid bytes)
+pub field-put : (l o1 o2 o3 : List ℕ) (to fid : ℕ) (bytes : List ℕ) → to ≤ length l → length bytes < 65536
+    → o1 ≡ put l to (bytes32 fid)
+    → o2 ≡ put o1 (to + 4) (bytes16 (length bytes % 65536)) → o3 ≡ put o2 (to + 6) bytes
+    → o3 ≡ put l to (fieldWith fid bytes)
 unfolding fieldWith
 field-put l o1 o2 o3 to fid bytes h small b1 b2 b3 =
     let n : length bytes % 65536 ≡ length bytes = omega arith in

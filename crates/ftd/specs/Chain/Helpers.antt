@@ -24,11 +24,12 @@ othersOf (f ∷ fs) = pack noFields (f ∷ fs)
 abbrev pub pieceAt : List ℕ → ℕ → Cut → Piece
 pieceAt content at c = record { count = c .count; bytes = part content at (c .end - at) }
 
--- From a place on whole fields that a packet holds end there, so many of them; what is left is as shapely as all from the place on. Where
--- that is shapely, they are the content's first piece, and the others are those of what is left. Where none is taken though bytes are left,
--- it is not.
+-- From a place on whole fields that a packet holds end there, so many of them; what is left is as shapely as all from
+-- the place on. Where that is shapely, they are the content's first piece, and the others are those of what is left.
+-- Where none is taken though bytes are left, it is not.
 pub record NextPiece (content : List ℕ) (at : ℕ) (c : Cut) : Type 0 where
-  pub pieces : shapely (runOf field (drop at content)) ≡ true → piecesOf (drop at content) ≡ pieceAt content at c ∷ othersOf (fieldsOf (drop (c .end) content))
+  pub pieces : shapely (runOf field (drop at content)) ≡ true
+      → piecesOf (drop at content) ≡ pieceAt content at c ∷ othersOf (fieldsOf (drop (c .end) content))
   pub low : at ≤ c .end
   pub high : c .end ≤ length content
   pub small : c .end ≤ at + packetContent
@@ -40,18 +41,21 @@ pub record NextPiece (content : List ℕ) (at : ℕ) (c : Cut) : Type 0 where
 abbrev pub FoundPiece : List ℕ → ℕ → PiecePlace → Type 0
 FoundPiece content i NoPiece = length (piecesOf content) ≤ i
 FoundPiece content i (Found at c) =
-    NextPiece content at c × (shapely (runOf field (drop at content)) ≡ true) × (drop i (piecesOf content) ≡ piecesOf (drop at content))
+    NextPiece content at c × (shapely (runOf field (drop at content)) ≡ true)
+    × (drop i (piecesOf content) ≡ piecesOf (drop at content))
 
--- The packets of a content from a place on, at a place of the output: how far they reach, 0 where the content is not shapely from there
--- on; they are put where they fit, and otherwise the output stays.
+-- The packets of a content from a place on, at a place of the output: how far they reach, 0 where the content is not
+-- shapely from there on; they are put where they fit, and otherwise the output stays.
 abbrev pub restOf : Message → Bool → List ℕ → ℕ → List ℕ
 restOf m first content at = joined (framed m first (piecesOf (drop at content)))
 
-pub record PutRest (m : Message) (first : Bool) (content : List ℕ) (at to : ℕ) (before after : List ℕ) (reach : ℕ) : Type 0 where
+pub record PutRest (m : Message) (first : Bool) (content : List ℕ) (at to : ℕ) (before after : List ℕ)
+    (reach : ℕ) : Type 0 where
   pub broken : shapely (runOf field (drop at content)) ≡ false → (reach ≡ 0) × (after ≡ before)
   pub reaches : shapely (runOf field (drop at content)) ≡ true → reach ≡ to + length (restOf m first content at)
   pub stays : shapely (runOf field (drop at content)) ≡ true → length before < reach → after ≡ before
-  pub puts : shapely (runOf field (drop at content)) ≡ true → reach ≤ length before → after ≡ put before to (restOf m first content at)
+  pub puts : shapely (runOf field (drop at content)) ≡ true → reach ≤ length before
+      → after ≡ put before to (restOf m first content at)
 
 -- The bytes of packets with an extension of so many: four, the extension, the header's sixteen and the piece.
 abbrev pub sizeOf : ℕ → List Piece → ℕ
@@ -61,4 +65,6 @@ sizeOf ext (p ∷ ps) = 4 + ext + (16 + length (p .bytes)) + sizeOf ext ps
 -- Pieces measured; refused where the content is not shapely.
 unfoldable pub measureOf : ℕ → List ℕ → ChainSize
 measureOf ext content =
-    cond (shapely (runOf field content)) (Takes (record { packets = length (piecesOf content); bytes = sizeOf ext (piecesOf content) })) (Refused FieldRun)
+    cond (shapely (runOf field content))
+    (Takes (record { packets = length (piecesOf content); bytes = sizeOf ext (piecesOf content) }))
+    (Refused FieldRun)

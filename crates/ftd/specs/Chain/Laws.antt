@@ -1,5 +1,5 @@
--- What holds of the packets of a message (01, "Message packet", demand 2): nothing is lost, no field is split, each packet is read
--- back as what was meant, and the packets are found again in what was written by their first four bytes.
+-- What holds of the packets of a message (01, "Message packet", demand 2): nothing is lost, no field is split, each
+-- packet is read back as what was meant, and the packets are found again in what was written by their first four bytes.
 use Prim.Native.Nat.{ℕ, _+_, _≤_, _<_}
 use mathlib.Core.Path.{_≡_}
 use mathlib.Core.List.{List, [], _∷_, _++_, map}
@@ -39,36 +39,49 @@ pub record ChainLaws : Type 0 where
   pub tags-good : (d : TradeDate) → goodTags (extensionBytes (tagsFor d)) ≡ true
   pub tags-date : (d : TradeDate) → tradeDateOf (extensionBytes (tagsFor d)) ≡ d
   -- Content that has shape is as many whole fields as it has fields; what one packet holds is one piece.
-  pub exact : (content : List ℕ) (limit : ℕ) → shaped content limit ≡ true → exactRun content (length (fieldsOf content)) ≡ true
-  pub single : (content : List ℕ) → shaped content packetContent ≡ true → piecesOf content ≡ record { count = length (fieldsOf content); bytes = content } ∷ []
+  pub exact : (content : List ℕ) (limit : ℕ) → shaped content limit ≡ true
+      → exactRun content (length (fieldsOf content)) ≡ true
+  pub single : (content : List ℕ) → shaped content packetContent ≡ true
+      → piecesOf content ≡ record { count = length (fieldsOf content); bytes = content } ∷ []
   -- The pieces' bytes joined are the content.
-  pub pieces-joined : (content : List ℕ) (limit : ℕ) → shaped content limit ≡ true → joined (map (λ (p : Piece). p .bytes) (piecesOf content)) ≡ content
+  pub pieces-joined : (content : List ℕ) (limit : ℕ) → shaped content limit ≡ true
+      → joined (map (λ (p : Piece). p .bytes) (piecesOf content)) ≡ content
   -- Each piece is so many whole fields, of at most 4,080 bytes together.
   pub piece-whole : (content : List ℕ) (limit i : ℕ) → shaped content limit ≡ true → i < length (piecesOf content)
-      → (length (pieceAtPlace content i .bytes) ≤ packetContent) × (exactRun (pieceAtPlace content i .bytes) (pieceAtPlace content i .count) ≡ true)
+      → (length (pieceAtPlace content i .bytes) ≤ packetContent)
+      × (exactRun (pieceAtPlace content i .bytes) (pieceAtPlace content i .count) ≡ true)
   -- There are as many packets as pieces, one at least.
-  pub as-many : (m : Message) (content : List ℕ) → (length (packetsOf m content) ≡ length (piecesOf content)) × (0 < length (packetsOf m content))
+  pub as-many : (m : Message) (content : List ℕ)
+      → (length (packetsOf m content) ≡ length (piecesOf content)) × (0 < length (packetsOf m content))
   -- Two neighbours have more than 4,080 bytes together, so that a message has at most 17.
   pub few : (content : List ℕ) → length content ≤ mostContent → length (piecesOf content) ≤ 17
-  -- Each packet, with anything behind it, is read back: TID, series and number of the message, the letter of its place, its piece and the trade date.
-  pub read-back : (m : Message) (content : List ℕ) (limit i : ℕ) (q : List ℕ) → shaped content limit ≡ true → i < length (packetsOf m content)
+  -- Each packet, with anything behind it, is read back: TID, series and number of the message, the letter of its place,
+  -- its piece and the trade date.
+  pub read-back : (m : Message) (content : List ℕ) (limit i : ℕ) (q : List ℕ) → shaped content limit ≡ true
+      → i < length (packetsOf m content)
       → readOf (packetAtPlace m content i ++ q)
-      ≡ Accepted (headerFor m (letterAt m content i) (pieceAtPlace content i .count)) (span 4 (length (extensionBytes (tagsFor (m .date)))))
+      ≡ Accepted (headerFor m (letterAt m content i) (pieceAtPlace content i .count))
+      (span 4 (length (extensionBytes (tagsFor (m .date)))))
       (span (4 + length (extensionBytes (tagsFor (m .date))) + 16) (length (pieceAtPlace content i .bytes)))
   pub trade-date-back : (m : Message) (content : List ℕ) (i : ℕ) (q : List ℕ) → i < length (packetsOf m content)
       → tradeDateOf (part (packetAtPlace m content i ++ q) 4 (length (extensionBytes (tagsFor (m .date))))) ≡ m .date
   pub piece-back : (m : Message) (content : List ℕ) (i : ℕ) (q : List ℕ) → i < length (packetsOf m content)
-      → part (packetAtPlace m content i ++ q) (4 + length (extensionBytes (tagsFor (m .date))) + 16) (length (pieceAtPlace content i .bytes)) ≡ pieceAtPlace content i .bytes
+      → part (packetAtPlace m content i ++ q) (4 + length (extensionBytes (tagsFor (m .date))) + 16)
+      (length (pieceAtPlace content i .bytes)) ≡ pieceAtPlace content i .bytes
   -- The same with the trade date, as one answer; and each is one packet, and a message packet.
-  pub dated-back : (m : Message) (content : List ℕ) (limit i : ℕ) (q : List ℕ) → shaped content limit ≡ true → i < length (packetsOf m content)
+  pub dated-back : (m : Message) (content : List ℕ) (limit i : ℕ) (q : List ℕ) → shaped content limit ≡ true
+      → i < length (packetsOf m content)
       → datedOf (packetAtPlace m content i ++ q)
       ≡ record {
         packet =
-            Accepted (headerFor m (letterAt m content i) (pieceAtPlace content i .count)) (span 4 (length (extensionBytes (tagsFor (m .date)))))
+            Accepted (headerFor m (letterAt m content i) (pieceAtPlace content i .count))
+            (span 4 (length (extensionBytes (tagsFor (m .date)))))
             (span (4 + length (extensionBytes (tagsFor (m .date))) + 16) (length (pieceAtPlace content i .bytes)));
         date = m .date;
       }
-  pub one-packet : (m : Message) (content : List ℕ) (limit i : ℕ) → shaped content limit ≡ true → i < length (packetsOf m content)
+  pub one-packet : (m : Message) (content : List ℕ) (limit i : ℕ) → shaped content limit ≡ true
+      → i < length (packetsOf m content)
       → (notOnePacket (packetAtPlace m content i) ≡ false) × (noMessagePacket (packetAtPlace m content i) ≡ false)
   -- What a whole message is written as, cut by the packets' first four bytes, is its packets.
-  pub cut-back : (m : Message) (content : List ℕ) → runOf packetForm (joined (packetsOf m content)) ≡ record { entries = packetsOf m content; rest = [] }
+  pub cut-back : (m : Message) (content : List ℕ)
+      → runOf packetForm (joined (packetsOf m content)) ≡ record { entries = packetsOf m content; rest = [] }

@@ -8,7 +8,9 @@ use lib.ListN.{length, getD}
 use Rattle.ftd.specs.Bytes.{Bytes, part, joined}
 use Rattle.ftd.specs.Tags.{goodTags}
 use Rattle.ftd.specs.Fields.{exactRun, fidOf, bytesOf}
-use Rattle.ftd.specs.Packet.{mostExtension, mostBody, kindOf, extensionLength, bodyLength, saidLength, bodyStart, extensionOf, versionOf, letterOf, fieldCountOf, contentLengthOf, contentOf, isLetter, span, extensionSpan, acceptedOf, isShort, readOf, messageFields, fieldOf, fieldBytes}
+use Rattle.ftd.specs.Packet.{mostExtension, mostBody, kindOf, extensionLength, bodyLength, saidLength, bodyStart}
+use Rattle.ftd.specs.Packet.{extensionOf, versionOf, letterOf, fieldCountOf, contentLengthOf, contentOf, isLetter}
+use Rattle.ftd.specs.Packet.{span, extensionSpan, acceptedOf, isShort, readOf, messageFields, fieldOf, fieldBytes}
 use Rattle.ftd.specs.declared.fields.FieldPlace.the-variants.{NoField, Field}
 use Rattle.ftd.specs.declared.packet.Span.{Span}
 use Rattle.ftd.specs.declared.packet.Header.{Header}
@@ -57,7 +59,8 @@ EndsAt s to = s .start + s .len ≡ to
 abbrev pub Inside : List ℕ → Packet → Type 0
 Inside p Short = Unit
 Inside p (Link kind extension) = EndsAt extension (saidLength p) × (saidLength p ≤ length p)
-Inside p (Skipped kind extension body) = EndsAt extension (body .start) × EndsAt body (saidLength p) × (saidLength p ≤ length p)
+Inside p (Skipped kind extension body) =
+    EndsAt extension (body .start) × EndsAt body (saidLength p) × (saidLength p ≤ length p)
 Inside p (Message h extension content) =
     EndsAt extension (content .start - 16) × EndsAt content (saidLength p) × (saidLength p ≤ length p)
 Inside p (Refused r) = Unit
@@ -76,8 +79,10 @@ pub record ReadLaws : Type 0 where
   pub message : (p : List ℕ) → (readOf p ≡ acceptedOf p) ↔ IsMessage p
   pub message-only : (p : List ℕ) (h : Header) (e c : Span) → readOf p ≡ Message h e c → Message h e c ≡ acceptedOf p
   pub link : (p : List ℕ) → (readOf p ≡ Link (kindOf p) (extensionSpan p)) ↔ IsLink p
-  pub link-only : (p : List ℕ) (kind : ℕ) (e : Span) → readOf p ≡ Link kind e → Link kind e ≡ Link (kindOf p) (extensionSpan p)
-  pub skipped : (p : List ℕ) → (readOf p ≡ Skipped (kindOf p) (extensionSpan p) (span (bodyStart p) (bodyLength p))) ↔ IsSkipped p
+  pub link-only : (p : List ℕ) (kind : ℕ) (e : Span) → readOf p ≡ Link kind e
+      → Link kind e ≡ Link (kindOf p) (extensionSpan p)
+  pub skipped : (p : List ℕ) → (readOf p ≡ Skipped (kindOf p) (extensionSpan p) (span (bodyStart p) (bodyLength p)))
+      ↔ IsSkipped p
   pub skipped-only : (p : List ℕ) (kind : ℕ) (e b : Span) → readOf p ≡ Skipped kind e b
       → Skipped kind e b ≡ Skipped (kindOf p) (extensionSpan p) (span (bodyStart p) (bodyLength p))
   -- Packets and refusals stay what they are with anything behind them.
@@ -87,10 +92,12 @@ pub record ReadLaws : Type 0 where
   -- A value of the header fits its width.
   pub widths : (p : List ℕ) (h : Header) (e c : Span) → Bytes p → readOf p ≡ Message h e c → InWidth h
   -- The fields with their heads make up the content exactly, and there are as many as the header says.
-  pub whole : (p : List ℕ) (h : Header) (e c : Span) → readOf p ≡ Message h e c → joined (messageFields p) ≡ part p (c .start) (c .len)
+  pub whole : (p : List ℕ) (h : Header) (e c : Span) → readOf p ≡ Message h e c
+      → joined (messageFields p) ≡ part p (c .start) (c .len)
   pub count : (p : List ℕ) (h : Header) (e c : Span) → readOf p ≡ Message h e c → length (messageFields p) ≡ h .fields
   -- Field i is field i of these: its FID, and its bytes without FID and length; from their count on there is none.
   pub some : (p : List ℕ) (i : ℕ) → i < length (messageFields p) →
-      (start : ℕ) × (fieldOf p i ≡ Field (fidOf (getD (messageFields p) i [])) start (length (getD (messageFields p) i []) - 6))
+      (start : ℕ)
+      × (fieldOf p i ≡ Field (fidOf (getD (messageFields p) i [])) start (length (getD (messageFields p) i []) - 6))
       × (fieldBytes p i ≡ bytesOf (getD (messageFields p) i []))
   pub none : (p : List ℕ) (i : ℕ) → length (messageFields p) ≤ i → (fieldOf p i ≡ NoField) × (fieldBytes p i ≡ [])

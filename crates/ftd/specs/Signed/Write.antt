@@ -20,7 +20,8 @@ numberBytes width negative units = cond negative (0x2D ∷ digitsIn (width - 1) 
 unfoldable pub numberFits : ℕ → Bool → ℕ → Bool
 numberFits width negative units =
     leb width 18
-    && cond negative (leb 1 width && (ltb 0 units && ltb units (pow10 (width - 1)))) (leb 1 width && ltb units (pow10 width))
+    && cond negative (leb 1 width && (ltb 0 units && ltb units (pow10 (width - 1))))
+    (leb 1 width && ltb units (pow10 width))
 
 -- Float a,b, of `width` bytes in all: the same with '.' before the last b digits.
 unfoldable pub floatBytes : ℕ → ℕ → Bool → ℕ → List ℕ

@@ -1,4 +1,5 @@
--- The columns that the code has of the table, and the test that is computed over the whole table; only private contracts and the proof of the rule use them.
+-- The columns that the code has of the table, and the test that is computed over the whole table; only private
+-- contracts and the proof of the rule use them.
 use Prim.Native.Nat.{ℕ, zero, suc, _+_}
 use mathlib.Core.List.{List, map, [], _∷_}
 use mathlib.Core.Bool.{Bool, true, false, _&&_}
@@ -21,14 +22,16 @@ scaleColumn = map (λ (r : Row). r .scale) table
 
 -- Row i stands among those of its field.
 abbrev pub rowHolds : ℕ → Row → Bool
-rowHolds i r = rightForm r && (leb (rowsPlace (r .fid) .start) i && ltb i (rowsPlace (r .fid) .start + rowsPlace (r .fid) .count))
+rowHolds i r =
+    rightForm r && (leb (rowsPlace (r .fid) .start) i && ltb i (rowsPlace (r .fid) .start + rowsPlace (r .fid) .count))
 
 abbrev pub rowsHold : ℕ → List Row → Bool
 rowsHold i [] = true
 rowsHold i (r ∷ rs) = rowHolds i r && rowsHold (suc i) rs
 
 abbrev pub sameRow : Row → Row → Bool
-sameRow r s = eqb (r .fid) (s .fid) && (eqb (r .kind) (s .kind) && (eqb (r .width) (s .width) && eqb (r .scale) (s .scale)))
+sameRow r s =
+    eqb (r .fid) (s .fid) && (eqb (r .kind) (s .kind) && (eqb (r .width) (s .width) && eqb (r .scale) (s .scale)))
 
 abbrev pub sameRows : List Row → List Row → Bool
 sameRows [] [] = true
@@ -40,7 +43,8 @@ sameRows (r ∷ rs) (s ∷ ss) = sameRow r s && sameRows rs ss
 abbrev pub fieldHolds : ℕ → Bool
 fieldHolds fid =
     leb (rowsPlace fid .start + rowsPlace fid .count) 379
-    && (sameRows (rowsOf fid) (take (rowsPlace fid .count) (drop (rowsPlace fid .start) table)) && eqb (total (rowsOf fid)) (rowsPlace fid .wide))
+    && (sameRows (rowsOf fid) (take (rowsPlace fid .count) (drop (rowsPlace fid .start) table))
+    && eqb (total (rowsOf fid)) (rowsPlace fid .wide))
 
 abbrev pub allBelow : (ℕ → Bool) → ℕ → Bool
 allBelow p zero = true

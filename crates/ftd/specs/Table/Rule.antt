@@ -1,12 +1,13 @@
--- The rule of the table of Appendix D (01, "Typed items"): each row has a type of Appendix B or Table 6, rows of a field adjoin,
--- widths add up to the field's width, fields don't overlap. One test computes it over the whole table.
+-- The rule of the table of Appendix D (01, "Typed items"): each row has a type of Appendix B or Table 6, rows of a
+-- field adjoin, widths add up to the field's width, fields don't overlap. One test computes it over the whole table.
 use Prim.Native.Nat.{ℕ, _+_, _<_, _≤_}
 use mathlib.Core.Path.{_≡_}
 use mathlib.Core.List.{List, [], _∷_}
 use mathlib.Core.Bool.{Bool, true, cond, _&&_}
 use lib.ListN.{getD, take, drop}
 use lib.Dec.{leb, eqb}
-use Rattle.ftd.specs.Table.{wordKind, intKind, stringKind, numberKind, floatKind, dateKind, lastListed, Row, row, table, total, rowsOf}
+use Rattle.ftd.specs.Table.{wordKind, intKind, stringKind, numberKind, floatKind, dateKind, lastListed, Row, row}
+use Rattle.ftd.specs.Table.{table, total, rowsOf}
 
 -- ─── Where the rows of each field stand ───
 

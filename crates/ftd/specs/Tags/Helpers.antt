@@ -7,7 +7,8 @@ use lib.ListN.{getD, drop}
 use lib.Dec.{eqb}
 use Rattle.ftd.specs.Tags.{KnownTag, knownTags, rightIn, lengthRight}
 
--- The first row of a kind: its place in the list, or 7 where the list does not have it. From there on the list says the same.
+-- The first row of a kind: its place in the list, or 7 where the list does not have it. From there on the list says the
+-- same.
 pub record KnownRow (kind row : ℕ) : Type 0 where
   pub low : row ≤ 7
   pub here : row < 7 → getD (map (λ (k : KnownTag). k .kind) knownTags) row 0 ≡ kind

@@ -1,4 +1,5 @@
--- What holds of values (01, "Typed items"): a value written is read back, and bytes that are read are those that its value writes.
+-- What holds of values (01, "Typed items"): a value written is read back, and bytes that are read are those that its
+-- value writes.
 use Prim.Native.Nat.{ℕ, _<_}
 use mathlib.Core.Path.{_≡_}
 use mathlib.Core.List.{List, [], _∷_}
@@ -21,7 +22,8 @@ use Rattle.ftd.specs.declared.signed.Signed.the-variants.{Value}
 
 pub record ValueLaws : Type 0 where
   pub charBack : (kind b : ℕ) → charFits kind b ≡ true → charValue kind (b ∷ []) ≡ WholeValue b
-  pub charAgain : (kind : ℕ) (l : List ℕ) (b : ℕ) → charValue kind l ≡ WholeValue b → (charFits kind b ≡ true) × (b ∷ [] ≡ l)
+  pub charAgain : (kind : ℕ) (l : List ℕ) (b : ℕ) → charValue kind l ≡ WholeValue b
+      → (charFits kind b ≡ true) × (b ∷ [] ≡ l)
   pub wordBack : (x : ℕ) → wordValue (bytes16 x) ≡ WholeValue x
   pub wordAgain : (l : List ℕ) → Bytes l → (x : ℕ) → wordValue l ≡ WholeValue x → (x < 65536) × (bytes16 x ≡ l)
   pub intBack : (x : ℕ) → intValue (bytes32 x) ≡ WholeValue x
@@ -42,6 +44,8 @@ pub record ValueLaws : Type 0 where
   pub dateBack : (v : Date) → dateFits v ≡ true → dateValue (dateBytes v) ≡ v
   pub dateAgain : (l : List ℕ) → isDate l ≡ true → (dateFits (dateValue l) ≡ true) × (dateBytes (dateValue l) ≡ l)
   -- Sign and magnitude, and the plain signed number: either gives the other, minus zero aside.
-  pub plainBack : (x : ℤ) (negative : Bool) (units : ℕ) → fromInteger x ≡ Value negative units → integerOf (Value negative units) ≡ Number x
-  pub plainAgain : (negative : Bool) (units : ℕ) (x : ℤ) → (negative ≡ true → 0 < units) → integerOf (Value negative units) ≡ Number x
+  pub plainBack : (x : ℤ) (negative : Bool) (units : ℕ) → fromInteger x ≡ Value negative units
+      → integerOf (Value negative units) ≡ Number x
+  pub plainAgain : (negative : Bool) (units : ℕ) (x : ℤ) → (negative ≡ true → 0 < units)
+      → integerOf (Value negative units) ≡ Number x
       → fromInteger x ≡ Value negative units

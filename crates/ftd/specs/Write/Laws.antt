@@ -1,5 +1,6 @@
--- What holds of writing (01, demand 2): writing the values that were read gives the same bytes again, what is written is read
--- back as what was meant, and a writer refuses what the reader would refuse of the result, with the same number.
+-- What holds of writing (01, demand 2): writing the values that were read gives the same bytes again, what is written
+-- is read back as what was meant, and a writer refuses what the reader would refuse of the result, with the same
+-- number.
 use Prim.Native.Nat.{ℕ, _+_}
 use mathlib.Core.Path.{_≡_}
 use mathlib.Core.List.{List, [], _++_}
@@ -21,26 +22,35 @@ at p s = part p (s .start) (s .len)
 
 -- What a link packet or a skipped one is read as.
 abbrev pub plainPacket : ℕ → ℕ → ℕ → Packet
-plainPacket kind ext body = cond (isSkipped kind body) (Skipped kind (span 4 ext) (span (4 + ext) body)) (Link kind (span 4 ext))
+plainPacket kind ext body =
+    cond (isSkipped kind body) (Skipped kind (span 4 ext) (span (4 + ext) body)) (Link kind (span 4 ext))
 
 pub record WriteLaws : Type 0 where
   -- Reading what was written, with anything behind it, gives the values; their bytes lie where the places say.
   pub message-back : (h : Header) (extension content q : List ℕ) → messageVerdict h extension content ≡ fine
-      → readOf (messageBytes h extension content ++ q) ≡ Message h (span 4 (length extension)) (span (4 + length extension + 16) (length content))
-  pub message-places : (h : Header) (extension content q : List ℕ) → (part (messageBytes h extension content ++ q) 4 (length extension) ≡ extension)
+      → readOf (messageBytes h extension content ++ q) ≡ Message h (span 4 (length extension))
+      (span (4 + length extension + 16) (length content))
+  pub message-places : (h : Header) (extension content q : List ℕ)
+      → (part (messageBytes h extension content ++ q) 4 (length extension) ≡ extension)
       × (part (messageBytes h extension content ++ q) (4 + length extension + 16) (length content) ≡ content)
   -- The same with the trade date, as one answer; and what was written is one packet, and a message packet.
   pub dated-back : (h : Header) (extension content q : List ℕ) → messageVerdict h extension content ≡ fine
       → datedOf (messageBytes h extension content ++ q)
-      ≡ record { packet = Message h (span 4 (length extension)) (span (4 + length extension + 16) (length content)); date = tradeDateOf extension }
+      ≡ record {
+        packet = Message h (span 4 (length extension)) (span (4 + length extension + 16) (length content));
+        date = tradeDateOf extension;
+      }
   pub one-packet : (h : Header) (extension content : List ℕ) → messageVerdict h extension content ≡ fine
-      → (notOnePacket (messageBytes h extension content) ≡ false) × (noMessagePacket (messageBytes h extension content) ≡ false)
+      → (notOnePacket (messageBytes h extension content) ≡ false)
+      × (noMessagePacket (messageBytes h extension content) ≡ false)
   pub plain-back : (kind : ℕ) (extension body q : List ℕ) → plainVerdict kind extension body ≡ fine
       → readOf (packetBytes kind extension body ++ q) ≡ plainPacket kind (length extension) (length body)
-  pub plain-places : (kind : ℕ) (extension body q : List ℕ) → (part (packetBytes kind extension body ++ q) 4 (length extension) ≡ extension)
+  pub plain-places : (kind : ℕ) (extension body q : List ℕ)
+      → (part (packetBytes kind extension body ++ q) 4 (length extension) ≡ extension)
       × (part (packetBytes kind extension body ++ q) (4 + length extension) (length body) ≡ body)
   -- A refusal is the one that the reader gives for the result.
-  pub message-refused : (h : Header) (extension content : List ℕ) (r : Refusal) → messageVerdict h extension content ≡ refuse r
+  pub message-refused : (h : Header) (extension content : List ℕ) (r : Refusal)
+      → messageVerdict h extension content ≡ refuse r
       → readOf (messageBytes h extension content) ≡ Refused r
   pub plain-refused : (kind : ℕ) (extension body : List ℕ) (r : Refusal) → plainVerdict kind extension body ≡ refuse r
       → readOf (packetBytes kind extension body) ≡ Refused r

@@ -1,4 +1,5 @@
--- `print_lines` is safe and ends: a line lies in the buffer, and each place is further than the one before it. The measure is what is left of the capture. Assumes nothing.
+-- `print_lines` is safe and ends: a line lies in the buffer, and each place is further than the one before it. The
+-- measure is what is left of the capture. Assumes nothing.
 use Prim.Native.Nat.{_-_}
 use mathlib.Core.Path.{_≡_, sym, _∙_}
 use native.Mathlib.Omega.{arith}
@@ -38,7 +39,9 @@ array-share-prefix-out c =
     let a = c .before .before .before .before .before .before .before .before .args in
     let l = c .before .before .before .before .before .before .loop in
     let w = c .before .before .before .before .write-line in
-    let t = last-told (a .capture .now) (a .more) (l .at) (l .out) _ _ (w .ensures .1) (omega arith) (sym (c .before .len .given .1) ∙ w .ensures .0) in
+    let t =
+    last-told (a .capture .now) (a .more) (l .at) (l .out) _ _ (w .ensures .1) (omega arith)
+    (sym (c .before .len .given .1) ∙ w .ensures .0) in
     t .1 .room
 
 slice-aggregate-write-all : tie.Need-slice-aggregate-write-all Inv-loop μ-loop
@@ -46,7 +49,9 @@ slice-aggregate-write-all c =
     let a = c .before .before .before .before .before .before .before .before .before .args in
     let l = c .before .before .before .before .before .before .before .loop in
     let w = c .before .before .before .before .before .write-line in
-    let t = last-told (a .capture .now) (a .more) (l .at) (l .out) _ _ (w .ensures .1) (omega arith) (sym (c .before .before .len .given .1) ∙ w .ensures .0) in
+    let t =
+    last-told (a .capture .now) (a .more) (l .at) (l .out) _ _ (w .ensures .1) (omega arith)
+    (sym (c .before .before .len .given .1) ∙ w .ensures .0) in
     sym (length-take-le _ _ (t .1 .room))
 
 write-all-requires : tie.Need-write-all-requires Inv-loop μ-loop
@@ -63,7 +68,9 @@ array-share-prefix-out-2 c =
     let a = c .before .before .before .before .before .before .before .before .args in
     let l = c .before .before .before .before .before .before .loop in
     let w = c .before .before .before .before .write-line in
-    let t = more-told (a .capture .now) (a .more) (l .at) (l .out) _ _ (w .ensures .1) (omega arith) _ (sym (c .before .len2 .given .1) ∙ w .ensures .0) in
+    let t =
+    more-told (a .capture .now) (a .more) (l .at) (l .out) _ _ (w .ensures .1) (omega arith) _
+    (sym (c .before .len2 .given .1) ∙ w .ensures .0) in
     t .2 .room
 
 slice-aggregate-write-all-2 : tie.Need-slice-aggregate-write-all-2 Inv-loop μ-loop
@@ -71,7 +78,9 @@ slice-aggregate-write-all-2 c =
     let a = c .before .before .before .before .before .before .before .before .before .args in
     let l = c .before .before .before .before .before .before .before .loop in
     let w = c .before .before .before .before .before .write-line in
-    let t = more-told (a .capture .now) (a .more) (l .at) (l .out) _ _ (w .ensures .1) (omega arith) _ (sym (c .before .before .len2 .given .1) ∙ w .ensures .0) in
+    let t =
+    more-told (a .capture .now) (a .more) (l .at) (l .out) _ _ (w .ensures .1) (omega arith) _
+    (sym (c .before .before .len2 .given .1) ∙ w .ensures .0) in
     sym (length-take-le _ _ (t .2 .room))
 
 write-all-requires-2 : tie.Need-write-all-requires-2 Inv-loop μ-loop
@@ -82,7 +91,9 @@ loop-less c =
     let a = c .before .before .before .before .before .before .before .before .before .before .args in
     let l = c .before .before .before .before .before .before .before .before .loop in
     let w = c .before .before .before .before .before .before .write-line in
-    let t = onward (a .capture .now) (a .more) (l .at) (l .out) _ _ (w .ensures .1) (omega arith) _ (sym (c .before .before .before .len2 .given .1) ∙ w .ensures .0) in
+    let t =
+    onward (a .capture .now) (a .more) (l .at) (l .out) _ _ (w .ensures .1) (omega arith) _
+    (sym (c .before .before .before .len2 .given .1) ∙ w .ensures .0) in
     omega arith
 
 loop-again : tie.Need-loop-again Inv-loop μ-loop

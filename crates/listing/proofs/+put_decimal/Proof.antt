@@ -1,4 +1,5 @@
--- `put_decimal` meets its contract: the digits of the tenth, and the last one behind them. The measure is the number. Assumes nothing.
+-- `put_decimal` meets its contract: the digits of the tenth, and the last one behind them. The measure is the number.
+-- Assumes nothing.
 use Prim.Native.Nat.{ℕ, _<_}
 use native.Mathlib.Omega.{arith}
 use borrow.Author.Needs.{needs}
@@ -34,32 +35,55 @@ put-decimal-cast-put-byte t c = search needs
 put-decimal-add-put-byte : (t : ℕ) → put-decimal-lts.Need-add-put-byte (claims t) (put-decimal-at t) put-decimal.Post
 put-decimal-add-put-byte t c = search needs
 
-put-decimal-put-byte-requires : (t : ℕ) → put-decimal-lts.Need-put-byte-requires (claims t) (put-decimal-at t) put-decimal.Post
-put-decimal-put-byte-requires t c κs = omega (arith, rw (decimal-small (c .before .before .before .args .x) (c .before .if1 .taken)) at (c .before .before .before .pre .1))
+put-decimal-put-byte-requires : (t : ℕ) → put-decimal-lts.Need-put-byte-requires (claims t) (put-decimal-at t)
+    put-decimal.Post
+put-decimal-put-byte-requires t c κs =
+    omega (
+      arith,
+      rw
+          (decimal-small (c .before .before .before .args .x)
+          (c .before .if1 .taken)) at (c .before .before .before .pre .1),
+    )
 
 put-decimal-same-length : (t : ℕ) → put-decimal-lts.Need-same-length (claims t) (put-decimal-at t) put-decimal.Post
 put-decimal-same-length t c = search needs
 
 put-decimal-returns : (t : ℕ) → put-decimal-lts.Need-returns (claims t) (put-decimal-at t) put-decimal.Post
-put-decimal-returns t c = rw (decimal-small (c .before .before .before .before .before .before .args .x) (c .before .before .before .before .if1 .taken)) (c .before .before .put-byte .ensures)
+put-decimal-returns t c =
+    rw (decimal-small (c .before .before .before .before .before .before .args .x)
+    (c .before .before .before .before .if1 .taken)) (c .before .before .put-byte .ensures)
 
-put-decimal-put-decimal-requires : (t : ℕ) → put-decimal-lts.Need-put-decimal-requires (claims t) (put-decimal-at t) put-decimal.Post
-put-decimal-put-decimal-requires t c κs = (omega arith, omega (arith, decimal-longer (c .before .before .before .args .x) (c .before .if1 .left)))
+put-decimal-put-decimal-requires : (t : ℕ)
+    → put-decimal-lts.Need-put-decimal-requires (claims t) (put-decimal-at t) put-decimal.Post
+put-decimal-put-decimal-requires t c κs =
+    (omega arith, omega (arith, decimal-longer (c .before .before .before .args .x) (c .before .if1 .left)))
 
-put-decimal-cast-put-byte-2 : (t : ℕ) → put-decimal-lts.Need-cast-put-byte-2 (claims t) (put-decimal-at t) put-decimal.Post
+put-decimal-cast-put-byte-2 : (t : ℕ) → put-decimal-lts.Need-cast-put-byte-2 (claims t) (put-decimal-at t)
+    put-decimal.Post
 put-decimal-cast-put-byte-2 t c = search needs
 
-put-decimal-add-put-byte-2 : (t : ℕ) → put-decimal-lts.Need-add-put-byte-2 (claims t) (put-decimal-at t) put-decimal.Post
+put-decimal-add-put-byte-2 : (t : ℕ) → put-decimal-lts.Need-add-put-byte-2 (claims t) (put-decimal-at t)
+    put-decimal.Post
 put-decimal-add-put-byte-2 t c = search needs
 
-put-decimal-put-byte-requires-2 : (t : ℕ) → put-decimal-lts.Need-put-byte-requires-2 (claims t) (put-decimal-at t) put-decimal.Post
-put-decimal-put-byte-requires-2 t c κs = omega (arith, decimal-longer (c .before .before .before .before .before .before .before .args .x) (c .before .before .before .before .before .if1 .left))
+put-decimal-put-byte-requires-2 : (t : ℕ)
+    → put-decimal-lts.Need-put-byte-requires-2 (claims t) (put-decimal-at t) put-decimal.Post
+put-decimal-put-byte-requires-2 t c κs =
+    omega (
+      arith,
+      decimal-longer (c .before .before .before .before .before .before .before .args .x)
+          (c .before .before .before .before .before .if1 .left),
+    )
 
 put-decimal-same-length-2 : (t : ℕ) → put-decimal-lts.Need-same-length-2 (claims t) (put-decimal-at t) put-decimal.Post
 put-decimal-same-length-2 t c = search needs
 
 put-decimal-returns-2 : (t : ℕ) → put-decimal-lts.Need-returns-2 (claims t) (put-decimal-at t) put-decimal.Post
-put-decimal-returns-2 t c = rw (decimal-large (c .before .before .before .before .before .before .before .before .before .before .args .x) (c .before .before .before .before .before .before .before .before .if1 .left)) (wrote-both (omega arith) (c .before .before .before .before .before .before .put-decimal .ensures) (c .before .before .put-byte2 .ensures))
+put-decimal-returns-2 t c =
+    rw (decimal-large (c .before .before .before .before .before .before .before .before .before .before .args .x)
+    (c .before .before .before .before .before .before .before .before .if1 .left))
+    (wrote-both (omega arith) (c .before .before .before .before .before .before .put-decimal .ensures)
+    (c .before .before .put-byte2 .ensures))
 
 pub +put-decimal-spec : {M : Type 1} → statement M
 +put-decimal-spec = close μ-put-decimal λ t. put-decimal-lts.spec (claims t)

@@ -1,4 +1,5 @@
--- `put_hex` meets its contract: the digits of the sixteenth, and the last one behind them. The measure is the number of digits. Assumes nothing.
+-- `put_hex` meets its contract: the digits of the sixteenth, and the last one behind them. The measure is the number of
+-- digits. Assumes nothing.
 use Prim.Native.Nat.{_-_, ℕ, _<_}
 use native.Mathlib.Omega.{arith}
 use borrow.Author.Needs.{needs}
@@ -26,7 +27,14 @@ put-hex-below t = and 1 put-hex-kinds.ps (falls 1 put-hex-kinds.ps _<_ μ-put-he
 
 -- What the calls ask and give.
 abbrev claims : ℕ → put-hex-lts.Claims
-claims t = (put-hex-below t, put-hex.Post, hex-digit-reads.Asked, hex-digit-reads.Learnt, put-byte-reads.Asked, put-byte-reads.Learnt)
+claims t = (
+  put-hex-below t,
+  put-hex.Post,
+  hex-digit-reads.Asked,
+  hex-digit-reads.Learnt,
+  put-byte-reads.Asked,
+  put-byte-reads.Learnt,
+)
 
 put-hex-returns : (t : ℕ) → put-hex-lts.Need-returns (claims t) (put-hex-at t) put-hex.Post
 unfolding hexOf
@@ -51,7 +59,18 @@ put-hex-same-length : (t : ℕ) → put-hex-lts.Need-same-length (claims t) (put
 put-hex-same-length t c = search needs
 
 put-hex-returns-2 : (t : ℕ) → put-hex-lts.Need-returns-2 (claims t) (put-hex-at t) put-hex.Post
-put-hex-returns-2 t c = (rw (hex-more (c .before .before .before .before .before .before .before .before .before .before .before .args .digits) (c .before .before .before .before .before .before .before .before .before .before .before .args .x) (omega arith), ← (c .before .before .before .hex-digit .ensures)) (wrote-both (omega arith) (c .before .before .before .before .before .before .before .put-hex .ensures .0) (c .before .before .put-byte .ensures)), omega arith)
+put-hex-returns-2 t c = (
+  rw (
+    hex-more
+        (c .before .before .before .before .before .before .before .before .before .before .before .args .digits)
+        (c .before .before .before .before .before .before .before .before .before .before .before .args .x)
+        (omega arith),
+    ← (c .before .before .before .hex-digit .ensures),
+  )
+      (wrote-both (omega arith) (c .before .before .before .before .before .before .before .put-hex .ensures .0)
+      (c .before .before .put-byte .ensures)),
+  omega arith,
+)
 
 pub +put-hex-spec : {M : Type 1} → statement M
 +put-hex-spec = close μ-put-hex λ t. put-hex-lts.spec (claims t)

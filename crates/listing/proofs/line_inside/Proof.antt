@@ -1,4 +1,5 @@
--- `line_inside` meets its contract, by the laws of `Lines`; the next place fits since the packet is there whole. Assumes nothing.
+-- `line_inside` meets its contract, by the laws of `Lines`; the next place fits since the packet is there whole.
+-- Assumes nothing.
 use native.Mathlib.Omega.{arith}
 use borrow.Author.Needs.{needs}
 use Rattle.ftd.proofs.packet.Laws.{inside}
@@ -31,7 +32,13 @@ add-t14 : tie.Need-add-t14
 add-t14 c =
     let a = c .before .before .before .before .before .before .before .before .before .before .before .args in
     let h = c .before .before .before .before .before .before .before .before .before .before .before .pre .0 in
-    omega (arith, next-fits (a .capture .now) (a .at) h _ _ (c .before .before .before .before .before .before .before .read .ensures) (c .before .before .goes-on .ensures) (c .before .if1 .taken) _ (c .said-length .ensures))
+    omega (
+      arith,
+      next-fits (a .capture .now) (a .at) h _ _
+          (c .before .before .before .before .before .before .before .read .ensures)
+          (c .before .before .goes-on .ensures)
+          (c .before .if1 .taken) _ (c .said-length .ensures),
+    )
 
 same-length : tie.Need-same-length
 same-length c = search needs
@@ -40,8 +47,11 @@ returns : tie.Need-returns
 returns c =
     let a = c .before .before .before .before .before .before .before .before .before .before .before .args in
     let h = c .before .before .before .before .before .before .before .before .before .before .before .pre in
-    inside-more (a .capture .now) (a .at) (h .0) _ _ (c .before .before .before .before .before .before .before .read .ensures) (c .before .before .goes-on .ensures) (a .out .now) _ _ (h .1)
-    (c .before .before .before .before .before .packet-line .ensures) (c .before .if1 .taken) _ (c .said-length .ensures)
+    inside-more (a .capture .now) (a .at) (h .0) _ _
+    (c .before .before .before .before .before .before .before .read .ensures) (c .before .before .goes-on .ensures)
+    (a .out .now) _ _ (h .1)
+    (c .before .before .before .before .before .packet-line .ensures) (c .before .if1 .taken) _
+    (c .said-length .ensures)
 
 same-length-2 : tie.Need-same-length-2
 same-length-2 c = search needs
@@ -50,7 +60,8 @@ returns-2 : tie.Need-returns-2
 returns-2 c =
     let a = c .before .before .before .before .before .before .before .before .before .before .args in
     let h = c .before .before .before .before .before .before .before .before .before .before .pre in
-    inside-last (a .capture .now) (a .at) (h .0) _ _ (c .before .before .before .before .before .before .read .ensures) (c .before .goes-on .ensures) (a .out .now) _ _ (h .1)
+    inside-last (a .capture .now) (a .at) (h .0) _ _ (c .before .before .before .before .before .before .read .ensures)
+    (c .before .goes-on .ensures) (a .out .now) _ _ (h .1)
     (c .before .before .before .before .packet-line .ensures) (c .if1 .left)
 
 pub line-inside-spec : {M : Type 1} → statement M

@@ -20,7 +20,11 @@ same-length c = search needs
 
 returns : tie.Need-returns
 unfolding lineWith
-returns c = wrote-both (omega arith) (wrote-both (omega arith) (c .before .before .before .before .before .before .before .before .before .before .begin-line .ensures .0) (c .before .before .before .before .before .before .put-packet .ensures .0)) (c .before .before .put-byte .ensures)
+returns c =
+    wrote-both (omega arith)
+    (wrote-both (omega arith)
+    (c .before .before .before .before .before .before .before .before .before .before .begin-line .ensures .0)
+    (c .before .before .before .before .before .before .put-packet .ensures .0)) (c .before .before .put-byte .ensures)
 
 pub packet-line-spec : {M : Type 1} → statement M
 packet-line-spec =

@@ -19,7 +19,11 @@ same-length c = search needs
 
 returns : tie.Need-returns
 unfolding linkText
-returns c = rw (← (c .before .before .before .before .before .before .is-heart .ensures), c .before .before .before .before .before .if1 .taken) (c .before .before .put-word .ensures, omega arith)
+returns c =
+    rw (
+      ← (c .before .before .before .before .before .before .is-heart .ensures),
+      c .before .before .before .before .before .if1 .taken,
+    ) (c .before .before .put-word .ensures, omega arith)
 
 slice-aggregate-put-word-2 : tie.Need-slice-aggregate-put-word-2
 slice-aggregate-put-word-2 c = search needs
@@ -32,7 +36,11 @@ same-length-2 c = search needs
 
 returns-2 : tie.Need-returns-2
 unfolding linkText
-returns-2 c = rw (← (c .before .before .before .before .before .before .is-heart .ensures), c .before .before .before .before .before .if1 .left) (c .before .before .put-word2 .ensures, omega arith)
+returns-2 c =
+    rw (
+      ← (c .before .before .before .before .before .before .is-heart .ensures),
+      c .before .before .before .before .before .if1 .left,
+    ) (c .before .before .put-word2 .ensures, omega arith)
 
 pub put-link-spec : {M : Type 1} → statement M
 put-link-spec =

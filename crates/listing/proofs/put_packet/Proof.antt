@@ -52,31 +52,45 @@ same-length : tie.Need-same-length
 same-length c = search needs
 
 returns : tie.Need-returns
-returns c = rw (c .before .before .before .before .before .enum-told .given .1) (c .before .before .put-word .ensures, omega arith)
+returns c =
+    rw (c .before .before .before .before .before .enum-told .given .1)
+    (c .before .before .put-word .ensures, omega arith)
 
 same-length-2 : tie.Need-same-length-2
 same-length-2 c = search needs
 
 returns-2 : tie.Need-returns-2
-returns-2 c = rw (c .before .before .before .before .before .found .given .1) (c .before .before .put-link .ensures .0, omega arith)
+returns-2 c =
+    rw (c .before .before .before .before .before .found .given .1)
+    (c .before .before .put-link .ensures .0, omega arith)
 
 same-length-3 : tie.Need-same-length-3
 same-length-3 c = search needs
 
 returns-3 : tie.Need-returns-3
-returns-3 c = rw (c .before .before .before .before .before .enum-told2 .given .1) (c .before .before .put-word2 .ensures, omega arith)
+returns-3 c =
+    rw (c .before .before .before .before .before .enum-told2 .given .1)
+    (c .before .before .put-word2 .ensures, omega arith)
 
 same-length-4 : tie.Need-same-length-4
 same-length-4 c = search needs
 
 returns-4 : tie.Need-returns-4
-returns-4 c = rw (c .before .before .before .before .before .before .found2 .given .1, ← (c .before .before .before .letter .ensures)) (c .before .before .put-message .ensures .0, omega arith)
+returns-4 c =
+    rw (
+      c .before .before .before .before .before .before .found2 .given .1,
+      ← (c .before .before .before .letter .ensures),
+    ) (c .before .before .put-message .ensures .0, omega arith)
 
 same-length-5 : tie.Need-same-length-5
 same-length-5 c = search needs
 
 returns-5 : tie.Need-returns-5
-returns-5 c = rw (c .before .before .before .before .before .before .found3 .given .1, ← (c .before .before .before .number .ensures)) (c .before .before .put-refused .ensures .0, omega arith)
+returns-5 c =
+    rw (
+      c .before .before .before .before .before .before .found3 .given .1,
+      ← (c .before .before .before .number .ensures),
+    ) (c .before .before .put-refused .ensures .0, omega arith)
 
 pub put-packet-spec : {M : Type 1} → statement M
 put-packet-spec =

@@ -14,14 +14,28 @@ put-word-requires : tie.Need-put-word-requires
 put-word-requires c κs = search needs
 
 put-tabbed-requires : tie.Need-put-tabbed-requires
-put-tabbed-requires c κs = omega (arith, digits-most 2 (c .before .before .before .before .before .before .before .args .refusal) (omega arith))
+put-tabbed-requires c κs =
+    omega (
+      arith,
+      digits-most 2 (c .before .before .before .before .before .before .before .args .refusal)
+          (omega arith),
+    )
 
 same-length : tie.Need-same-length
 same-length c = search needs
 
 returns : tie.Need-returns
 unfolding refusedText
-returns c = (wrote-both (omega arith) (c .before .before .before .before .before .before .put-word .ensures) (c .before .before .put-tabbed .ensures), omega (arith, digits-most 2 (c .before .before .before .before .before .before .before .before .before .before .args .refusal) (omega arith)))
+returns c = (
+  wrote-both (omega arith) (c .before .before .before .before .before .before .put-word .ensures)
+      (c .before .before .put-tabbed .ensures),
+  omega (
+    arith,
+    digits-most 2
+        (c .before .before .before .before .before .before .before .before .before .before .args .refusal)
+        (omega arith),
+  ),
+)
 
 pub put-refused-spec : {M : Type 1} → statement M
 put-refused-spec =

@@ -29,7 +29,10 @@ unfolding startText
 returns c = (
   wrote-both (omega arith)
       (wrote-both (omega arith)
-      (wrote-both (omega arith) (c .before .before .before .before .before .before .before .before .before .before .before .before .before .before .put-word .ensures) (c .before .before .before .before .before .before .before .before .before .before .put-hex .ensures .0))
+      (wrote-both (omega arith)
+      (c .before .before .before .before .before .before .before .before .before .before .before .before .before
+      .before .put-word .ensures)
+      (c .before .before .before .before .before .before .before .before .before .before .put-hex .ensures .0))
       (c .before .before .before .before .before .before .put-byte .ensures))
       (c .before .before .put-byte2 .ensures),
   omega arith,

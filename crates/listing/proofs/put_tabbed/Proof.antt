@@ -15,7 +15,9 @@ same-length : tie.Need-same-length
 same-length c = search needs
 
 returns : tie.Need-returns
-returns c = wrote-both (omega arith) (c .before .before .before .before .before .before .put-byte .ensures) (c .before .before .put-decimal .ensures)
+returns c =
+    wrote-both (omega arith) (c .before .before .before .before .before .before .put-byte .ensures)
+    (c .before .before .put-decimal .ensures)
 
 pub put-tabbed-spec : {M : Type 1} → statement M
 put-tabbed-spec = tie.close (tie.spec put-byte-requires put-decimal-requires same-length returns)

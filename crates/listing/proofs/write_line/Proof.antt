@@ -5,7 +5,9 @@ use Rattle.listing.proofs.write_line.Statement.{statement}
 use Rattle.listing.proofs.write_line.Tie as tie
 
 returns : tie.Need-returns
-returns c = too-small (c .before .before .before .args .capture .now) (c .before .before .before .args .more) (c .before .before .before .args .at) (c .before .before .before .args .out .now) (c .if1 .taken)
+returns c =
+    too-small (c .before .before .before .args .capture .now) (c .before .before .before .args .more)
+    (c .before .before .before .args .at) (c .before .before .before .args .out .now) (c .if1 .taken)
 
 slice-aggregate-word-line : tie.Need-slice-aggregate-word-line
 slice-aggregate-word-line c = search needs
@@ -17,7 +19,12 @@ same-length : tie.Need-same-length
 same-length c = search needs
 
 returns-2 : tie.Need-returns-2
-returns-2 c = rw (c .before .before .before .before .before .if2 .taken) (long-line (c .before .before .before .before .before .before .before .before .before .args .capture .now) (c .before .before .before .before .before .before .before .before .before .args .at) (c .before .before .before .before .before .before .before .before .before .args .out .now) _ _ (c .before .before .before .before .before .before .if1 .left) (c .before .before .word-line .ensures))
+returns-2 c =
+    rw (c .before .before .before .before .before .if2 .taken)
+    (long-line (c .before .before .before .before .before .before .before .before .before .args .capture .now)
+    (c .before .before .before .before .before .before .before .before .before .args .at)
+    (c .before .before .before .before .before .before .before .before .before .args .out .now) _ _
+    (c .before .before .before .before .before .before .if1 .left) (c .before .before .word-line .ensures))
 
 slice-aggregate-word-line-2 : tie.Need-slice-aggregate-word-line-2
 slice-aggregate-word-line-2 c = search needs
@@ -29,7 +36,13 @@ same-length-2 : tie.Need-same-length-2
 same-length-2 c = search needs
 
 returns-3 : tie.Need-returns-3
-returns-3 c = rw (c .before .before .before .before .before .before .if2 .left) (end-line (c .before .before .before .before .before .before .before .before .before .before .args .capture .now) (c .before .before .before .before .before .before .before .before .before .before .args .at) (c .before .before .before .before .before .before .before .before .before .before .args .out .now) _ _ (c .before .before .before .before .before .before .before .if1 .left) (c .before .before .before .before .before .if3 .taken) (c .before .before .word-line2 .ensures))
+returns-3 c =
+    rw (c .before .before .before .before .before .before .if2 .left)
+    (end-line (c .before .before .before .before .before .before .before .before .before .before .args .capture .now)
+    (c .before .before .before .before .before .before .before .before .before .before .args .at)
+    (c .before .before .before .before .before .before .before .before .before .before .args .out .now) _ _
+    (c .before .before .before .before .before .before .before .if1 .left)
+    (c .before .before .before .before .before .if3 .taken) (c .before .before .word-line2 .ensures))
 
 line-inside-requires : tie.Need-line-inside-requires
 line-inside-requires c κs = search needs

@@ -16,7 +16,11 @@ same-length : tie.Need-same-length
 same-length c = search needs
 
 returns : tie.Need-returns
-returns c = rw (← (c .before .before .before .before .before .item-for .ensures)) (rw (← (c .before .before .before .write-item .ensures .0)) (c .written .ensures), c .before .before .before .write-item .ensures .1)
+returns c =
+    rw (← (c .before .before .before .before .before .item-for .ensures)) (
+      rw (← (c .before .before .before .write-item .ensures .0)) (c .written .ensures),
+      c .before .before .before .write-item .ensures .1,
+    )
 
 pub ftd-write-item-spec : {M : Type 1} → statement M
 ftd-write-item-spec =

@@ -13,7 +13,10 @@ same-length : tie.Need-same-length
 same-length c = search needs
 
 returns : tie.Need-returns
-returns c = (rw (← (c .before .before .before .write-resume .ensures .0)) (c .written .ensures), c .before .before .before .write-resume .ensures .1)
+returns c = (
+  rw (← (c .before .before .before .write-resume .ensures .0)) (c .written .ensures),
+  c .before .before .before .write-resume .ensures .1,
+)
 
 pub ftd-write-resume-spec : {M : Type 1} → statement M
 ftd-write-resume-spec =

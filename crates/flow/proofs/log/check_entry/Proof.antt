@@ -2,7 +2,8 @@
 use Prim.Native.Nat.{_<_}
 use native.Mathlib.Omega.{arith}
 use borrow.Author.Needs.{needs}
-use Rattle.flow.proofs.log.Checks.{place-inside, check-strange, check-nonzero, check-number, check-shape, check-wanted, check-other, check-earlier}
+use Rattle.flow.proofs.log.Checks.{place-inside, check-strange, check-nonzero, check-number, check-shape}
+use Rattle.flow.proofs.log.Checks.{check-wanted, check-other, check-earlier}
 use Rattle.flow.proofs.log.check_entry.Statement.{statement}
 use Rattle.flow.proofs.log.check_entry.Tie as tie
 

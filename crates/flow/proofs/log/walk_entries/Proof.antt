@@ -7,7 +7,8 @@ use borrow.Author.Needs.{needs}
 use lib.ListN.{length, drop, replicate}
 use Rattle.ftd.specs.Runs.{runOf}
 use Rattle.flow.specs.Log.{entry, walk}
-use Rattle.flow.proofs.log.Walked.{walkBy, tracks-none, walk-by, walk-over, entry-part, walk-wrong, walk-wanted, walk-turn, passed-inside}
+use Rattle.flow.proofs.log.Walked.{walkBy, tracks-none, walk-by, walk-over, entry-part, walk-wrong, walk-wanted}
+use Rattle.flow.proofs.log.Walked.{walk-turn, passed-inside}
 use Rattle.flow.proofs.sender.Lookups.{eight}
 use Rattle.flow.proofs.log.walk_entries.Statement.{statement}
 use Rattle.flow.proofs.log.walk_entries.Tie as tie

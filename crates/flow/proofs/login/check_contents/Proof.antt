@@ -1,6 +1,7 @@
 -- `login::check_contents` meets its contract. Assumes nothing.
 use borrow.Author.Needs.{needs}
-use Rattle.flow.proofs.login.Checks.{by-run, by-width, by-own-width, by-item, by-own-item, by-composition, by-passing}
+use Rattle.flow.proofs.login.Checks.{by-run, by-width, by-own-width, by-item, by-own-item, by-composition}
+use Rattle.flow.proofs.login.Checks.{by-passing}
 use Rattle.flow.proofs.login.check_contents.Statement.{statement}
 use Rattle.flow.proofs.login.check_contents.Tie as tie
 

@@ -25,7 +25,14 @@ put-rest-below t =
 
 -- What the calls ask and give.
 abbrev claims : ℕ → put-rest-lts.Claims
-claims t = (next-piece-reads.Asked, next-piece-reads.Learnt, put-piece-reads.Asked, put-piece-reads.Learnt, put-rest-below t, put-rest.Post)
+claims t = (
+  next-piece-reads.Asked,
+  next-piece-reads.Learnt,
+  put-piece-reads.Asked,
+  put-piece-reads.Learnt,
+  put-rest-below t,
+  put-rest.Post,
+)
 
 put-rest-next-piece-requires : (t : ℕ) → put-rest-lts.Need-next-piece-requires (claims t) (put-rest-at t) put-rest.Post
 put-rest-next-piece-requires t c κs = search needs
@@ -75,7 +82,8 @@ put-rest-same-length-3 t c = search needs
 put-rest-returns-5 : (t : ℕ) → put-rest-lts.Need-returns-5 (claims t) (put-rest-at t) put-rest.Post
 put-rest-returns-5 t c = search (needs, more-small)
 
-put-rest-put-piece-requires-2 : (t : ℕ) → put-rest-lts.Need-put-piece-requires-2 (claims t) (put-rest-at t) put-rest.Post
+put-rest-put-piece-requires-2 : (t : ℕ) → put-rest-lts.Need-put-piece-requires-2 (claims t) (put-rest-at t)
+    put-rest.Post
 put-rest-put-piece-requires-2 t c κs = (search needs, search (needs, more-fits))
 
 put-rest-same-length-4 : (t : ℕ) → put-rest-lts.Need-same-length-4 (claims t) (put-rest-at t) put-rest.Post

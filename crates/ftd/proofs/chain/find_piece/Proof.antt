@@ -14,7 +14,8 @@ use Rattle.ftd.proofs.chain.find_piece.Tie as tie
 
 abbrev Inv-loop : tie.InvT-loop
 Inv-loop content i at₀ left₀ at left =
-    (at ≤ length content) × (left ≤ i) × (shapely (runOf field (drop at content)) ≡ true) × (drop (i - left) (piecesOf content) ≡ piecesOf (drop at content))
+    (at ≤ length content) × (left ≤ i) × (shapely (runOf field (drop at content)) ≡ true)
+    × (drop (i - left) (piecesOf content) ≡ piecesOf (drop at content))
 
 abbrev μ-loop : tie.MeasureT-loop
 μ-loop content i at₀ left₀ at left = length content - at
@@ -35,10 +36,21 @@ sub-left : tie.Need-sub-left Inv-loop μ-loop
 sub-left c = search needs
 
 loop-less : tie.Need-loop-less Inv-loop μ-loop
-loop-less c = omega (arith, piece-moves _ _ _ (c .before .before .next-piece .ensures) (c .before .before .before .loop .inv .2) (c .if2 .left))
+loop-less c =
+    omega (
+      arith,
+      piece-moves _ _ _ (c .before .before .next-piece .ensures) (c .before .before .before .loop .inv .2)
+          (c .if2 .left),
+    )
 
 loop-again : tie.Need-loop-again Inv-loop μ-loop
-loop-again c = (search needs, search needs, c .before .before .next-piece .ensures .left ∙ c .before .before .before .loop .inv .2, search (needs, piece-turn))
+loop-again c = (
+  search needs,
+  search needs,
+  c .before .before .next-piece .ensures .left
+      ∙ c .before .before .before .loop .inv .2,
+  search (needs, piece-turn),
+)
 
 pub find-piece-spec : {M : Type 1} → statement M
 find-piece-spec =

@@ -11,14 +11,23 @@ use Rattle.ftd.proofs.chain.next_piece.Tie as tie
 
 abbrev Inv-loop : tie.InvT-loop
 Inv-loop content at end₀ count₀ end count =
-    (at ≤ end) × (end ≤ length content) × (count ≤ end - at) × (end ≤ at + 4080) × (shapely (runOf field (drop end content)) ≡ shapely (runOf field (drop at content)))
+    (at ≤ end) × (end ≤ length content) × (count ≤ end - at) × (end ≤ at + 4080)
+    × (shapely (runOf field (drop end content)) ≡ shapely (runOf field (drop at content)))
     × (pack (begun content at end count) (fieldsOf (drop end content)) ≡ piecesOf (drop at content))
 
 abbrev μ-loop : tie.MeasureT-loop
 μ-loop content at end₀ count₀ end count = length content - end
 
 loop-holds : tie.Need-loop-holds Inv-loop μ-loop
-loop-holds c = (search needs, search needs, search needs, search needs, refl, begun-none (c .before .args .content .now) (c .before .args .at))
+loop-holds c = (
+  search needs,
+  search needs,
+  search needs,
+  search needs,
+  refl,
+  begun-none (c .before .args .content .now)
+      (c .before .args .at),
+)
 
 field-size-requires : tie.Need-field-size-requires Inv-loop μ-loop
 field-size-requires c κs = search needs
@@ -45,7 +54,8 @@ loop-less : tie.Need-loop-less Inv-loop μ-loop
 loop-less c = search needs
 
 loop-again : tie.Need-loop-again Inv-loop μ-loop
-loop-again c = (search needs, search needs, search needs, search needs, search (needs, cut-left), search (needs, cut-turn))
+loop-again c =
+    (search needs, search needs, search needs, search needs, search (needs, cut-left), search (needs, cut-turn))
 
 pub next-piece-spec : {M : Type 1} → statement M
 next-piece-spec =

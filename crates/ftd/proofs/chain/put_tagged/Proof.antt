@@ -38,7 +38,8 @@ returns c =
     let p2 = p3 .before .before .before .before in
     let p1 = p2 .before .before .before .before in
     let n = p1 .before .before in
-    message-put _ _ _ _ _ _ _ _ (omega arith) (rw (n .tags-len .ensures .0) at (p1 .put-head .ensures)) (p2 .put-tags .ensures)
+    message-put _ _ _ _ _ _ _ _ (omega arith) (rw (n .tags-len .ensures .0) at (p1 .put-head .ensures))
+    (p2 .put-tags .ensures)
     (rw (n .tags-len .ensures .0) at (p3 .copy-at .ensures))
 
 pub put-tagged-spec : {M : Type 1} → statement M

@@ -28,13 +28,17 @@ same-length-2 : tie.Need-same-length-2
 same-length-2 c = search needs
 
 returns-3 : tie.Need-returns-3
-returns-3 c = all-small _ _ _ _ _ (c .before .before .before .before .put-rest .ensures) (search needs) (c .before .if2 .left) (search needs)
+returns-3 c =
+    all-small _ _ _ _ _ (c .before .before .before .before .put-rest .ensures) (search needs) (c .before .if2 .left)
+    (search needs)
 
 same-length-3 : tie.Need-same-length-3
 same-length-3 c = search needs
 
 returns-4 : tie.Need-returns-4
-returns-4 c = all-put _ _ _ _ _ (c .before .before .before .before .put-rest .ensures) (search needs) (c .before .if2 .left) (search needs)
+returns-4 c =
+    all-put _ _ _ _ _ (c .before .before .before .before .put-rest .ensures) (search needs) (c .before .if2 .left)
+    (search needs)
 
 pub write-chain-spec : {M : Type 1} → statement M
 write-chain-spec =

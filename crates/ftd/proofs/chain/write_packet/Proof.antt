@@ -23,7 +23,12 @@ returns c =
     let a = i .before .before .before .args in
     let f = rw (c .enum-told .given .1) at (c .before .before .find-piece .ensures) in
     by-other _ _ _ _
-    (rw (← (i .is-shaped .ensures), c .before .before .before .if1 .taken, le-ltb (a .i) _ (packet-none (a .m) (a .content .now) (a .i) f)))
+    (rw (
+      ← (i .is-shaped .ensures),
+      c .before .before .before .if1 .taken,
+      le-ltb (a .i) _
+          (packet-none (a .m) (a .content .now) (a .i) f),
+    ))
 
 enum-known-at : tie.Need-enum-known-at
 enum-known-at c = search needs
@@ -61,8 +66,14 @@ returns-2 c =
     let a = i .before .before .before .args in
     let f = rw (g .1) at (p .find-piece .ensures) in
     by-room _ _ _
-    (rw (← (i .is-shaped .ensures), p .before .if1 .taken, lt-ltb (a .i) _ (packet-here (a .m) (a .content .now) (a .i) (g .0 .0) (g .0 .1 .0) (f .0) (f .1) (f .2) .1)))
-    _ (packet-size (a .m) (a .content .now) (a .i) (g .0 .0) (g .0 .1 .0) (f .0) (f .1) (f .2) (c .before .tags-len .result) (c .before .tags-len .ensures .0)) (c .if2 .taken)
+    (rw (
+      ← (i .is-shaped .ensures),
+      p .before .if1 .taken,
+      lt-ltb (a .i) _
+          (packet-here (a .m) (a .content .now) (a .i) (g .0 .0) (g .0 .1 .0) (f .0) (f .1) (f .2) .1),
+    ))
+    _ (packet-size (a .m) (a .content .now) (a .i) (g .0 .0) (g .0 .1 .0) (f .0) (f .1) (f .2)
+    (c .before .tags-len .result) (c .before .tags-len .ensures .0)) (c .if2 .taken)
 
 put-piece-requires : tie.Need-put-piece-requires
 put-piece-requires c κs =
@@ -86,7 +97,8 @@ returns-3 c =
     let f = rw (g .1) at (p .find-piece .ensures) in
     let h = packet-here (a .m) (a .content .now) (a .i) (g .0 .0) (g .0 .1 .0) (f .0) (f .1) (f .2) in
     by-writing _ _ _ (rw (← (i .is-shaped .ensures), p .before .if1 .taken, lt-ltb (a .i) _ (h .1)))
-    _ (packet-size (a .m) (a .content .now) (a .i) (g .0 .0) (g .0 .1 .0) (f .0) (f .1) (f .2) (t .tags-len .result) (t .tags-len .ensures .0)) _
+    _ (packet-size (a .m) (a .content .now) (a .i) (g .0 .0) (g .0 .1 .0) (f .0) (f .1) (f .2) (t .tags-len .result)
+    (t .tags-len .ensures .0)) _
     (w .before .before .if2 .left) (rw (h .0) (w .put-piece .ensures))
 
 returns-4 : tie.Need-returns-4

@@ -8,7 +8,8 @@ use Rattle.ftd.proofs.composition.all_hold.Statement.{statement}
 use Rattle.ftd.proofs.composition.all_hold.Tie as tie
 
 abbrev Inv-loop : tie.InvT-loop
-Inv-loop tid direction content i₀ i = (i ≤ 82) × (allHold (drop i appendixE) tid direction content ≡ allHold appendixE tid direction content)
+Inv-loop tid direction content i₀ i =
+    (i ≤ 82) × (allHold (drop i appendixE) tid direction content ≡ allHold appendixE tid direction content)
 
 abbrev μ-loop : tie.MeasureT-loop
 μ-loop tid direction content i₀ i = 82 - i

@@ -10,7 +10,9 @@ use Rattle.ftd.proofs.fields.count_field.Statement.{statement}
 use Rattle.ftd.proofs.fields.count_field.Tie as tie
 
 abbrev Inv-loop : tie.InvT-loop
-Inv-loop content fid at₀ seen₀ at seen = (at ≤ length content) × (seen ≤ at) × (counted fid (runOf field (drop at content) .entries) seen ≡ countOf fid content)
+Inv-loop content fid at₀ seen₀ at seen =
+    (at ≤ length content) × (seen ≤ at)
+    × (counted fid (runOf field (drop at content) .entries) seen ≡ countOf fid content)
 
 abbrev μ-loop : tie.MeasureT-loop
 μ-loop content fid at₀ seen₀ at seen = length content - at

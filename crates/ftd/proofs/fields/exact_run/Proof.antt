@@ -15,7 +15,8 @@ use Rattle.ftd.proofs.fields.exact_run.Tie as tie
 abbrev Inv-loop : tie.InvT-loop
 Inv-loop content count most at₀ seen₀ at seen =
     (at ≤ length content) × (seen ≤ at)
-    × ((ended (runOf field (drop at content)) && eqb (seen + length (runOf field (drop at content) .entries)) most) ≡ exactRun content count)
+    × ((ended (runOf field (drop at content))
+    && eqb (seen + length (runOf field (drop at content) .entries)) most) ≡ exactRun content count)
 
 abbrev μ-loop : tie.MeasureT-loop
 μ-loop content count most at₀ seen₀ at seen = length content - at

@@ -11,7 +11,8 @@ use Rattle.ftd.proofs.fields.field_place.Statement.{statement}
 use Rattle.ftd.proofs.fields.field_place.Tie as tie
 
 abbrev Inv-loop : tie.InvT-loop
-Inv-loop content i at₀ left₀ at left = (at ≤ length content) × (fieldIn at (runOf field (drop at content) .entries) left ≡ fieldPlaceOf content i)
+Inv-loop content i at₀ left₀ at left =
+    (at ≤ length content) × (fieldIn at (runOf field (drop at content) .entries) left ≡ fieldPlaceOf content i)
 
 abbrev μ-loop : tie.MeasureT-loop
 μ-loop content i at₀ left₀ at left = length content - at

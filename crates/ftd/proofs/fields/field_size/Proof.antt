@@ -38,8 +38,11 @@ returns-3 c =
 
 returns-4 : tie.Need-returns-4
 returns-4 c =
-    let a = c .before .before .before .before .before .before .args in
-    (rw (c .before .size16 .ensures .0, c .before .before .be16 .ensures) (sym (field-whole (a .content .now) (a .at) (omega arith))), search needs)
+    let a = c .before .before .before .before .before .before .args in (
+      rw (c .before .size16 .ensures .0, c .before .before .be16 .ensures)
+          (sym (field-whole (a .content .now) (a .at) (omega arith))),
+      search needs,
+    )
 
 pub field-size-spec : {M : Type 1} → statement M
 field-size-spec =

@@ -10,7 +10,8 @@ use Rattle.ftd.proofs.fields.first_field.Statement.{statement}
 use Rattle.ftd.proofs.fields.first_field.Tie as tie
 
 abbrev Inv-loop : tie.InvT-loop
-Inv-loop content fid at₀ at = (at ≤ length content) × (firstIn at (runOf field (drop at content) .entries) fid ≡ firstOf content fid)
+Inv-loop content fid at₀ at =
+    (at ≤ length content) × (firstIn at (runOf field (drop at content) .entries) fid ≡ firstOf content fid)
 
 abbrev μ-loop : tie.MeasureT-loop
 μ-loop content fid at₀ at = length content - at

@@ -26,7 +26,8 @@ returns-3 : tie.Need-returns-3
 unfolding fieldVerdict
 returns-3 c =
     let w = c .before .before in
-    by-writing _ _ _ (rw (le-ltb _ _ (w .before .before .before .if1 .left))) _ (length-field _ _) _ (w .before .before .if2 .left)
+    by-writing _ _ _ (rw (le-ltb _ _ (w .before .before .before .if1 .left))) _ (length-field _ _) _
+    (w .before .before .if2 .left)
     (w .put-field .ensures)
 
 pub write-field-spec : {M : Type 1} → statement M

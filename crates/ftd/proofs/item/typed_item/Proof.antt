@@ -1,6 +1,8 @@
 -- `item::typed_item` meets its contract. Assumes nothing.
 use borrow.Author.Needs.{needs}
-use Rattle.ftd.proofs.item.Readings.{word-given, word-none, int-given, int-none, text-none, text-given, number-none, number-given, float-none, float-given, date-none, unused-given, day-given, char-long, char-given, char-none}
+use Rattle.ftd.proofs.item.Readings.{word-given, word-none, int-given, int-none, text-none, text-given}
+use Rattle.ftd.proofs.item.Readings.{number-none, number-given, float-none, float-given, date-none, unused-given}
+use Rattle.ftd.proofs.item.Readings.{day-given, char-long, char-given, char-none}
 use Rattle.ftd.proofs.item.typed_item.Statement.{statement}
 use Rattle.ftd.proofs.item.typed_item.Tie as tie
 use Rattle.ftd.proofs.bytes.be16.Reads as be16-reads

@@ -1,6 +1,7 @@
 -- `item::write_item` meets its contract. Assumes nothing.
 use borrow.Author.Needs.{needs}
-use Rattle.ftd.proofs.item.Writings.{none-given, wrong-given, char-taken, word-taken, int-taken, text-taken, number-taken, float-taken, date-taken, no-place, other-kind}
+use Rattle.ftd.proofs.item.Writings.{none-given, wrong-given, char-taken, word-taken, int-taken, text-taken}
+use Rattle.ftd.proofs.item.Writings.{number-taken, float-taken, date-taken, no-place, other-kind}
 use Rattle.ftd.proofs.item.write_item.Statement.{statement}
 use Rattle.ftd.proofs.item.write_item.Tie as tie
 use Rattle.ftd.proofs.dates.write_date.Reads as write-date-reads
@@ -76,12 +77,14 @@ write-date-requires c κs = search needs
 returns : tie.Need-returns
 returns c =
     let k = c .before .before .before in
-    none-given _ _ _ _ _ _ (k .before .before .before .before .item-place .ensures) (k .before .before .kind .given .1) (c .enum-told2 .given .1)
+    none-given _ _ _ _ _ _ (k .before .before .before .before .item-place .ensures) (k .before .before .kind .given .1)
+    (c .enum-told2 .given .1)
 
 returns-2 : tie.Need-returns-2
 returns-2 c =
     let k = c .before .before .before in
-    wrong-given _ _ _ _ _ _ (k .before .before .before .before .item-place .ensures) (k .before .before .kind .given .1) (c .enum-told3 .given .1)
+    wrong-given _ _ _ _ _ _ (k .before .before .before .before .item-place .ensures) (k .before .before .kind .given .1)
+    (c .enum-told3 .given .1)
 
 same-length : tie.Need-same-length
 same-length c = search needs
@@ -91,7 +94,8 @@ returns-3 c =
     let v = c .before .before .before .before .before in
     let k = v .before .before .before in
     char-taken _ _ _ _ _ _ (k .before .before .before .before .item-place .ensures) (k .before .before .kind .given .1)
-    (k .of-kind .ensures) (v .before .before .if1 .taken) (v .value .given .1) (search needs) (c .before .before .write-char .ensures)
+    (k .of-kind .ensures) (v .before .before .if1 .taken) (v .value .given .1) (search needs)
+    (c .before .before .write-char .ensures)
 
 same-length-2 : tie.Need-same-length-2
 same-length-2 c = search needs
@@ -101,7 +105,8 @@ returns-4 c =
     let v = c .before .before .before .before .before in
     let k = v .before .before .before in
     word-taken _ _ _ _ _ _ (k .before .before .before .before .item-place .ensures) (k .before .before .kind .given .1)
-    (k .of-kind .ensures) (v .before .before .if1 .taken) (v .value2 .given .1) (search needs) (c .before .before .write-word .ensures)
+    (k .of-kind .ensures) (v .before .before .if1 .taken) (v .value2 .given .1) (search needs)
+    (c .before .before .write-word .ensures)
 
 same-length-3 : tie.Need-same-length-3
 same-length-3 c = search needs
@@ -111,7 +116,8 @@ returns-5 c =
     let v = c .before .before .before .before .before in
     let k = v .before .before .before in
     int-taken _ _ _ _ _ _ (k .before .before .before .before .item-place .ensures) (k .before .before .kind .given .1)
-    (k .of-kind .ensures) (v .before .before .if1 .taken) (v .value3 .given .1) (search needs) (c .before .before .write-int .ensures)
+    (k .of-kind .ensures) (v .before .before .if1 .taken) (v .value3 .given .1) (search needs)
+    (c .before .before .write-int .ensures)
 
 same-length-4 : tie.Need-same-length-4
 same-length-4 c = search needs
@@ -121,7 +127,8 @@ returns-6 c =
     let v = c .before .before .before .before in
     let k = v .before .before .before in
     text-taken _ _ _ _ _ _ (k .before .before .before .before .item-place .ensures) (k .before .before .kind .given .1)
-    (k .of-kind .ensures) (v .before .before .if1 .taken) (v .enum-told4 .given .1) (c .before .before .write-text .ensures)
+    (k .of-kind .ensures) (v .before .before .if1 .taken) (v .enum-told4 .given .1)
+    (c .before .before .write-text .ensures)
 
 same-length-5 : tie.Need-same-length-5
 same-length-5 c = search needs
@@ -130,8 +137,10 @@ returns-7 : tie.Need-returns-7
 returns-7 c =
     let v = c .before .before .before .before .before in
     let k = v .before .before .before in
-    number-taken _ _ _ _ _ _ (k .before .before .before .before .item-place .ensures) (k .before .before .kind .given .1)
-    (k .of-kind .ensures) (v .before .before .if1 .taken) (v .value4 .given .1) (c .before .before .write-number .ensures)
+    number-taken _ _ _ _ _ _ (k .before .before .before .before .item-place .ensures)
+    (k .before .before .kind .given .1)
+    (k .of-kind .ensures) (v .before .before .if1 .taken) (v .value4 .given .1)
+    (c .before .before .write-number .ensures)
 
 same-length-6 : tie.Need-same-length-6
 same-length-6 c = search needs
@@ -141,7 +150,8 @@ returns-8 c =
     let v = c .before .before .before .before .before in
     let k = v .before .before .before in
     float-taken _ _ _ _ _ _ (k .before .before .before .before .item-place .ensures) (k .before .before .kind .given .1)
-    (k .of-kind .ensures) (v .before .before .if1 .taken) (v .value5 .given .1) (c .before .before .write-float .ensures)
+    (k .of-kind .ensures) (v .before .before .if1 .taken) (v .value5 .given .1)
+    (c .before .before .write-float .ensures)
 
 same-length-7 : tie.Need-same-length-7
 same-length-7 c = search needs
@@ -159,7 +169,8 @@ returns-10 c = no-place _ _ _ _ _ _ (c .before .before .item-place .ensures) (c 
 returns-11 : tie.Need-returns-11
 returns-11 c =
     let k = c .before in
-    other-kind _ _ _ _ _ _ (k .before .before .before .before .item-place .ensures) (k .before .before .kind .given .1) (k .of-kind .ensures) (c .if1 .left)
+    other-kind _ _ _ _ _ _ (k .before .before .before .before .item-place .ensures) (k .before .before .kind .given .1)
+    (k .of-kind .ensures) (c .if1 .left)
 
 pub write-item-spec : {M : Type 1} → statement M
 write-item-spec =

@@ -20,13 +20,15 @@ use Rattle.ftd.proofs.items.walk_items.Tie as tie
 abbrev Inv-items : tie.InvT-items
 Inv-items content kinds widths scales at n end fid pos₀ row₀ last pos row =
     (pos ≤ end) × (end ≤ length content) × (last ≤ 379)
-    × (cond (itemsGood (take (last - row) (drop row table)) (drop pos (take end content))) (walkFields (runOf field (drop end content) .entries)) (Refused Item) ≡ walkOf content)
+    × (cond (itemsGood (take (last - row) (drop row table)) (drop pos (take end content)))
+    (walkFields (runOf field (drop end content) .entries)) (Refused Item) ≡ walkOf content)
 
 abbrev μ-items : tie.MeasureT-items
 μ-items content kinds widths scales at n end fid pos₀ row₀ last pos row = last - row
 
 abbrev Inv-walk : tie.InvT-walk
-Inv-walk content kinds widths scales at₀ at = (at ≤ length content) × (walkFields (runOf field (drop at content) .entries) ≡ walkOf content)
+Inv-walk content kinds widths scales at₀ at =
+    (at ≤ length content) × (walkFields (runOf field (drop at content) .entries) ≡ walkOf content)
 
 abbrev μ-walk : tie.MeasureT-walk
 μ-walk content kinds widths scales at₀ at = length content - at
@@ -68,7 +70,9 @@ end-of-requires : tie.Need-end-of-requires Inv-items μ-items Inv-walk μ-walk
 end-of-requires c κs = search needs
 
 items-holds : tie.Need-items-holds Inv-items μ-items Inv-walk μ-walk
-items-holds c = let h : 6 ≤ c .before .before .before .before .before .before .before .field-size .result = search (needs, field-head) in
+items-holds c =
+    let h : 6 ≤ c .before .before .before .before .before .before .before .field-size .result = search
+    (needs, field-head) in
     (omega arith, search needs, search needs, search (needs, walk-items))
 
 item-good-requires : tie.Need-item-good-requires Inv-items μ-items Inv-walk μ-walk
@@ -89,7 +93,12 @@ items-less : tie.Need-items-less Inv-items μ-items Inv-walk μ-walk
 items-less c = search needs
 
 items-again : tie.Need-items-again Inv-items μ-items Inv-walk μ-walk
-items-again c = (omega (arith, c .before .before .before .item-good .ensures .1 (c .before .before .if3 .taken)), search needs, search needs, search (needs, items-turn))
+items-again c = (
+  omega (arith, c .before .before .before .item-good .ensures .1 (c .before .before .if3 .taken)),
+  search needs,
+  search needs,
+  search (needs, items-turn),
+)
 
 walk-less-2 : tie.Need-walk-less-2 Inv-items μ-items Inv-walk μ-walk
 walk-less-2 c = search needs

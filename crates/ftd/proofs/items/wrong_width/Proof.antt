@@ -13,7 +13,8 @@ use Rattle.ftd.proofs.items.wrong_width.Statement.{statement}
 use Rattle.ftd.proofs.items.wrong_width.Tie as tie
 
 abbrev Inv-loop : tie.InvT-loop
-Inv-loop content at₀ at = (at ≤ length content) × (anyOther (runOf field (drop at content) .entries) ≡ wrongWidth content)
+Inv-loop content at₀ at =
+    (at ≤ length content) × (anyOther (runOf field (drop at content) .entries) ≡ wrongWidth content)
 
 abbrev μ-loop : tie.MeasureT-loop
 μ-loop content at₀ at = length content - at

@@ -56,7 +56,8 @@ returns c =
     let e = p1 .before .before in
     let t = e .before in
     let s = t .before .before .before in
-    login-put _ _ _ _ _ (s .args .date) _ (s .args .ending) _ _ (s .args .fields) (t .tags-len .ensures .0) (e .ending-len .ensures .0)
+    login-put _ _ _ _ _ (s .args .date) _ (s .args .ending) _ _ (s .args .fields) (t .tags-len .ensures .0)
+    (e .ending-len .ensures .0)
     (s .pre .2) (s .pre .3) (omega arith)
     (p1 .put-head .ensures) (p2 .put-tags .ensures) (p3 .copy-at .ensures) (p4 .put-ending .ensures)
 

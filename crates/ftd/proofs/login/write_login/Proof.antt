@@ -16,7 +16,9 @@ returns : tie.Need-returns
 returns c =
     let e = c .before in
     let a = e .before .before .before .args in
-    by-refusal _ _ _ _ (login-long (a .content .now) (a .ending) (e .ending-len .result) (e .ending-len .ensures .0) (omega (arith, c .if1 .taken)))
+    by-refusal _ _ _ _
+    (login-long (a .content .now) (a .ending) (e .ending-len .result) (e .ending-len .ensures .0)
+    (omega (arith, c .if1 .taken)))
 
 next-piece-requires : tie.Need-next-piece-requires
 next-piece-requires c κs = search needs
@@ -48,8 +50,11 @@ returns-3 c =
     let n = t .before .before in
     let e = n .before .before in
     let a = e .before .before .before .args in
-    by-room _ _ _ (login-right (a .content .now) (a .ending) (e .ending-len .result) (e .ending-len .ensures .0) _ (n .next-piece .ensures) (omega (arith, n .before .if1 .left)) (t .before .if2 .left))
-    _ (login-size (a .date) (a .content .now) (a .ending) _ _ (t .tags-len .ensures .0) (e .ending-len .ensures .0)) (c .if3 .taken)
+    by-room _ _ _
+    (login-right (a .content .now) (a .ending) (e .ending-len .result) (e .ending-len .ensures .0) _
+    (n .next-piece .ensures) (omega (arith, n .before .if1 .left)) (t .before .if2 .left))
+    _ (login-size (a .date) (a .content .now) (a .ending) _ _ (t .tags-len .ensures .0) (e .ending-len .ensures .0))
+    (c .if3 .taken)
 
 ending-fields-requires : tie.Need-ending-fields-requires
 ending-fields-requires c κs = search needs
@@ -66,7 +71,9 @@ put-login-requires c κs =
     let a = e .before .before .before .args in (
       rw (← (t .tags-len .ensures .0), ← (e .ending-len .ensures .0)) (omega arith),
       omega (arith, n .before .if1 .left),
-      login-fields (a .content .now) (a .ending) (e .ending-len .result) (e .ending-len .ensures .0) _ (n .next-piece .ensures) (omega (arith, n .before .if1 .left)) (t .before .if2 .left) _ (f .ending-fields .ensures .0),
+      login-fields (a .content .now) (a .ending) (e .ending-len .result) (e .ending-len .ensures .0) _
+          (n .next-piece .ensures) (omega (arith, n .before .if1 .left)) (t .before .if2 .left) _
+          (f .ending-fields .ensures .0),
       omega (arith, n .next-piece .ensures .few, n .next-piece .ensures .small, f .ending-fields .ensures .1),
     )
 
@@ -81,8 +88,11 @@ returns-4 c =
     let n = t .before .before in
     let e = n .before .before in
     let a = e .before .before .before .args in
-    by-writing _ _ _ (login-right (a .content .now) (a .ending) (e .ending-len .result) (e .ending-len .ensures .0) _ (n .next-piece .ensures) (omega (arith, n .before .if1 .left)) (t .before .if2 .left))
-    _ (login-size (a .date) (a .content .now) (a .ending) _ _ (t .tags-len .ensures .0) (e .ending-len .ensures .0)) _ (g .if3 .left) (w .put-login .ensures)
+    by-writing _ _ _
+    (login-right (a .content .now) (a .ending) (e .ending-len .result) (e .ending-len .ensures .0) _
+    (n .next-piece .ensures) (omega (arith, n .before .if1 .left)) (t .before .if2 .left))
+    _ (login-size (a .date) (a .content .now) (a .ending) _ _ (t .tags-len .ensures .0) (e .ending-len .ensures .0)) _
+    (g .if3 .left) (w .put-login .ensures)
 
 pub write-login-spec : {M : Type 1} → statement M
 write-login-spec =

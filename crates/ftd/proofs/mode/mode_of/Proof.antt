@@ -1,6 +1,7 @@
 -- `mode::mode_of` meets its contract. Assumes nothing.
 use borrow.Author.Needs.{needs}
-use Rattle.ftd.proofs.mode.Ranges.{in-private, in-broadcast, in-management, is-management, in-low, in-mid, is-dialog, no-tid, gap-low, gap-mid, gap-high, past-all}
+use Rattle.ftd.proofs.mode.Ranges.{in-private, in-broadcast, in-management, is-management, in-low, in-mid}
+use Rattle.ftd.proofs.mode.Ranges.{is-dialog, no-tid, gap-low, gap-mid, gap-high, past-all}
 use Rattle.ftd.proofs.mode.mode_of.Statement.{statement}
 use Rattle.ftd.proofs.mode.mode_of.Tie as tie
 

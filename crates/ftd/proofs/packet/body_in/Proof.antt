@@ -24,7 +24,13 @@ add-result c = search needs
 
 returns : tie.Need-returns
 unfolding be16Of
-returns c = rw (c .size82 .ensures .0, c .before .byte-in2 .ensures, c .before .before .size8 .ensures .0, c .before .before .before .byte-in .ensures)
+returns c =
+    rw (
+      c .size82 .ensures .0,
+      c .before .byte-in2 .ensures,
+      c .before .before .size8 .ensures .0,
+      c .before .before .before .byte-in .ensures,
+    )
 
 pub body-in-spec : {M : Type 1} → statement M
 body-in-spec =

@@ -28,7 +28,8 @@ part-result-start : tie.Need-part-result-start
 part-result-start c = search needs
 
 part-result-end : tie.Need-part-result-end
-part-result-end c = omega (arith, rw (c .before .start .given .1) at (c .before .before .before .find-field .ensures .1))
+part-result-end c =
+    omega (arith, rw (c .before .start .given .1) at (c .before .before .before .find-field .ensures .1))
 
 returns : tie.Need-returns
 unfolding fieldBytes
@@ -36,7 +37,12 @@ returns c = rw (← (c .before .before .before .find-field .ensures .0), c .befo
 
 returns-2 : tie.Need-returns-2
 unfolding fieldBytes
-returns-2 c = rw (← (c .before .before .before .before .find-field .ensures .0), c .before .before .start .given .1, add-sub-cancel-left)
+returns-2 c =
+    rw (
+      ← (c .before .before .before .before .find-field .ensures .0),
+      c .before .before .start .given .1,
+      add-sub-cancel-left,
+    )
 
 pub field-spec : {M : Type 1} → statement M
 field-spec =

@@ -16,7 +16,11 @@ add-field-place : tie.Need-add-field-place
 add-field-place c =
     let r = c .before .before .before in
     let m = c .before .content .given in
-    omega (arith, content-inside (r .before .before .args .p .now) (m .0 .0) (m .0 .1 .0) (m .0 .1 .1 .0) (sym (r .read .ensures) ∙ m .1))
+    omega (
+      arith,
+      content-inside (r .before .before .args .p .now) (m .0 .0) (m .0 .1 .0) (m .0 .1 .1 .0)
+          (sym (r .read .ensures) ∙ m .1),
+    )
 
 sub-field-place : tie.Need-sub-field-place
 sub-field-place c = search needs
@@ -28,7 +32,11 @@ part-field-place-end : tie.Need-part-field-place-end
 part-field-place-end c =
     let r = c .before .before .before in
     let m = c .before .content .given in
-    omega (arith, content-inside (r .before .before .args .p .now) (m .0 .0) (m .0 .1 .0) (m .0 .1 .1 .0) (sym (r .read .ensures) ∙ m .1))
+    omega (
+      arith,
+      content-inside (r .before .before .args .p .now) (m .0 .0) (m .0 .1 .0) (m .0 .1 .1 .0)
+          (sym (r .read .ensures) ∙ m .1),
+    )
 
 field-place-requires : tie.Need-field-place-requires
 field-place-requires c κs = search needs
@@ -57,7 +65,8 @@ returns : tie.Need-returns
 returns c =
     let m = c .before .before .before .before .content .given in
     let r = c .before .before .before .before .before .before in
-    field-found _ (m .0 .1 .1 .0) _ _ _ _ _ (sym (r .read .ensures) ∙ m .1) (c .before .field-place .ensures .0) (c .before .field-place .ensures .1) (c .moved .ensures)
+    field-found _ (m .0 .1 .1 .0) _ _ _ _ _ (sym (r .read .ensures) ∙ m .1) (c .before .field-place .ensures .0)
+    (c .before .field-place .ensures .1) (c .moved .ensures)
 
 returns-2 : tie.Need-returns-2
 unfolding fieldOf

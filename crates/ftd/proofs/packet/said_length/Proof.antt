@@ -25,7 +25,13 @@ add-result-2 c = search needs
 
 returns : tie.Need-returns
 unfolding saidIn saidLength
-returns c = rw (le-leb _ _ (c .before .before .before .before .if1 .taken), c .size16 .ensures .0, c .before .be16 .ensures, c .before .before .size8 .ensures .0)
+returns c =
+    rw (
+      le-leb _ _ (c .before .before .before .before .if1 .taken),
+      c .size16 .ensures .0,
+      c .before .be16 .ensures,
+      c .before .before .size8 .ensures .0,
+    )
 
 returns-2 : tie.Need-returns-2
 unfolding saidIn

@@ -11,7 +11,8 @@ use Rattle.ftd.proofs.places.item_place.Statement.{statement}
 use Rattle.ftd.proofs.places.item_place.Tie as tie
 
 abbrev Inv-loop : tie.InvT-loop
-Inv-loop fid i kinds widths scales row₀ last at₀ left₀ row at left = (last ≤ 379) × (at ≤ row * 65536) × (itemIn at (take (last - row) (drop row table)) left ≡ itemOf fid i)
+Inv-loop fid i kinds widths scales row₀ last at₀ left₀ row at left =
+    (last ≤ 379) × (at ≤ row * 65536) × (itemIn at (take (last - row) (drop row table)) left ≡ itemOf fid i)
 
 abbrev μ-loop : tie.MeasureT-loop
 μ-loop fid i kinds widths scales row₀ last at₀ left₀ row at left = last - row

@@ -22,14 +22,30 @@ enum-known-start : tie.Need-enum-known-start
 enum-known-start c = search needs
 
 be16-requires : tie.Need-be16-requires
-be16-requires c κs = omega (arith, rw (c .before .before .start .given .1) at (c .before .before .before .before .first-field .ensures .1))
+be16-requires c κs =
+    omega (
+      arith,
+      rw
+          (c .before .before .start .given .1) at (c .before .before .before .before .first-field .ensures .1),
+    )
 
 add-be32 : tie.Need-add-be32
-add-be32 c = omega (arith, rw (c .before .before .before .start .given .1) at (c .before .before .before .before .before .first-field .ensures .1))
+add-be32 c =
+    omega (
+      arith,
+      rw
+          (c .before .before .before .start .given .1) at (c .before .before .before .before
+          .before .first-field .ensures .1),
+    )
 
 be32-requires : tie.Need-be32-requires
 be32-requires c κs =
-    omega (arith, rw (c .before .before .before .start .given .1) at (c .before .before .before .before .before .first-field .ensures .1))
+    omega (
+      arith,
+      rw
+          (c .before .before .before .start .given .1) at (c .before .before .before .before
+          .before .first-field .ensures .1),
+    )
 
 returns-2 : tie.Need-returns-2
 unfolding resumeOf
@@ -50,14 +66,25 @@ returns-3 : tie.Need-returns-3
 unfolding resumeOf
 returns-3 c =
     let f = c .before .before in
-    rw (← (f .before .before .count-field .ensures), le-ltb _ _ (f .before .if1 .left), ← (f .first-field .ensures .0), c .enum-told .given .1)
+    rw (
+      ← (f .before .before .count-field .ensures),
+      le-ltb _ _ (f .before .if1 .left),
+      ← (f .first-field .ensures .0),
+      c .enum-told .given .1,
+    )
 
 returns-4 : tie.Need-returns-4
 unfolding resumeOf
 returns-4 c =
     let s = c .before .before in
     let f = s .before .before in
-    rw (← (f .before .before .count-field .ensures), le-ltb _ _ (f .before .if1 .left), ← (f .first-field .ensures .0), s .start .given .1, ne-eqb _ _ (c .if2 .left))
+    rw (
+      ← (f .before .before .count-field .ensures),
+      le-ltb _ _ (f .before .if1 .left),
+      ← (f .first-field .ensures .0),
+      s .start .given .1,
+      ne-eqb _ _ (c .if2 .left),
+    )
 
 pub find-resume-spec : {M : Type 1} → statement M
 find-resume-spec =

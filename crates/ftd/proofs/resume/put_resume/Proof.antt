@@ -34,7 +34,8 @@ returns c =
     let p3 = p4 .before .before .before .before in
     let p2 = p3 .before .before .before .before in
     let p1 = p2 .before .before .before .before in
-    resume-put _ _ _ _ _ _ _ _ (omega arith) (p1 .put32 .ensures) (p2 .put16 .ensures) (p3 .put162 .ensures) (p4 .put322 .ensures)
+    resume-put _ _ _ _ _ _ _ _ (omega arith) (p1 .put32 .ensures) (p2 .put16 .ensures) (p3 .put162 .ensures)
+    (p4 .put322 .ensures)
 
 pub put-resume-spec : {M : Type 1} → statement M
 put-resume-spec =

@@ -14,7 +14,9 @@ same-length : tie.Need-same-length
 same-length c = search needs
 
 returns-2 : tie.Need-returns-2
-returns-2 c = by-writing _ _ _ refl 12 refl _ (c .before .before .before .before .if1 .left) (c .before .before .put-resume .ensures)
+returns-2 c =
+    by-writing _ _ _ refl 12 refl _ (c .before .before .before .before .if1 .left)
+    (c .before .before .put-resume .ensures)
 
 pub write-resume-spec : {M : Type 1} → statement M
 write-resume-spec = tie.close (tie.spec returns put-resume-requires same-length returns-2)

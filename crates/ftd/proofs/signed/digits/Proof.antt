@@ -11,7 +11,9 @@ use Rattle.ftd.proofs.signed.digits.Statement.{statement}
 use Rattle.ftd.proofs.signed.digits.Tie as tie
 
 abbrev Inv-loop : tie.InvT-loop
-Inv-loop start s from to n₀ i₀ n i = (from ≤ i) × ((n + 1) * pow10 (to - i) ≤ (start + 1) * pow10 (to - from)) × (digitsOf n (drop i (take to s)) ≡ digitsOf start (drop from (take to s)))
+Inv-loop start s from to n₀ i₀ n i =
+    (from ≤ i) × ((n + 1) * pow10 (to - i) ≤ (start + 1) * pow10 (to - from))
+    × (digitsOf n (drop i (take to s)) ≡ digitsOf start (drop from (take to s)))
 
 abbrev μ-loop : tie.MeasureT-loop
 μ-loop start s from to n₀ i₀ n i = to - i
@@ -35,7 +37,8 @@ cast-n c = search needs
 
 add-n : tie.Need-add-n Inv-loop μ-loop
 add-n c =
-    let h : c .before .before .before .loop .n * 10 + c .digit .result < 1000000000000000000 = search (needs, bound-digit) in
+    let h : c .before .before .before .loop .n * 10 + c .digit .result < 1000000000000000000 =
+    search (needs, bound-digit) in
     omega arith
 
 add-i : tie.Need-add-i Inv-loop μ-loop

@@ -1,5 +1,6 @@
 -- `plain::from_integer` meets its contract. Assumes nothing.
-use Rattle.ftd.proofs.signed.Integers.{from-low, from-fits, from-cast, from-minus, from-high, from-wide, from-plus}
+use Rattle.ftd.proofs.signed.Integers.{from-low, from-fits, from-cast, from-minus, from-high, from-wide}
+use Rattle.ftd.proofs.signed.Integers.{from-plus}
 use Rattle.ftd.proofs.signed.from_integer.Statement.{statement}
 use Rattle.ftd.proofs.signed.from_integer.Tie as tie
 

@@ -10,7 +10,9 @@ use Rattle.ftd.proofs.signed.put_digits.Statement.{statement}
 use Rattle.ftd.proofs.signed.put_digits.Tie as tie
 
 abbrev Inv-loop : tie.InvT-loop
-Inv-loop out₀ at width units left₀ i₀ out left i = (at + i ≤ length out) × (length out ≡ length out₀) × (put out at (digitsIn i left) ≡ put out₀ at (digitsIn width units))
+Inv-loop out₀ at width units left₀ i₀ out left i =
+    (at + i ≤ length out) × (length out ≡ length out₀)
+    × (put out at (digitsIn i left) ≡ put out₀ at (digitsIn width units))
 
 abbrev μ-loop : tie.MeasureT-loop
 μ-loop out₀ at width units left₀ i₀ out left i = i

@@ -31,7 +31,8 @@ returns-2 c =
     let g = c .before .before .before .before .before in
     let q = g .before .before .float-fits .ensures in
     let e = g .before .if1 .taken in
-    stored _ _ _ _ q e _ (float-full _ _ _ _ _ q e) (g .if2 .left) _ (rw (c .before .before .before .size8 .ensures .0) at (c .before .before .put-float .ensures))
+    stored _ _ _ _ q e _ (float-full _ _ _ _ _ q e) (g .if2 .left) _
+    (rw (c .before .before .before .size8 .ensures .0) at (c .before .before .put-float .ensures))
 
 returns-3 : tie.Need-returns-3
 returns-3 c = misfit _ _ _ _ (c .before .float-fits .ensures) (c .if1 .left)

@@ -15,7 +15,8 @@ size16-requires : tie.Need-size16-requires
 size16-requires c κs = search needs
 
 returns : tie.Need-returns
-returns c = (c .size16 .ensures .0 ∙ rw (c .before .before .pre .1) (width-col (c .before .before .args .row)), search needs)
+returns c =
+    (c .size16 .ensures .0 ∙ rw (c .before .before .pre .1) (width-col (c .before .before .args .row)), search needs)
 
 pub width-at-spec : {M : Type 1} → statement M
 width-at-spec = tie.close (tie.spec mul-size16 element-copy-out-size16 size16-requires returns)

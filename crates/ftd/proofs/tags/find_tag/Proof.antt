@@ -11,7 +11,8 @@ use Rattle.ftd.proofs.tags.find_tag.Statement.{statement}
 use Rattle.ftd.proofs.tags.find_tag.Tie as tie
 
 abbrev Inv-loop : tie.InvT-loop
-Inv-loop extension kind at₀ at = (at ≤ length extension) × (tagIn at (runOf tag (drop at extension) .entries) kind ≡ tagPlace extension kind)
+Inv-loop extension kind at₀ at =
+    (at ≤ length extension) × (tagIn at (runOf tag (drop at extension) .entries) kind ≡ tagPlace extension kind)
 
 abbrev μ-loop : tie.MeasureT-loop
 μ-loop extension kind at₀ at = length extension - at

@@ -55,7 +55,8 @@ returns-2 c =
     let d = p1 .before .before .before in
     let s = d .before .before .before in
     let room : s .args .to + 6 ≤ length (s .args .out .now) = rw (d .date .given .1) at (s .pre) in
-    rw (d .date .given .1) (date-put _ _ _ _ _ _ (omega arith) (p1 .put8 .ensures) (p2 .put82 .ensures) (p3 .put32 .ensures))
+    rw (d .date .given .1)
+    (date-put _ _ _ _ _ _ (omega arith) (p1 .put8 .ensures) (p2 .put82 .ensures) (p3 .put32 .ensures))
 
 pub put-tags-spec : {M : Type 1} → statement M
 put-tags-spec =

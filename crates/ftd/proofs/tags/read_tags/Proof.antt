@@ -7,13 +7,15 @@ use lib.ListN.{length, drop}
 use Rattle.ftd.specs.Runs.{runOf}
 use Rattle.ftd.specs.Tags.{tag, goodRun, goodTags}
 use Rattle.ftd.proofs.tags.Turns.{tag-head, tags-turn}
-use Rattle.ftd.proofs.tags.Walk.{Seen, seen-none, seen-room, seen-turn, run-stop, run-undated, run-dated, run-twice, run-wrong}
+use Rattle.ftd.proofs.tags.Walk.{Seen, seen-none, seen-room, seen-turn, run-stop, run-undated, run-dated}
+use Rattle.ftd.proofs.tags.Walk.{run-twice, run-wrong}
 use Rattle.ftd.proofs.tags.read_tags.Statement.{statement}
 use Rattle.ftd.proofs.tags.read_tags.Tie as tie
 
 abbrev Inv-loop : tie.InvT-loop
 Inv-loop extension at₀ dates₀ place₀ at dates place =
-    (at ≤ length extension) × (dates ≤ at) × (goodRun (runOf tag (drop at extension)) dates ≡ goodTags extension) × Seen extension at dates place
+    (at ≤ length extension) × (dates ≤ at) × (goodRun (runOf tag (drop at extension)) dates ≡ goodTags extension)
+    × Seen extension at dates place
 
 abbrev μ-loop : tie.MeasureT-loop
 μ-loop extension at₀ dates₀ place₀ at dates place = length extension - at
@@ -82,8 +84,10 @@ loop-again c =
     let i = g .before .loop .inv in (
       search needs,
       search needs,
-      tags-turn _ _ _ (g .tag-size .ensures .0) _ _ (i .2) _ (f .if1 .left) _ (r .length-right .ensures) (t .if5 .taken) (d .count-date .ensures .0),
-      seen-turn _ _ _ (g .tag-size .ensures .0) _ _ (i .3) _ _ (f .if1 .left) (g .tag-size .ensures .1) _ (r .length-right .ensures) (t .if5 .taken)
+      tags-turn _ _ _ (g .tag-size .ensures .0) _ _ (i .2) _ (f .if1 .left) _ (r .length-right .ensures) (t .if5 .taken)
+          (d .count-date .ensures .0),
+      seen-turn _ _ _ (g .tag-size .ensures .0) _ _ (i .3) _ _ (f .if1 .left) (g .tag-size .ensures .1) _
+          (r .length-right .ensures) (t .if5 .taken)
           (d .count-date .ensures .0) (c .date-place .ensures),
     )
 

@@ -16,13 +16,19 @@ enum-known-start : tie.Need-enum-known-start
 enum-known-start c = search needs
 
 be32-requires : tie.Need-be32-requires
-be32-requires c κs = omega (arith, rw (c .before .before .start .given .1) at (c .before .before .before .before .find-tag .ensures .1))
+be32-requires c κs =
+    omega (arith, rw (c .before .before .start .given .1) at (c .before .before .before .before .find-tag .ensures .1))
 
 returns : tie.Need-returns
 unfolding tradeDateOf
 returns c =
     let p = c .before .before .before in
-    rw (← (p .before .before .find-tag .ensures .0), p .start .given .1, eq-eqb _ _ (c .before .if1 .taken), c .be32 .ensures)
+    rw (
+      ← (p .before .before .find-tag .ensures .0),
+      p .start .given .1,
+      eq-eqb _ _ (c .before .if1 .taken),
+      c .be32 .ensures,
+    )
 
 returns-2 : tie.Need-returns-2
 unfolding tradeDateOf

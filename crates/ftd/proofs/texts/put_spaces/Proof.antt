@@ -9,7 +9,9 @@ use Rattle.ftd.proofs.texts.put_spaces.Statement.{statement}
 use Rattle.ftd.proofs.texts.put_spaces.Tie as tie
 
 abbrev Inv-loop : tie.InvT-loop
-Inv-loop out₀ from to i₀ out i = (to ≤ length out) × (length out ≡ length out₀) × (put out i (replicate (to - i) 32) ≡ put out₀ from (replicate (to - from) 32))
+Inv-loop out₀ from to i₀ out i =
+    (to ≤ length out) × (length out ≡ length out₀)
+    × (put out i (replicate (to - i) 32) ≡ put out₀ from (replicate (to - from) 32))
 
 abbrev μ-loop : tie.MeasureT-loop
 μ-loop out₀ from to i₀ out i = to - i

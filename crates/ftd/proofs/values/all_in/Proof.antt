@@ -11,7 +11,8 @@ use Rattle.ftd.proofs.values.all_in.Statement.{statement}
 use Rattle.ftd.proofs.values.all_in.Tie as tie
 
 abbrev Inv-loop : tie.InvT-loop
-Inv-loop class s from to good₀ i₀ good i = (from ≤ i) × ((good && every (inClass class) (drop i (take to s))) ≡ every (inClass class) (drop from (take to s)))
+Inv-loop class s from to good₀ i₀ good i =
+    (from ≤ i) × ((good && every (inClass class) (drop i (take to s))) ≡ every (inClass class) (drop from (take to s)))
 
 abbrev μ-loop : tie.MeasureT-loop
 μ-loop class s from to good₀ i₀ good i = to - i
@@ -38,8 +39,11 @@ loop-again : tie.Need-loop-again Inv-loop μ-loop
 loop-again c =
     let l = c .before .before .before .before .loop in
     let a = c .before .before .before .before .before .before .args in
-    let fits = c .before .before .before .before .before .before .pre .1 in
-    (search needs, all-turn (a .class) (a .s .now) (l .i) (a .to) fits _ (l .good) (l .inv .1) (c .before .before .before .loop-test .taken) _ (c .before .in-class .ensures) _ (c .both .ensures))
+    let fits = c .before .before .before .before .before .before .pre .1 in (
+      search needs,
+      all-turn (a .class) (a .s .now) (l .i) (a .to) fits _ (l .good) (l .inv .1)
+          (c .before .before .before .loop-test .taken) _ (c .before .in-class .ensures) _ (c .both .ensures),
+    )
 
 returns : tie.Need-returns Inv-loop μ-loop
 returns c = search (needs, all-end)

@@ -1,6 +1,7 @@
 -- `values::is_value` meets its contract. Assumes nothing.
 use borrow.Author.Needs.{needs}
-use Rattle.ftd.proofs.values.Checks.{above, char-value, word-value, int-value, text-value, number-value, float-value, date-value, listed-value, listed-wide, no-kind}
+use Rattle.ftd.proofs.values.Checks.{above, char-value, word-value, int-value, text-value, number-value}
+use Rattle.ftd.proofs.values.Checks.{float-value, date-value, listed-value, listed-wide, no-kind}
 use Rattle.ftd.proofs.values.is_value.Statement.{statement}
 use Rattle.ftd.proofs.values.is_value.Tie as tie
 

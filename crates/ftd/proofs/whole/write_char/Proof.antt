@@ -20,7 +20,8 @@ same-length c = search needs
 returns-2 : tie.Need-returns-2
 returns-2 c =
     let g = c .before .before .before .before in
-    stored _ _ _ _ (g .before .before .char-fits .ensures) (g .before .if1 .taken) 1 refl (g .if2 .left) _ (c .before .before .put8 .ensures)
+    stored _ _ _ _ (g .before .before .char-fits .ensures) (g .before .if1 .taken) 1 refl (g .if2 .left) _
+    (c .before .before .put8 .ensures)
 
 returns-3 : tie.Need-returns-3
 returns-3 c = misfit _ _ _ _ (c .before .char-fits .ensures) (c .if1 .left)

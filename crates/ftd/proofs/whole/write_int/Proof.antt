@@ -16,7 +16,9 @@ same-length : tie.Need-same-length
 same-length c = search needs
 
 returns-2 : tie.Need-returns-2
-returns-2 c = stored true _ _ true refl refl 4 refl (c .before .before .before .before .if1 .left) _ (c .before .before .put32 .ensures)
+returns-2 c =
+    stored true _ _ true refl refl 4 refl (c .before .before .before .before .if1 .left) _
+    (c .before .before .put32 .ensures)
 
 pub write-int-spec : {M : Type 1} → statement M
 write-int-spec = tie.close (tie.spec returns put32-requires same-length returns-2)

@@ -16,7 +16,9 @@ same-length : tie.Need-same-length
 same-length c = search needs
 
 returns-2 : tie.Need-returns-2
-returns-2 c = stored true _ _ true refl refl 2 refl (c .before .before .before .before .if1 .left) _ (c .before .before .put16 .ensures)
+returns-2 c =
+    stored true _ _ true refl refl 2 refl (c .before .before .before .before .if1 .left) _
+    (c .before .before .put16 .ensures)
 
 pub write-word-spec : {M : Type 1} → statement M
 write-word-spec = tie.close (tie.spec returns put16-requires same-length returns-2)

@@ -34,7 +34,8 @@ returns c =
     let p2 = p3 .before .before .before .before in
     let p1 = p2 .before .before .before .before in
     let s = p1 .before .before .before in
-    frame-put _ _ _ _ _ _ _ _ (omega arith) (s .pre .1) (s .pre .2) (p1 .put8 .ensures) (p2 .put82 .ensures) (p3 .put16 .ensures)
+    frame-put _ _ _ _ _ _ _ _ (omega arith) (s .pre .1) (s .pre .2) (p1 .put8 .ensures) (p2 .put82 .ensures)
+    (p3 .put16 .ensures)
 
 pub put-frame-spec : {M : Type 1} → statement M
 put-frame-spec =

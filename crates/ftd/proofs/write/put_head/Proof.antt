@@ -22,7 +22,8 @@ same-length : tie.Need-same-length
 same-length c = search needs
 
 returns : tie.Need-returns
-returns c = rw (c .before .before .put-header .ensures, c .before .before .before .before .before .before .put-frame .ensures)
+returns c =
+    rw (c .before .before .put-header .ensures, c .before .before .before .before .before .before .put-frame .ensures)
 
 pub put-head-spec : {M : Type 1} → statement M
 put-head-spec =

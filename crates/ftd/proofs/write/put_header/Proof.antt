@@ -66,7 +66,8 @@ returns c =
     let s = p1 .before .before .before in
     let room : s .args .to ≤ length (s .args .out .now) = omega (arith, s .pre .0) in
     header-put _ _ _ _ _ _ _ _ _ (s .args .h) _ _ room (s .pre .1) (p1 .put8 .ensures) (p2 .put32 .ensures)
-    (p3 .before .letter .ensures) (p3 .put82 .ensures) (p4 .put16 .ensures) (p5 .put322 .ensures) (p6 .put162 .ensures) (p7 .put163 .ensures)
+    (p3 .before .letter .ensures) (p3 .put82 .ensures) (p4 .put16 .ensures) (p5 .put322 .ensures) (p6 .put162 .ensures)
+    (p7 .put163 .ensures)
 
 pub put-header-spec : {M : Type 1} → statement M
 put-header-spec =

@@ -84,7 +84,12 @@ returns-6 : tie.Need-returns-6
 unfolding messageVerdict
 returns-6 c =
     by-refusal _ _ _ _
-    (rw (le-ltb _ _ (c .before .before .before .if1 .left), le-ltb _ _ (c .before .before .if2 .left), ← (c .before .good-tags .ensures), c .if3 .left))
+    (rw (
+      le-ltb _ _ (c .before .before .before .if1 .left),
+      le-ltb _ _ (c .before .before .if2 .left),
+      ← (c .before .good-tags .ensures),
+      c .if3 .left,
+    ))
 
 pub write-message-spec : {M : Type 1} → statement M
 write-message-spec =

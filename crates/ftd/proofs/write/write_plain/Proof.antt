@@ -27,7 +27,13 @@ unfolding plainVerdict
 returns-2 c =
     let t = c .before .before .before in
     by-room _ _ _
-    (rw (le-ltb _ _ (t .before .before .if1 .left), ← (t .before .is-plain .ensures), t .if2 .taken, ← (c .before .before .plain-tags .ensures), c .before .if3 .taken))
+    (rw (
+      le-ltb _ _ (t .before .before .if1 .left),
+      ← (t .before .is-plain .ensures),
+      t .if2 .taken,
+      ← (c .before .before .plain-tags .ensures),
+      c .before .if3 .taken,
+    ))
     _ (length-packet _ _ _) (c .if4 .taken)
 
 put-packet-requires : tie.Need-put-packet-requires
@@ -46,7 +52,13 @@ returns-3 c =
     let f = w .before .before .before .before in
     let t = f .before in
     by-writing _ _ _
-    (rw (le-ltb _ _ (t .before .before .if1 .left), ← (t .before .is-plain .ensures), t .if2 .taken, ← (f .plain-tags .ensures), w .before .before .before .if3 .taken))
+    (rw (
+      le-ltb _ _ (t .before .before .if1 .left),
+      ← (t .before .is-plain .ensures),
+      t .if2 .taken,
+      ← (f .plain-tags .ensures),
+      w .before .before .before .if3 .taken,
+    ))
     _ (length-packet _ _ _) _ (w .before .before .if4 .left) (w .put-packet .ensures)
 
 returns-4 : tie.Need-returns-4
@@ -54,7 +66,13 @@ unfolding plainVerdict
 returns-4 c =
     let t = c .before .before in
     by-refusal _ _ _ _
-    (rw (le-ltb _ _ (t .before .before .if1 .left), ← (t .before .is-plain .ensures), t .if2 .taken, ← (c .before .plain-tags .ensures), c .if3 .left))
+    (rw (
+      le-ltb _ _ (t .before .before .if1 .left),
+      ← (t .before .is-plain .ensures),
+      t .if2 .taken,
+      ← (c .before .plain-tags .ensures),
+      c .if3 .left,
+    ))
 
 wrong-body-requires : tie.Need-wrong-body-requires
 wrong-body-requires c κs = search needs
@@ -64,14 +82,26 @@ unfolding plainVerdict
 returns-5 c =
     let t = c .before .before in
     by-refusal _ _ _ _
-    (rw (le-ltb _ _ (t .before .before .if1 .left), ← (t .before .is-plain .ensures), t .if2 .left, ← (c .before .wrong-body .ensures), c .if5 .taken))
+    (rw (
+      le-ltb _ _ (t .before .before .if1 .left),
+      ← (t .before .is-plain .ensures),
+      t .if2 .left,
+      ← (c .before .wrong-body .ensures),
+      c .if5 .taken,
+    ))
 
 returns-6 : tie.Need-returns-6
 unfolding plainVerdict
 returns-6 c =
     let t = c .before .before in
     by-other _ _ _ _
-    (rw (le-ltb _ _ (t .before .before .if1 .left), ← (t .before .is-plain .ensures), t .if2 .left, ← (c .before .wrong-body .ensures), c .if5 .left))
+    (rw (
+      le-ltb _ _ (t .before .before .if1 .left),
+      ← (t .before .is-plain .ensures),
+      t .if2 .left,
+      ← (c .before .wrong-body .ensures),
+      c .if5 .left,
+    ))
 
 pub write-plain-spec : {M : Type 1} → statement M
 write-plain-spec =

@@ -53,7 +53,11 @@ add-send-entry c =
     let f = c .before .before .before in
     let g = c .before .start .given in
     let h = rw (g .1) at (f .find-entry .ensures) in
-    omega (arith, h .2, f .before .before .before .before .before .before .before .before .before .before .before .before)
+    omega (
+      arith,
+      h .2,
+      f .before .before .before .before .before .before .before .before .before .before .before .before,
+    )
 
 sub-send-entry : tie.Need-sub-send-entry
 sub-send-entry c = search needs
@@ -99,7 +103,8 @@ returns-3 c =
     let h = rw (g .1) at (f .find-entry .ensures) in
     send-found (a .self) (a .series) (a .log .now) (a .out .now) (a .i) (start .pre .1) (start .pre .0)
     (f .before .before .before .before .before .if1 .taken) (f .before .before .if2 .left)
-    (omega (arith, f .before .before .before)) (g .0 .0) (g .0 .1 .0) _ _ (h .0) (c .before .before .send-entry .ensures)
+    (omega (arith, f .before .before .before)) (g .0 .0) (g .0 .1 .0) _ _ (h .0)
+    (c .before .before .send-entry .ensures)
 
 returns-4 : tie.Need-returns-4
 returns-4 c =

@@ -39,7 +39,8 @@ returns c =
     let a = start .args in
     entry-sent (a .self) (a .series) (a .i) (a .number) (b .be32 .result) (a .x .now) (a .out .now) _
     (w .write-chain .result) (start .pre .0) (start .pre .2) (start .pre .4) (b .be32 .ensures)
-    (w .write-chain .ensures .0) (w .write-chain .ensures .1) _ (c .with-next .result) (c .before .before .n .given .1) (c .with-next .ensures)
+    (w .write-chain .ensures .0) (w .write-chain .ensures .1) _ (c .with-next .result) (c .before .before .n .given .1)
+    (c .with-next .ensures)
 
 same-length-2 : tie.Need-same-length-2
 same-length-2 c = search needs
