@@ -57,8 +57,8 @@ abbrev pub dateOf : TradeDate → ℕ
 dateOf None = 0
 dateOf (At d) = d
 
-abbrev pub markNumbers : TradeDate → FtdDate
-markNumbers d = record { date = dateOf d; dated = datedFlag d }
+abbrev pub tradeDateNumbers : TradeDate → FtdDate
+tradeDateNumbers d = record { date = dateOf d; dated = datedFlag d }
 
 -- ─── A packet: 0 short, 1 link, 2 skipped, 3 message, 4 refused; what an answer does not have is 0 ───
 

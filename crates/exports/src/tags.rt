@@ -1,7 +1,7 @@
 // What the tags of an extension say, as numbers.
 ghost use mathlib.Core.Path.{_≡_};
 ghost use Rattle.ftd.specs.Tags.{tradeDateOf, keepAliveOf};
-ghost use Rattle.exports.specs.Numbers.{datedFlag, dateOf, markNumbers, flag};
+ghost use Rattle.exports.specs.Numbers.{datedFlag, dateOf, tradeDateNumbers, flag};
 use ftd::tags::TradeDate;
 use ftd::tags::keep_alive;
 use ftd::tags::trade_date;
@@ -36,7 +36,7 @@ pub(crate) fn date(d: TradeDate) -> u32
 // The trade date that an extension bears.
 #[no_mangle]
 pub extern "C" fn ftd_trade_date(extension: &[u8]) -> FtdDate
-    ensures { λ r. ⌜ r ≡ markNumbers (tradeDateOf (now (extension .entry))) ⌝ }
+    ensures { λ r. ⌜ r ≡ tradeDateNumbers (tradeDateOf (now (extension .entry))) ⌝ }
 {
     match trade_date(extension) {
         TradeDate::None => FtdDate { date: 0, dated: 0 },

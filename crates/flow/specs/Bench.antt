@@ -69,8 +69,8 @@ atLast last = withSeries (openEndOf freshReceiver (1 ∷ []) .end) 1 (At 7) last
 -- ─── P10: each from last 5 ───
 
 -- S with a number.
-abbrev pub receives : ℕ → Said
-receives k =
+abbrev pub receivesRow : ℕ → Said
+receivesRow k =
     let p = joined (packetsOf (record { date = At 7; tid = tid; series = 1; number = k }) (note 1 3)) in
     let r = receiveOf (atLast 5) p [] in
     receivedSaid p (r .bytes) (r .answer)
@@ -91,9 +91,9 @@ logsIn last = loginOf (four .serving .end) 1 (requestBytes (atLast last) 1 reqLo
 unfoldable pub bothEnds : List BenchRow
 bothEnds =
     -- P10 number 6 handed on, 5 again, 7 refused 16
-    says 10 (receives 6) (handedOn 6 (message (note 1 3)))
-    ∷ says 10 (receives 5) (again 5)
-    ∷ says 10 (receives 7) (refused 16)
+    says 10 (receivesRow 6) (handedOn 6 (message (note 1 3)))
+    ∷ says 10 (receivesRow 5) (again 5)
+    ∷ says 10 (receivesRow 7) (refused 16)
     -- P11 next 5 logs in and Send has none; 6: 19
     ∷ says 11 (loginSaid (logsIn 4 .answer)) (answered 163)
     ∷ says 11 (sentSaid (sendOf (logsIn 4 .end) 1 (four .serving .log) [] .answer)) none

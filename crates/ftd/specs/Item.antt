@@ -1,5 +1,6 @@
 -- The value of an item (01, "Typed items"): by its row of the table, what its bytes say, the bytes of a value, and
 -- which values fit.
+pub mod Helpers
 pub mod Fields
 use Prim.Native.Nat.{ℕ, _+_, _<_}
 use mathlib.Core.Path.{_≡_}
@@ -134,18 +135,6 @@ takenAs (Text start len) t = some (text t)
 takenAs (Number negative units) t = some (number negative units)
 takenAs (Float negative units) t = some (float negative units)
 takenAs (Date d) t = some (date d)
-
--- It is of the item's type; a Char of any kind.
-abbrev pub ofKind : ℕ → FieldItem → Bool
-ofKind kind NoItem = false
-ofKind kind NoValue = false
-ofKind kind (Char b) = true
-ofKind kind (Word x) = eqb kind wordKind
-ofKind kind (Int x) = eqb kind intKind
-ofKind kind (Text start len) = eqb kind stringKind
-ofKind kind (Number negative units) = eqb kind numberKind
-ofKind kind (Float negative units) = eqb kind floatKind
-ofKind kind (Date d) = eqb kind dateKind
 
 -- Whether it fits an item's place, and its bytes there. Nothing fits where there is no such item, or no value.
 abbrev pub fitsAt : ℕ → ItemPlace → Option ItemValue → Bool

@@ -1,7 +1,8 @@
 // The value of an item of a field, by FID and item number: read and written.
 ghost use mathlib.Core.Path.{_≡_};
 ghost use Rattle.ftd.specs.Write.{writtenAnswer, writtenOutput, fitVerdict};
-ghost use Rattle.ftd.specs.Item.{typedValue, givenAt, itemValueOf, ofKind, itemFits, itemWritten, ItemLaws};
+ghost use Rattle.ftd.specs.Item.{typedValue, givenAt, itemValueOf, itemFits, itemWritten, ItemLaws};
+ghost use Rattle.ftd.specs.Item.Helpers.{ofKind};
 use crate::bytes::be16;
 use crate::bytes::be32;
 use crate::dates::Date;

@@ -10,7 +10,7 @@ use lib.Seq.{take-all}
 use Rattle.ftd.specs.Packet.{saidIn, readOf}
 use Rattle.listing.specs.declared.Line.{Line}
 use Rattle.listing.specs.declared.Line.the-variants.{TooSmall, Last, More}
-use Rattle.listing.specs.Text.{Wrote, long, end}
+use Rattle.listing.specs.Text.{WroteText, long, end}
 use Rattle.listing.specs.Lines.{packetText, lineWith, lineOf, goesOn, isLast, nextOf, answerOf, outOf}
 use Rattle.ftd.specs.declared.packet.Packet.{Packet}
 use Rattle.ftd.proofs.bytes.Put.{put-zero}
@@ -26,7 +26,7 @@ unfolding answerOf outOf
 too-small capture more at l h = rw (lt-ltb (length l) 64 h) (refl, refl)
 
 module _ (capture : List ℕ) (more : Bool) (at : ℕ) (l out : List ℕ) (len : ℕ) (room : 64 ≤ length l)
-    (w : Wrote l 0 (lineOf capture more at) out len) where
+    (w : WroteText l 0 (lineOf capture more at) out len) where
   text-out : out ≡ outOf capture more at l
   unfolding outOf
   text-out = rw (le-ltb (length l) 64 room) (w .bytes ∙ put-zero l (lineOf capture more at))
@@ -45,11 +45,11 @@ module _ (capture : List ℕ) (more : Bool) (at : ℕ) (l out : List ℕ) (len :
 
 -- The two lines of a word: the input goes on behind the capture, and no bytes are left.
 module _ (capture : List ℕ) (at : ℕ) (l out : List ℕ) (len : ℕ) (room : 64 ≤ length l) where
-  pub long-line : Wrote l 0 (lineWith 0 long) out len → Right capture true at l (Last len) out
+  pub long-line : WroteText l 0 (lineWith 0 long) out len → Right capture true at l (Last len) out
   unfolding lineOf isLast
   long-line w = last-line capture true at l out len room w refl
 
-  pub end-line : length capture ≤ at → Wrote l 0 (lineWith at end) out len → Right capture false at l (Last len) out
+  pub end-line : length capture ≤ at → WroteText l 0 (lineWith at end) out len → Right capture false at l (Last len) out
   unfolding lineOf isLast
   end-line h w =
       let e = le-leb (length capture) at h in
@@ -77,7 +77,7 @@ module _ (capture : List ℕ) (at : ℕ) (inside : at < length capture) (found :
   last-is = rw (lt-leb (length capture) at inside, ← found-is, ← g)
 
   module _ (l out : List ℕ) (len : ℕ) (room : 64 ≤ length l)
-      (w : Wrote l 0 (lineWith at (packetText (take (length capture - at) (drop at capture)) found)) out len) where
+      (w : WroteText l 0 (lineWith at (packetText (take (length capture - at) (drop at capture)) found)) out len) where
     line-is : lineWith at (packetText (take (length capture - at) (drop at capture)) found) ≡ lineOf capture false at
     unfolding lineOf
     line-is = rw (lt-leb (length capture) at inside, rest-is capture at, ← found-is)

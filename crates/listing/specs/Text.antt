@@ -10,7 +10,7 @@ use Rattle.ftd.specs.Bytes.{put}
 -- ─── A text in a buffer ───
 
 -- The buffer `l` became `out`, with `text` put at `at`, and `end` is the place behind the text.
-pub record Wrote (l : List ℕ) (at : ℕ) (text out : List ℕ) (end : ℕ) : Type 0 where
+pub record WroteText (l : List ℕ) (at : ℕ) (text out : List ℕ) (end : ℕ) : Type 0 where
   pub bytes : out ≡ put l at text
   pub place : end ≡ at + length text
 

@@ -5,7 +5,7 @@ ghost use mathlib.Core.List.{[], _∷_, _++_};
 ghost use Prim.Native.Nat.{_+_, _<_, _≤_};
 ghost use lib.ListN.{length};
 ghost use Rattle.ftd.specs.Packet.Laws.{Inside};
-ghost use Rattle.listing.specs.Text.{Wrote, decimalOf, hexDigit, hexOf, tab, tabbed};
+ghost use Rattle.listing.specs.Text.{WroteText, decimalOf, hexDigit, hexOf, tab, tabbed};
 ghost use Rattle.listing.specs.Lines.{refusedText, startText, messageText, isHeart, linkText, packetText};
 ghost use Rattle.listing.specs.Lines.{lineWith, goesOn, answerOf, outOf};
 ghost use Rattle.listing.specs.Laws.{Listed};
@@ -30,7 +30,7 @@ pub enum Line {
 // A byte; answers the place behind it, as each of the next does.
 fn put_byte(out: &mut [u8], at: usize, x: u8) -> usize
     requires { ⌜ at < length (now out) ⌝ }
-    ensures { λ r. ⌜ Wrote (now (out .entry)) at (x ∷ []) (now (out .exit)) r ⌝ }
+    ensures { λ r. ⌜ WroteText (now (out .entry)) at (x ∷ []) (now (out .exit)) r ⌝ }
 {
     put8(out, at, x);
     at + 1
@@ -39,7 +39,7 @@ fn put_byte(out: &mut [u8], at: usize, x: u8) -> usize
 // The bytes of a word.
 fn put_word(out: &mut [u8], at: usize, word: &[u8]) -> usize
     requires { ⌜ at + length (now word) ≤ length (now out) ⌝ }
-    ensures { λ r. ⌜ Wrote (now (out .entry)) at (now (word .entry)) (now (out .exit)) r ⌝ }
+    ensures { λ r. ⌜ WroteText (now (out .entry)) at (now (word .entry)) (now (out .exit)) r ⌝ }
 {
     copy_at(out, at, word);
     at + word.len()
@@ -48,7 +48,7 @@ fn put_word(out: &mut [u8], at: usize, word: &[u8]) -> usize
 // A number in decimal.
 fn put_decimal(out: &mut [u8], at: usize, x: usize) -> usize
     requires { ⌜ at + length (decimalOf x) ≤ length (now out) ⌝ }
-    ensures { λ r. ⌜ Wrote (now (out .entry)) at (decimalOf x) (now (out .exit)) r ⌝ }
+    ensures { λ r. ⌜ WroteText (now (out .entry)) at (decimalOf x) (now (out .exit)) r ⌝ }
 {
     if x < 10 {
         return put_byte(out, at, 48 + x as u8);
@@ -71,7 +71,7 @@ fn hex_digit(d: u8) -> u8
 // The last `digits` digits of a number in hexadecimal.
 fn put_hex(out: &mut [u8], at: usize, x: u32, digits: usize) -> usize
     requires { ⌜ at + digits ≤ length (now out) ⌝ }
-    ensures { λ r. ⌜ Wrote (now (out .entry)) at (hexOf digits x) (now (out .exit)) r × (r ≡ at + digits) ⌝ }
+    ensures { λ r. ⌜ WroteText (now (out .entry)) at (hexOf digits x) (now (out .exit)) r × (r ≡ at + digits) ⌝ }
 {
     if digits == 0 {
         return at;
@@ -83,7 +83,7 @@ fn put_hex(out: &mut [u8], at: usize, x: u32, digits: usize) -> usize
 // A tab and a number in decimal.
 fn put_tabbed(out: &mut [u8], at: usize, x: usize) -> usize
     requires { ⌜ at + 1 + length (decimalOf x) ≤ length (now out) ⌝ }
-    ensures { λ r. ⌜ Wrote (now (out .entry)) at (tabbed x) (now (out .exit)) r ⌝ }
+    ensures { λ r. ⌜ WroteText (now (out .entry)) at (tabbed x) (now (out .exit)) r ⌝ }
 {
     let n = put_byte(out, at, 9);
     put_decimal(out, n, x)
@@ -92,7 +92,7 @@ fn put_tabbed(out: &mut [u8], at: usize, x: usize) -> usize
 // The fields of a refusal.
 fn put_refused(out: &mut [u8], at: usize, refusal: u8) -> usize
     requires { ⌜ at + 11 ≤ length (now out) ⌝ }
-    ensures { λ r. ⌜ Wrote (now (out .entry)) at (refusedText refusal) (now (out .exit)) r × (r ≤ at + 11) ⌝ }
+    ensures { λ r. ⌜ WroteText (now (out .entry)) at (refusedText refusal) (now (out .exit)) r × (r ≤ at + 11) ⌝ }
 {
     let n = put_word(out, at, b"refused");
     put_tabbed(out, n, refusal as usize)
@@ -101,7 +101,7 @@ fn put_refused(out: &mut [u8], at: usize, refusal: u8) -> usize
 // `msg`, TID and chain letter.
 fn put_start(out: &mut [u8], at: usize, tid: u32, letter: u8) -> usize
     requires { ⌜ at + 14 ≤ length (now out) ⌝ }
-    ensures { λ r. ⌜ Wrote (now (out .entry)) at (startText tid letter) (now (out .exit)) r × (r ≡ at + 14) ⌝ }
+    ensures { λ r. ⌜ WroteText (now (out .entry)) at (startText tid letter) (now (out .exit)) r × (r ≡ at + 14) ⌝ }
 {
     let n = put_word(out, at, b"msg\t");
     let n = put_hex(out, n, tid, 8);
@@ -120,7 +120,7 @@ fn put_message(
     fields: u16,
 ) -> usize
     requires { ⌜ at + 37 ≤ length (now out) ⌝ }
-    ensures { λ r. ⌜ Wrote (now (out .entry)) at (messageText tid letter series number fields) (now (out .exit)) r
+    ensures { λ r. ⌜ WroteText (now (out .entry)) at (messageText tid letter series number fields) (now (out .exit)) r
         × (r ≤ at + 37) ⌝ }
 {
     let n = put_start(out, at, tid, letter);
@@ -143,7 +143,7 @@ fn is_heart(p: &[u8], kind: u8, start: usize, len: usize) -> bool
 // The field of a link packet.
 fn put_link(out: &mut [u8], at: usize, p: &[u8], kind: u8, start: usize, len: usize) -> usize
     requires { ⌜ (at + 5 ≤ length (now out)) × (start + len ≤ length (now p)) ⌝ }
-    ensures { λ r. ⌜ Wrote (now (out .entry)) at (linkText (now (p .entry)) kind start len) (now (out .exit)) r
+    ensures { λ r. ⌜ WroteText (now (out .entry)) at (linkText (now (p .entry)) kind start len) (now (out .exit)) r
         × (r ≤ at + 5) ⌝ }
 {
     if is_heart(p, kind, start, len) {
@@ -155,7 +155,8 @@ fn put_link(out: &mut [u8], at: usize, p: &[u8], kind: u8, start: usize, len: us
 // The fields behind the offset, for what was read of the bytes p.
 fn put_packet(out: &mut [u8], at: usize, p: &[u8], found: Packet) -> usize
     requires { ⌜ (at + 37 ≤ length (now out)) × Inside (now p) found ⌝ }
-    ensures { λ r. ⌜ Wrote (now (out .entry)) at (packetText (now (p .entry)) found) (now (out .exit)) r × (r ≤ at + 37) ⌝ }
+    ensures { λ r. ⌜ WroteText (now (out .entry)) at (packetText (now (p .entry)) found) (now (out .exit)) r
+        × (r ≤ at + 37) ⌝ }
 {
     match found {
         Packet::Short => put_word(out, at, b"short"),
@@ -187,7 +188,7 @@ fn put_packet(out: &mut [u8], at: usize, p: &[u8], found: Packet) -> usize
 // The offset and a tab.
 fn begin_line(out: &mut [u8], offset: usize) -> usize
     requires { ⌜ 64 ≤ length (now out) ⌝ }
-    ensures { λ r. ⌜ Wrote (now (out .entry)) 0 (decimalOf offset ++ tab) (now (out .exit)) r × (r ≤ 21) ⌝ }
+    ensures { λ r. ⌜ WroteText (now (out .entry)) 0 (decimalOf offset ++ tab) (now (out .exit)) r × (r ≤ 21) ⌝ }
 {
     let n = put_decimal(out, 0, offset);
     put_byte(out, n, 9)
@@ -196,7 +197,7 @@ fn begin_line(out: &mut [u8], offset: usize) -> usize
 // A line of an offset and a word.
 fn word_line(out: &mut [u8], offset: usize, word: &[u8]) -> usize
     requires { ⌜ (64 ≤ length (now out)) × (length (now word) ≤ 37) ⌝ }
-    ensures { λ r. ⌜ Wrote (now (out .entry)) 0 (lineWith offset (now (word .entry))) (now (out .exit)) r ⌝ }
+    ensures { λ r. ⌜ WroteText (now (out .entry)) 0 (lineWith offset (now (word .entry))) (now (out .exit)) r ⌝ }
 {
     let n = begin_line(out, offset);
     let n = put_word(out, n, word);
@@ -206,7 +207,8 @@ fn word_line(out: &mut [u8], offset: usize, word: &[u8]) -> usize
 // The line of a packet.
 fn packet_line(out: &mut [u8], offset: usize, p: &[u8], found: Packet) -> usize
     requires { ⌜ (64 ≤ length (now out)) × Inside (now p) found ⌝ }
-    ensures { λ r. ⌜ Wrote (now (out .entry)) 0 (lineWith offset (packetText (now (p .entry)) found)) (now (out .exit)) r
+    ensures { λ r. ⌜ WroteText (now (out .entry)) 0 (lineWith offset (packetText (now (p .entry)) found))
+        (now (out .exit)) r
         ⌝ }
 {
     let n = begin_line(out, offset);

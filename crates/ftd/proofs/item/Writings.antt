@@ -15,7 +15,8 @@ use Rattle.ftd.specs.Texts.{textBytes, textFits}
 use Rattle.ftd.specs.Dates.{dateBytes, dateFits}
 use Rattle.ftd.specs.Places.{itemOf}
 use Rattle.ftd.specs.Item.{ItemValue, char, word, int, text, number, float, date, valueBytes, fits, takenAs}
-use Rattle.ftd.specs.Item.{ofKind, fitsAt, itemFits, itemWritten}
+use Rattle.ftd.specs.Item.{fitsAt, itemFits, itemWritten}
+use Rattle.ftd.specs.Item.Helpers.{ofKind}
 use Rattle.ftd.specs.declared.places.ItemPlace.{ItemPlace}
 use Rattle.ftd.specs.declared.places.ItemPlace.the-variants.{NoItem as NoPlace, Item as Place}
 use Rattle.ftd.specs.declared.item.FieldItem.{FieldItem}
