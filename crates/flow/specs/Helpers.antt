@@ -16,12 +16,16 @@ use Rattle.flow.specs.declared.sender.Published.the-variants.{Refused}
 use Rattle.flow.specs.declared.sender.PublishStep.{PublishStep}
 use Rattle.flow.specs.declared.sender.Sent.{Sent}
 use Rattle.flow.specs.declared.sender.SendStep.{SendStep}
+use Rattle.flow.specs.declared.receiver.KeptSeries.{KeptSeries}
+use Rattle.flow.specs.declared.receiver.LiveSeries.{LiveSeries}
+use Rattle.flow.specs.declared.receiver.Receiver.{Receiver}
 use Rattle.flow.specs.declared.log.EntryPlace.{EntryPlace}
 use Rattle.flow.specs.declared.log.EntryPlace.the-variants.{Damaged}
 use Rattle.flow.specs.declared.log.EntryPlace.the-variants.{At as Lies}
 use Rattle.flow.specs.declared.log.EntryStep.{EntryStep}
 use Rattle.flow.specs.declared.log.EntryStep.the-variants.{Wrong, Wanted, Passed}
 use Rattle.flow.specs.Ends.{_when_else_, Wrote, indexOf, daySeries, isServed, sender}
+use Rattle.flow.specs.Ends.{keptSeries, isOpen, receiver}
 use Rattle.flow.specs.Log.{entrySeries, entryNumber, strangeSeries, nonzero, misshapen, isWanted}
 
 -- Where a series stands among the open ones.
@@ -70,3 +74,14 @@ EntryIn o l (Lies start size) =
 -- The end, the answer and the output are those that are meant.
 abbrev pub SendsAs : Wrote Sender Sent → SendStep → List ℕ → Type 0
 SendsAs meant r after = (r .end ≡ meant .end) × (r .answer ≡ meant .answer) × (after ≡ meant .bytes)
+
+-- ─── The receiving end ───
+
+-- Where a series stands among the open ones.
+abbrev pub FindsKept : Receiver → ℕ → SeriesPlace → Type 0
+FindsKept e s Unknown = isOpen e s ≡ false
+FindsKept e s (At i) = (isOpen e s ≡ true) × (i ≡ indexOf s (keptSeries e)) × (i < 8)
+
+-- The series at place i with what is now kept of it and what it now has on this connection.
+abbrev pub seriesAt : Receiver → ℕ → KeptSeries → LiveSeries → Receiver
+seriesAt e i kept live = receiver (e .kept .count) (set (e .kept .series) i kept) (set (e .live .series) i live)

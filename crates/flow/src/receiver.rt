@@ -1,8 +1,11 @@
 // The receiving end (01, "The receiving end"): its state by value, and what its calls answer.
 ghost use mathlib.Core.Path.{_≡_};
+ghost use Prim.Native.Nat.{_<_};
 ghost use Rattle.flow.specs.Ends.{freshReceiver, receiverLimits};
+ghost use Rattle.flow.specs.Helpers.{FindsKept, seriesAt};
 use crate::limits::Limits;
 use crate::sender::Opened;
+use crate::series::SeriesPlace;
 use ftd::packet::Span;
 use ftd::refusal::Refusal;
 use ftd::tags::TradeDate;
@@ -132,6 +135,40 @@ impl Receiver {
                     held: 0,
                 }; 8],
             },
+        }
+    }
+
+    // Where a series stands among the open ones: its first place.
+    pub(crate) fn find(self, series: u16) -> SeriesPlace
+        ensures { λ r. ⌜ FindsKept self series r ⌝ }
+    {
+        let kept = self.kept;
+        let mut i: usize = 0;
+        while i < 8 {
+            if i >= kept.count {
+                return SeriesPlace::Unknown;
+            }
+            let one = kept.series[i];
+            if one.series == series {
+                return SeriesPlace::At(i);
+            }
+            i += 1;
+        }
+        SeriesPlace::Unknown
+    }
+
+    // The series at a place, with what is now kept of it and what it now has on this connection.
+    pub(crate) fn with_at(self, i: usize, series: KeptSeries, line: LiveSeries) -> Receiver
+        requires { ⌜ i < 8 ⌝ }
+        ensures { λ r. ⌜ r ≡ seriesAt self i series line ⌝ }
+    {
+        let mut kept = self.kept;
+        let mut live = self.live;
+        kept.series[i] = series;
+        live.series[i] = line;
+        Receiver {
+            kept: kept,
+            live: live,
         }
     }
 }

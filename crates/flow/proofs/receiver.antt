@@ -1,0 +1,2 @@
+-- The receiving end's calls: the laws that their proofs share.
+pub mod Lookups
