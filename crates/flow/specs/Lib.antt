@@ -10,3 +10,4 @@ pub mod Bench
 pub mod Examples
 pub mod Helpers
 pub mod LoginHelpers
+pub mod ReceiveHelpers

@@ -1,6 +1,6 @@
 // Trade dates (01: marks) compared.
 ghost use mathlib.Core.Path.{_≡_};
-ghost use Rattle.flow.specs.Ends.{before, upTo};
+ghost use Rattle.flow.specs.Ends.{before, upTo, differs};
 use ftd::tags::TradeDate;
 
 // A trade date is at most as high as another one that is there.
@@ -29,6 +29,19 @@ pub(crate) fn before(a: TradeDate, b: TradeDate) -> bool
         TradeDate::At(d) => match b {
             TradeDate::None => false,
             TradeDate::At(e) => d < e,
+        },
+    }
+}
+
+// There is one, and it is not the other.
+pub(crate) fn differs(a: TradeDate, b: TradeDate) -> bool
+    ensures { λ r. ⌜ r ≡ differs a b ⌝ }
+{
+    match a {
+        TradeDate::None => false,
+        TradeDate::At(d) => match b {
+            TradeDate::None => true,
+            TradeDate::At(e) => d != e,
         },
     }
 }

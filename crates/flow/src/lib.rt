@@ -10,6 +10,7 @@ mod header; // tests on a login packet
 mod log; // the log of the serving end
 mod login; // the serving end's Login
 pub mod sender; // the serving end
+mod receive; // the receiving end's Receive
 pub mod receiver; // the receiving end
 
 // Demand 3, as a promise.

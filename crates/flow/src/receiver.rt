@@ -3,10 +3,15 @@ ghost use mathlib.Core.Path.{_≡_};
 ghost use Prim.Native.Nat.{_<_};
 ghost use Rattle.flow.specs.Ends.{freshReceiver, receiverLimits};
 ghost use Rattle.flow.specs.Helpers.{FindsKept, seriesAt};
+ghost use Rattle.flow.specs.Promises.{Receives};
 use crate::limits::Limits;
+use crate::receive::take_packet;
 use crate::sender::Opened;
 use crate::series::SeriesPlace;
+use ftd::packet::Packet;
 use ftd::packet::Span;
+use ftd::packet::not_one_packet;
+use ftd::packet::read_dated;
 use ftd::refusal::Refusal;
 use ftd::tags::TradeDate;
 
@@ -169,6 +174,44 @@ impl Receiver {
         Receiver {
             kept: kept,
             live: live,
+        }
+    }
+
+    // Receive: a packet. A piece of a chain is copied into the series' part of the reassembly buffer.
+    pub fn receive(self, packet: &[u8], buffer: &mut [u8]) -> ReceiveStep
+        ensures { λ r. ⌜ Receives self (now (packet .entry)) (now (buffer .entry)) r (now (buffer .exit)) ⌝ }
+    {
+        if not_one_packet(packet) {
+            return ReceiveStep {
+                end: self,
+                answer: Received::Refused(Refusal::NotOnePacket),
+            };
+        }
+        let d = read_dated(packet);
+        let read = d.packet;
+        let date = d.date;
+        match read {
+            Packet::Message {
+                header,
+                extension: _,
+                content,
+            } => {
+                let at = content.start;
+                let n = content.len;
+                take_packet(self, header, date, content, &packet[at..at + n], buffer)
+            }
+            Packet::Refused(r) => ReceiveStep {
+                end: self,
+                answer: Received::Refused(r),
+            },
+            Packet::Short => ReceiveStep {
+                end: self,
+                answer: Received::Refused(Refusal::NotOnePacket),
+            },
+            _ => ReceiveStep {
+                end: self,
+                answer: Received::Idle,
+            },
         }
     }
 }

@@ -1,0 +1,5 @@
+-- Laws of Receive's parts.
+pub mod Checks
+pub mod Pieces
+pub mod Rows
+pub mod Whole
