@@ -5,7 +5,7 @@ ghost use lib.ListN.{length};
 ghost use Rattle.ftd.specs.Bytes.{put};
 ghost use Rattle.ftd.specs.Fields.{mostContent};
 ghost use Rattle.flow.specs.declared.series.SeriesPlace.the-variants.{At};
-ghost use Rattle.flow.specs.Ends.{wrote, allParts};
+ghost use Rattle.flow.specs.Ends.{wrote, loggedIn, allParts};
 ghost use Rattle.flow.specs.Receiving.{outOfLine, brokenChain, advance, holds, handsOn, nextPiece, receiveWith};
 ghost use Rattle.flow.specs.Helpers.{FindsKept};
 ghost use Rattle.flow.specs.ReceiveHelpers.{noRoom, dropping, completing};
@@ -99,6 +99,20 @@ fn advance(e: Receiver, i: usize, series: u16, last: u32, live: LiveSeries) -> R
     )
 }
 
+// The series at a place with a last number and no chain, logged in.
+fn without_chain(e: Receiver, i: usize, series: u16, last: u32) -> Receiver
+    requires { ⌜ FindsKept e series (At i) ⌝ }
+    ensures { λ r. ⌜ r ≡ advance e series last loggedIn ⌝ }
+{
+    let live = LiveSeries {
+        login: true,
+        chain: false,
+        tid: 0,
+        held: 0,
+    };
+    advance(e, i, series, last, live)
+}
+
 // A way out that drops the chain: last stays.
 fn drop_chain(e: Receiver, i: usize, series: u16, answer: Received) -> ReceiveStep
     requires { ⌜ FindsKept e series (At i) ⌝ }
@@ -106,14 +120,8 @@ fn drop_chain(e: Receiver, i: usize, series: u16, answer: Received) -> ReceiveSt
 {
     let kept = e.kept;
     let one = kept.series[i];
-    let live = LiveSeries {
-        login: true,
-        chain: false,
-        tid: 0,
-        held: 0,
-    };
     ReceiveStep {
-        end: advance(e, i, series, one.last, live),
+        end: without_chain(e, i, series, one.last),
         answer: answer,
     }
 }
@@ -123,14 +131,8 @@ fn complete(e: Receiver, i: usize, h: Header, origin: Origin, content: Span) -> 
     requires { ⌜ FindsKept e (h .series) (At i) ⌝ }
     ensures { λ r. ⌜ r ≡ completing e h origin content ⌝ }
 {
-    let live = LiveSeries {
-        login: true,
-        chain: false,
-        tid: 0,
-        held: 0,
-    };
     ReceiveStep {
-        end: advance(e, i, h.series, h.number, live),
+        end: without_chain(e, i, h.series, h.number),
         answer: Received::Complete {
             last: h.number,
             tid: h.tid,

@@ -1,8 +1,8 @@
 -- A piece behind the bytes held of its chain: the part of the buffer lent on, and what holding and handing on leave;
 -- over plain variables. Assumes nothing.
-use Prim.Native.Nat.{ℕ, _+_, _-_, _*_, _<_, _≤_}
+use Prim.Native.Nat.{ℕ, _+_, _-_, _*_, _≤_}
 use native.Mathlib.Omega.{arith}
-use mathlib.Core.Path.{_≡_, refl, sym, ap, _∙_}
+use mathlib.Core.Path.{_≡_, sym, ap, _∙_}
 use mathlib.Core.List.{List, _++_, append-assoc}
 use mathlib.Core.Bool.{Bool, true, false}
 use borrow.Author.Tests.{ltb-false}
@@ -22,7 +22,7 @@ use Rattle.flow.specs.declared.receiver.Origin.the-variants.{Buffer}
 use Rattle.flow.specs.declared.receiver.Received.{Received}
 use Rattle.flow.specs.declared.receiver.Received.the-variants.{Partial}
 use Rattle.flow.specs.declared.receiver.Received.the-variants.{Refused as NotTaken}
-use Rattle.flow.specs.Ends.{wrote, newKept, loggedIn, holding, keptOf, partStart, allParts}
+use Rattle.flow.specs.Ends.{wrote, newKept, loggedIn, holding, keptOf, allParts}
 use Rattle.flow.specs.Receiving.{advance, holds, handsOn}
 use Rattle.flow.specs.Helpers.{FindsKept, seriesAt}
 use Rattle.flow.specs.ReceiveHelpers.{noRoom, dropping, completing}

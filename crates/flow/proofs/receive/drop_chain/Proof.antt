@@ -10,11 +10,11 @@ mul-one c = search needs
 element-copy-out-one : tie.Need-element-copy-out-one
 element-copy-out-one c = search needs
 
-advance-requires : tie.Need-advance-requires
-advance-requires c κs = search needs
+without-chain-requires : tie.Need-without-chain-requires
+without-chain-requires c κs = search needs
 
 returns : tie.Need-returns
 returns c = search (needs, drop-at)
 
 pub drop-chain-spec : {M : Type 1} → statement M
-drop-chain-spec = tie.close (tie.spec mul-one element-copy-out-one advance-requires returns)
+drop-chain-spec = tie.close (tie.spec mul-one element-copy-out-one without-chain-requires returns)
