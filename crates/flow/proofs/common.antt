@@ -6,3 +6,4 @@ pub mod Days
 pub mod Lists
 pub mod Histories
 pub mod Contents
+pub mod Writers

@@ -11,3 +11,4 @@ pub mod Examples
 pub mod Helpers
 pub mod LoginHelpers
 pub mod ReceiveHelpers
+pub mod RequestHelpers

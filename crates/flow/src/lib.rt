@@ -9,6 +9,7 @@ mod days; // trade dates compared
 mod header; // tests on a login packet
 mod log; // the log of the serving end
 mod login; // the serving end's Login
+mod confirm; // the receiving end's Answer
 pub mod sender; // the serving end
 mod receive; // the receiving end's Receive
 pub mod receiver; // the receiving end

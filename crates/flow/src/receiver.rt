@@ -1,19 +1,35 @@
 // The receiving end (01, "The receiving end"): its state by value, and what its calls answer.
+ghost use mathlib.Core.Bool.{true};
+ghost use mathlib.Core.List.{map};
 ghost use mathlib.Core.Path.{_≡_};
-ghost use Prim.Native.Nat.{_<_};
-ghost use Rattle.flow.specs.Ends.{freshReceiver, receiverLimits};
+ghost use Prim.Native.Nat.{_<_, _≤_};
+ghost use lib.ListN.{length, replicate};
+ghost use Rattle.ftd.specs.Fields.{shaped};
+ghost use Rattle.flow.specs.Ends.{wrote, requestContent, freshReceiver, receiverLimits, filled, newKept, noLive, mostSeries};
 ghost use Rattle.flow.specs.Helpers.{FindsKept, seriesAt};
-ghost use Rattle.flow.specs.Promises.{Receives};
+ghost use Rattle.flow.specs.Promises.{OpensEnd, Connects, Asks, Confirms, Receives};
+ghost use Rattle.flow.specs.Receiving.{nextWanted};
+ghost use Rattle.flow.specs.RequestHelpers.{requestAt};
+use crate::confirm::confirm_with;
+use crate::header::not_one_message;
 use crate::limits::Limits;
 use crate::receive::take_packet;
 use crate::sender::Opened;
 use crate::series::SeriesPlace;
+use crate::series::wrong_series;
+use ftd::composition::Direction;
+use ftd::content::check_content;
+use ftd::fields::count_field;
+use ftd::items::Checked;
+use ftd::login::Ending;
+use ftd::login::write_login;
 use ftd::packet::Packet;
 use ftd::packet::Span;
 use ftd::packet::not_one_packet;
 use ftd::packet::read_dated;
 use ftd::refusal::Refusal;
 use ftd::tags::TradeDate;
+use ftd::write::Written;
 
 // What is kept of a series, whatever happens to the line: its trade date (01: mark), none at first, and the last
 // number.
@@ -97,6 +113,52 @@ pub struct ReceiveStep {
     pub answer: Received,
 }
 
+// The places kept: the series of an opening, each with no trade date and last 0; the others empty.
+fn new_kept(series: &[u16]) -> [KeptSeries; 8]
+    requires { ⌜ length (now series) ≤ 8 ⌝ }
+    ensures { λ r. ⌜ r ≡ filled (newKept 0) (map newKept (now (series .entry))) ⌝ }
+{
+    let mut all = [KeptSeries {
+        series: 0,
+        date: TradeDate::None,
+        last: 0,
+    }; 8];
+    let mut i: usize = 0;
+    while i < series.len() {
+        all[i] = KeptSeries {
+            series: series[i],
+            date: TradeDate::None,
+            last: 0,
+        };
+        i += 1;
+    }
+    all
+}
+
+// No login and no chain.
+fn no_line() -> Live
+    ensures { λ r. ⌜ r ≡ record { series = replicate mostSeries noLive } ⌝ }
+{
+    Live {
+        series: [LiveSeries {
+            login: false,
+            chain: false,
+            tid: 0,
+            held: 0,
+        }; 8],
+    }
+}
+
+// The next number wanted: no number of four bytes follows the highest, and 0 is never one.
+fn next_wanted(last: u32) -> u32
+    ensures { λ r. ⌜ r ≡ nextWanted last ⌝ }
+{
+    if last < 4294967295 {
+        return last + 1;
+    }
+    0
+}
+
 impl Receiver {
     // At most so many series are open.
     pub const MOST_SERIES: usize = 8;
@@ -132,14 +194,7 @@ impl Receiver {
                     last: 0,
                 }; 8],
             },
-            live: Live {
-                series: [LiveSeries {
-                    login: false,
-                    chain: false,
-                    tid: 0,
-                    held: 0,
-                }; 8],
-            },
+            live: no_line(),
         }
     }
 
@@ -174,6 +229,119 @@ impl Receiver {
         Receiver {
             kept: kept,
             live: live,
+        }
+    }
+
+    // Opening: the series, once; 11.
+    pub fn open(self, series: &[u16]) -> OpenStep
+        ensures { λ r. ⌜ OpensEnd self (now (series .entry)) r ⌝ }
+    {
+        let kept = self.kept;
+        if kept.count > 0 {
+            return OpenStep {
+                end: self,
+                answer: Opened::Refused(Refusal::Opening),
+            };
+        }
+        if wrong_series(series) {
+            return OpenStep {
+                end: self,
+                answer: Opened::Refused(Refusal::Opening),
+            };
+        }
+        OpenStep {
+            end: Receiver {
+                kept: Kept {
+                    count: series.len(),
+                    series: new_kept(series),
+                },
+                live: no_line(),
+            },
+            answer: Opened::Done,
+        }
+    }
+
+    // Connect: login and chain of all series are cleared. Never refused.
+    pub fn connect(self) -> Receiver
+        ensures { λ r. ⌜ Connects self r ⌝ }
+    {
+        let kept = self.kept;
+        Receiver {
+            kept: kept,
+            live: no_line(),
+        }
+    }
+
+    // 18, or the request is written: the content, and the start field for the series at a place.
+    fn write_request(self, i: usize, series: u16, content: &[u8], out: &mut [u8]) -> Requested
+        requires { ⌜ (i < 8) × (shaped (now content) requestContent ≡ true) ⌝ }
+        ensures { λ r. ⌜ wrote self r (now (out .exit)) ≡ requestAt self i series (now (content .entry))
+            (now (out .entry)) ⌝ }
+    {
+        let kept = self.kept;
+        let one = kept.series[i];
+        let date = one.date;
+        let start = Ending::Resume {
+            series: series,
+            number: next_wanted(one.last),
+        };
+        match write_login(date, content, start, out) {
+            Written::Bytes(n) => Requested::Wrote(n),
+            _ => Requested::Refused(Refusal::TooSmall),
+        }
+    }
+
+    // Ask: series and the request's content; 7 to 10, 13 and 18. The request is written, and the end stays. 8 to 10 say
+    // the same of the content as of the content with its start field, where it has none of its own.
+    pub fn request_login(self, series: u16, content: &[u8], out: &mut [u8]) -> Requested
+        ensures { λ r. ⌜ Asks self series (now (content .entry)) (now (out .entry)) r (now (out .exit)) ⌝ }
+    {
+        match check_content(0x0016, Direction::Up, content, Receiver::REQUEST_CONTENT) {
+            Checked::Refused(r) => {
+                return Requested::Refused(r);
+            }
+            Checked::Passed => {}
+        }
+        if 0 < count_field(content, 0x0004) {
+            return Requested::Refused(Refusal::Composition);
+        }
+        match self.find(series) {
+            SeriesPlace::Unknown => Requested::Refused(Refusal::UnknownSeries),
+            SeriesPlace::At(i) => self.write_request(i, series, content, out),
+        }
+    }
+
+    // Answer: a login answer of a series; 12, the reader's refusals, 8 to 10, 13, 15 and 16. The series is logged in.
+    pub fn confirm_login(self, series: u16, packet: &[u8]) -> ConfirmStep
+        ensures { λ r. ⌜ Confirms self series (now (packet .entry)) r ⌝ }
+    {
+        if not_one_message(packet) {
+            return ConfirmStep {
+                end: self,
+                answer: Confirmed::Refused(Refusal::NotOnePacket),
+            };
+        }
+        let d = read_dated(packet);
+        let read = d.packet;
+        let date = d.date;
+        match read {
+            Packet::Message {
+                header,
+                extension: _,
+                content,
+            } => {
+                let at = content.start;
+                let n = content.len;
+                confirm_with(self, series, header, date, &packet[at..at + n])
+            }
+            Packet::Refused(r) => ConfirmStep {
+                end: self,
+                answer: Confirmed::Refused(r),
+            },
+            _ => ConfirmStep {
+                end: self,
+                answer: Confirmed::Refused(Refusal::NotOnePacket),
+            },
         }
     }
 

@@ -64,10 +64,10 @@ module _ (tid : ℕ) (d : Direction) (content : List ℕ) (limit : ℕ) where
       go true false false true = refl
       go true false false false = refl
 
-  -- What passed has at most as many bytes as the limit.
-  pub content-length : contentCheck tid d content limit ≡ Passed → length content ≤ limit
+  -- What passed is whole fields, and has at most as many bytes as the limit.
+  pub content-shaped : contentCheck tid d content limit ≡ Passed → shaped content limit ≡ true
   unfolding contentCheck
-  content-length h = shaped-facts content limit (shaped content limit) refl (go (shaped content limit) refl h) .0
+  content-shaped h = go (shaped content limit) refl h
     where
       go : (a : Bool) → shaped content limit ≡ a
           → cond a (passedThen (checkOf content) (cond (composed tid d content) Passed (Refused Composition)))
@@ -75,3 +75,6 @@ module _ (tid : ℕ) (d : Direction) (content : List ℕ) (limit : ℕ) where
           ≡ Passed → shaped content limit ≡ true
       go true p h = p
       go false p h = p ∙ sym (ap isRefused h)
+
+  pub content-length : contentCheck tid d content limit ≡ Passed → length content ≤ limit
+  content-length h = shaped-facts content limit (shaped content limit) refl (content-shaped h) .0

@@ -29,6 +29,11 @@ use Rattle.flow.specs.Answers.{loginSaid}
 use Rattle.flow.specs.Serving.{loginWith, loginRead, loginOf}
 use Rattle.flow.specs.Promises.{LogsIn}
 
+-- The content of a packet, lent as a part of it.
+pub as-part : (p : List ℕ) (c : Span) → take (c .start + c .len - c .start) (drop (c .start) p)
+    ≡ part p (c .start) (c .len)
+as-part p c = let n : c .start + c .len - c .start ≡ c .len = omega arith in rw n
+
 module _ (e : Sender) (s : ℕ) (p content out : List ℕ) where
   -- What is left is the definition's: so are its parts.
   logs-in : (r : LoginStep) (after : List ℕ) → wrote (r .end) (r .answer) after ≡ loginOf e s p content out
@@ -52,9 +57,6 @@ module _ (e : Sender) (s : ℕ) (p content out : List ℕ) where
   other-read date (Message h extension c) k = absurd (miss (0 ∷ 1 ∷ 2 ∷ []) 3 tt k)
   other-read date (Unread r) k = absurd (miss (0 ∷ 1 ∷ 2 ∷ []) 4 tt k)
 
-  as-part : (c : Span) → take (c .start + c .len - c .start) (drop (c .start) p) ≡ part p (c .start) (c .len)
-  as-part c = let n : c .start + c .len - c .start ≡ c .len = omega arith in rw n
-
   module _ (b : Bool) (k : b ≡ (notOnePacket p || noMessagePacket p)) where
     pub not-message : b ≡ true → LogsIn e s p content out (refusing NotOnePacket) out
     unfolding loginOf
@@ -77,7 +79,7 @@ module _ (e : Sender) (s : ℕ) (p content out : List ℕ) where
           → wrote (r .end) (r .answer) after
           ≡ loginWith e s h (d .date) (take (c .start + c .len - c .start) (drop (c .start) p)) content out
           → LogsIn e s p content out r after
-      read-message h x c y r after z = logs-in r after (by-read _ (rw (y, ← (as-part c)) z))
+      read-message h x c y r after z = logs-in r after (by-read _ (rw (y, ← (as-part p c)) z))
 
 -- The content of a packet that was read lies in it.
 pub read-inside : (p : List ℕ) (d : Dated) → d ≡ datedOf p → (h : Header) (x c : Span) → d .packet ≡ Message h x c

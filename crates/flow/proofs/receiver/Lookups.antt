@@ -1,7 +1,7 @@
 -- A series of the receiving end by its place in the arrays: looked up and changed. Assumes nothing.
 use Prim.Native.Nat.{ℕ, _<_, _≤_, _*_}
 use mathlib.Core.Path.{_≡_, sym, ap, _∙_}
-use mathlib.Core.List.{List, map}
+use mathlib.Core.List.{List}
 use lib.ListN.{length, length-map, getD, take}
 use lib.Seq.{length-take-le, take-all}
 use mir.Val.{Val}

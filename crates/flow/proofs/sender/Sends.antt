@@ -3,20 +3,16 @@
 use Prim.Native.Nat.{ℕ, suc, _+_, _-_, _%_, _<_, _≤_}
 use native.Mathlib.Omega.{arith}
 use mathlib.Core.Path.{_≡_, refl, ap, _∙_}
-use mathlib.Core.Logic.{inl, inr}
-use mathlib.Core.List.{List, [], _∷_}
+use mathlib.Core.List.{List}
 use mathlib.Core.Bool.{Bool, true, false, cond}
 use mathlib.Core.Option.{none, some}
-use types.Run.{OneOf}
-use denote.Enum.Declared.{tagOf}
 use borrow.Author.Tests.{lt-ltb, le-ltb}
 use lib.ListN.{length, getD, take, drop, set, length-take, length-drop}
 use lib.Dec.{ltb}
 use Rattle.ftd.specs.Bytes.{be32Of, part, joined}
 use Rattle.ftd.specs.Chain.{packetsOf, chainVerdict}
 use Rattle.ftd.specs.Fields.{shaped, mostContent}
-use Rattle.ftd.specs.Write.{Verdict, fine, writtenAnswer, writtenOutput}
-use Rattle.ftd.proofs.write.Written.{the-type}
+use Rattle.ftd.specs.Write.{fine, writtenAnswer, writtenOutput}
 use Rattle.ftd.specs.declared.chain.Message.{Message}
 use Rattle.ftd.specs.declared.refusal.Refusal.the-variants.{UnknownSeries, NotLoggedIn, TooSmall, DamagedLog}
 use Rattle.ftd.specs.declared.write.Written.{Written}
@@ -35,30 +31,11 @@ use Rattle.flow.specs.Log.{entryOf}
 use Rattle.flow.specs.Serving.{noneLeft, sendBytes, sendEntry, sendOf}
 use Rattle.flow.specs.Promises.{Sends}
 use Rattle.flow.specs.Helpers.{SendsAs}
+use Rattle.flow.proofs.common.Writers.{fine-answer, fine-output, Otherwise, not-bytes}
 use Rattle.flow.proofs.log.Heads.{part-size, part-end}
 use Rattle.flow.proofs.sender.Lookups.{published-at, place-at, next-at}
 
 -- ─── The entry as packets ───
-
--- Content that 7 lets pass is refused for want of room only.
-module _ (v : Verdict) (f : v ≡ fine) (bytes out : List ℕ) where
-  fine-answer : writtenAnswer v bytes out
-      ≡ cond (ltb (length out) (length bytes)) (NotWritten TooSmall) (Bytes (length bytes))
-  unfolding writtenAnswer
-  fine-answer = rw f
-
-  fine-output : writtenOutput v bytes out ≡ cond (ltb (length out) (length bytes)) out (over bytes out)
-  unfolding writtenOutput
-  fine-output = rw f
-
--- An answer of the writer other than how many bytes were written.
-abbrev pub Otherwise : Written → Type 0
-Otherwise w = OneOf (1 ∷ 2 ∷ 3 ∷ []) (tagOf the-type w)
-
-not-bytes : (n : ℕ) → Otherwise (Bytes n) → ⊥
-not-bytes n (inl h) = omega arith
-not-bytes n (inr (inl h)) = omega arith
-not-bytes n (inr (inr h)) = omega arith
 
 -- What the call does with the writer's answer and output.
 module _ (e : Sender) (s : ℕ) (x out : List ℕ) where

@@ -4,11 +4,12 @@ use native.Mathlib.Omega.{arith}
 use mathlib.Core.Path.{_≡_, refl, sym, ap, _∙_}
 use mathlib.Core.List.{List, [], _∷_}
 use mathlib.Core.Bool.{Bool, true, false, not, _&&_, _||_}
-use borrow.Author.Tests.{eq-eqb, ne-eqb, lt-ltb, le-ltb}
+use borrow.Author.Tests.{eq-eqb, ne-eqb, lt-ltb, le-ltb, ltb-false}
 use lib.ListN.{length, getD, drop, drop-of-length-le}
 use lib.Seq.{drop-cons}
 use lib.Dec.{eqb, ltb}
 use Rattle.flow.specs.Ends.{member, differing, wrongSeries}
+use Rattle.flow.proofs.common.Bools.{or-neither}
 
 -- 0 or a series twice.
 abbrev pub against : List ℕ → Bool
@@ -74,3 +75,13 @@ module _ (l : List ℕ) where
   pub wrong-else : (length l ≡ 0 → ⊥) → length l ≤ 8 → against l ≡ wrongSeries l
   unfolding wrongSeries
   wrong-else n h = rw (ne-eqb (length l) 0 n, le-ltb 8 (length l) h)
+
+  -- Where it holds there are at most 8 series.
+  pub right-few : (wrong : Bool) → wrong ≡ wrongSeries l → wrong ≡ false → length l ≤ 8
+  unfolding wrongSeries
+  right-few wrong w right =
+      let none = eqb (length l) 0 in
+      let many = ltb 8 (length l) in
+      let a = or-neither ((none || many) || member 0 l) (not (differing l)) (sym w ∙ right) in
+      let b = or-neither (none || many) (member 0 l) (a .0) in
+      ltb-false 8 (length l) (or-neither none many (b .0) .1)

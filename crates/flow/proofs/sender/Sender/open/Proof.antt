@@ -1,6 +1,7 @@
 -- `sender::Sender::open` meets its contract. Assumes nothing.
 use borrow.Author.Needs.{needs}
-use Rattle.flow.proofs.sender.Opening.{opening-wrong, opening-few, opening-late, opening-done}
+use Rattle.flow.proofs.series.Rule.{right-few}
+use Rattle.flow.proofs.sender.Opening.{opening-wrong, opening-late, opening-done}
 use Rattle.flow.proofs.sender.Sender.open.Statement.{statement}
 use Rattle.flow.proofs.sender.Sender.open.Tie as tie
 
@@ -17,7 +18,7 @@ returns-2 : tie.Need-returns-2
 returns-2 c = search (needs, opening-late)
 
 new-places-requires : tie.Need-new-places-requires
-new-places-requires c κs = search (needs, opening-few)
+new-places-requires c κs = search (needs, right-few)
 
 returns-3 : tie.Need-returns-3
 returns-3 c = search (needs, opening-done)

@@ -1,0 +1,3 @@
+-- The laws of Answer.
+pub mod Rows
+pub mod Whole
