@@ -4,7 +4,7 @@ use mathlib.Core.Path.{_≡_, refl, ap}
 use mathlib.Core.List.{List, [], _∷_}
 use mathlib.Core.Bool.{Bool, true, false, _||_}
 use lib.ListN.{take, drop}
-use types.Run.{OneOf, miss}
+use types.Run.{OneOf}
 use denote.Enum.Declared.{tagOf}
 use Rattle.ftd.specs.Packet.{notOnePacket, noMessagePacket, datedOf}
 use Rattle.ftd.specs.declared.refusal.Refusal.{Refusal}
@@ -14,7 +14,7 @@ use Rattle.ftd.specs.declared.packet.Header.{Header}
 use Rattle.ftd.specs.declared.packet.Span.{Span}
 use Rattle.ftd.specs.declared.packet.Dated.{Dated}
 use Rattle.ftd.specs.declared.packet.Packet.{Packet}
-use Rattle.ftd.specs.declared.packet.Packet.the-variants.{Short, Link, Skipped, Message}
+use Rattle.ftd.specs.declared.packet.Packet.the-variants.{Message}
 use Rattle.ftd.specs.declared.packet.Packet.the-variants.{Refused as Unread}
 use Rattle.ftd.proofs.packet.Packet.{the-type}
 use Rattle.flow.specs.declared.receiver.Receiver.{Receiver}
@@ -25,7 +25,7 @@ use Rattle.flow.specs.Ends.{Left, left}
 use Rattle.flow.specs.Answers.{confirmedSaid}
 use Rattle.flow.specs.Receiving.{confirmWith, confirmRead, confirmLoginOf}
 use Rattle.flow.specs.Promises.{Confirms}
-use Rattle.flow.proofs.login.Whole.{as-part}
+use Rattle.flow.proofs.login.Whole.{as-part, other-packet}
 
 module _ (e : Receiver) (s : ℕ) (p : List ℕ) where
   -- What is left is the definition's: so are its parts.
@@ -45,11 +45,7 @@ module _ (e : Receiver) (s : ℕ) (p : List ℕ) where
   -- Neither a message packet nor a refusal.
   other-read : (date : TradeDate) (q : Packet) → OneOf (0 ∷ 1 ∷ 2 ∷ []) (tagOf the-type q)
       → left e (NotIn NotOnePacket) ≡ confirmRead e s p date q
-  other-read date Short k = refl
-  other-read date (Link kind extension) k = refl
-  other-read date (Skipped kind extension body) k = refl
-  other-read date (Message h extension c) k = absurd (miss (0 ∷ 1 ∷ 2 ∷ []) 3 tt k)
-  other-read date (Unread r) k = absurd (miss (0 ∷ 1 ∷ 2 ∷ []) 4 tt k)
+  other-read date = other-packet (confirmRead e s p date) _ refl (λ k x. refl) (λ k x b. refl)
 
   module _ (b : Bool) (k : b ≡ (notOnePacket p || noMessagePacket p)) where
     pub confirm-not-message : b ≡ true → Confirms e s p (refusing NotOnePacket)

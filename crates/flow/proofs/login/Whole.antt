@@ -34,6 +34,16 @@ pub as-part : (p : List ℕ) (c : Span) → take (c .start + c .len - c .start) 
     ≡ part p (c .start) (c .len)
 as-part p c = let n : c .start + c .len - c .start ≡ c .len = omega arith in rw n
 
+-- What holds of short, link and skipped packets holds of all but message packets and refusals.
+pub other-packet : {A : Type 0} (f : Packet → A) (y : A) → y ≡ f Short
+    → ((kind : ℕ) (x : Span) → y ≡ f (Link kind x)) → ((kind : ℕ) (x b : Span) → y ≡ f (Skipped kind x b))
+    → (q : Packet) → OneOf (0 ∷ 1 ∷ 2 ∷ []) (tagOf the-type q) → y ≡ f q
+other-packet f y g h i Short k = g
+other-packet f y g h i (Link kind x) k = h kind x
+other-packet f y g h i (Skipped kind x b) k = i kind x b
+other-packet f y g h i (Message head x c) k = absurd (miss (0 ∷ 1 ∷ 2 ∷ []) 3 tt k)
+other-packet f y g h i (Unread r) k = absurd (miss (0 ∷ 1 ∷ 2 ∷ []) 4 tt k)
+
 module _ (e : Sender) (s : ℕ) (p content out : List ℕ) where
   -- What is left is the definition's: so are its parts.
   logs-in : (r : LoginStep) (after : List ℕ) → wrote (r .end) (r .answer) after ≡ loginOf e s p content out
@@ -51,11 +61,7 @@ module _ (e : Sender) (s : ℕ) (p content out : List ℕ) where
   -- Neither a message packet nor a refusal.
   other-read : (date : TradeDate) (q : Packet) → OneOf (0 ∷ 1 ∷ 2 ∷ []) (tagOf the-type q)
       → wrote e (NotIn NotOnePacket) out ≡ loginRead e s p content out date q
-  other-read date Short k = refl
-  other-read date (Link kind extension) k = refl
-  other-read date (Skipped kind extension body) k = refl
-  other-read date (Message h extension c) k = absurd (miss (0 ∷ 1 ∷ 2 ∷ []) 3 tt k)
-  other-read date (Unread r) k = absurd (miss (0 ∷ 1 ∷ 2 ∷ []) 4 tt k)
+  other-read date = other-packet (loginRead e s p content out date) _ refl (λ k x. refl) (λ k x b. refl)
 
   module _ (b : Bool) (k : b ≡ (notOnePacket p || noMessagePacket p)) where
     pub not-message : b ≡ true → LogsIn e s p content out (refusing NotOnePacket) out
