@@ -38,6 +38,7 @@ pub mod tags; // what the tags of an extension say
 pub mod written; // what the writers answer
 pub mod items; // items of fields, and modes
 pub mod resume; // the start field
+pub mod serving; // Send, for measures
 
 // What some bytes are: places, header values, the trade date, which answer it is, and the number of the refusal.
 #[repr(C)]
