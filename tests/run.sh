@@ -39,5 +39,6 @@ else
     "$outside/differ" 1000000 2 "$root/target/bin/ftdlist"
     bash tests/faults.sh
     "$outside/bench"
+    "$outside/sends"
 fi
 echo "outside tests: ok"

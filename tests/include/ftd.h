@@ -188,6 +188,27 @@ struct ftd_written ftd_write_resume(uint16_t series, uint32_t number, uint8_t *o
 struct ftd_written ftd_write_plain(uint8_t kind, const uint8_t *extension, size_t extent, const uint8_t *body,
                                    size_t count, uint8_t *output, size_t room);
 
+/* A serving end with one open series: its trade date, how many messages were published in it, how many bytes of the log are
+ * used, and a seat that is logged in to the series with a number next. For measures of Send; the ends' own interface is another. */
+struct ftd_seat {
+    uint64_t next;
+    size_t used;
+    uint32_t date;
+    uint32_t published;
+    uint16_t series;
+};
+
+/* What Send answers: 0 none left; 1 a message's number, and so many bytes; 2 refused (13, 14, 20, 18). */
+struct ftd_sent {
+    size_t bytes;
+    uint32_t number;
+    uint8_t answer;
+    uint8_t refusal;
+};
+
+/* Send in that series: the packets of message `next` are written to the start of the output. */
+struct ftd_sent ftd_send(struct ftd_seat seat, const uint8_t *log, size_t count, uint8_t *output, size_t room);
+
 /* Writes all packets of the message, one behind the other, to the start of the output. What stood behind them stays.
  * Refusals: 7, 18. */
 struct ftd_written ftd_write(struct ftd_message message, const uint8_t *content, size_t count, uint8_t *output, size_t room);

@@ -44,6 +44,27 @@ impl Packet {
     }
 }
 
+/// A serving end with one open series, and a seat that is logged in to it.
+#[repr(C)]
+#[derive(Clone, Copy, Debug)]
+pub struct Seat {
+    pub next: u64,
+    pub used: usize,
+    pub date: u32,
+    pub published: u32,
+    pub series: u16,
+}
+
+/// What Send answers: 0 none left, 1 a message's number and how many bytes, 2 refused.
+#[repr(C)]
+#[derive(Clone, Copy, Debug, Default, PartialEq, Eq)]
+pub struct Sent {
+    pub bytes: usize,
+    pub number: u32,
+    pub answer: u8,
+    pub refusal: u8,
+}
+
 #[repr(C)]
 #[derive(Clone, Copy, Debug, Default, PartialEq, Eq)]
 pub struct Field {
@@ -147,6 +168,7 @@ pub struct Resume {
 }
 
 extern "C" {
+    fn ftd_send(seat: Seat, log: *const u8, used: usize, output: *mut u8, room: usize) -> Sent;
     fn ftd_read(bytes: *const u8, count: usize) -> Packet;
     fn ftd_field(bytes: *const u8, count: usize, i: usize) -> Field;
     fn ftd_field_at(content: *const u8, count: usize, at: usize) -> Step;
@@ -251,4 +273,9 @@ pub fn write_plain(kind: u8, extension: &[u8], body: &[u8], output: &mut [u8]) -
     unsafe {
         ftd_write_plain(kind, extension.as_ptr(), extent, body.as_ptr(), count, output.as_mut_ptr(), output.len())
     }
+}
+
+/// Send in the seat's series.
+pub fn send(seat: Seat, log: &[u8], output: &mut [u8]) -> Sent {
+    unsafe { ftd_send(seat, log.as_ptr(), log.len(), output.as_mut_ptr(), output.len()) }
 }
