@@ -28,7 +28,7 @@ pub enum Line {
 }
 
 // A byte; answers the place behind it, as each of the next does.
-fn put_byte(out: &mut [u8], at: usize, x: u8) -> usize
+pub fn put_byte(out: &mut [u8], at: usize, x: u8) -> usize
     requires { ⌜ at < length (now out) ⌝ }
     ensures { λ r. ⌜ WroteText (now (out .entry)) at (x ∷ []) (now (out .exit)) r ⌝ }
 {
@@ -37,7 +37,7 @@ fn put_byte(out: &mut [u8], at: usize, x: u8) -> usize
 }
 
 // The bytes of a word.
-fn put_word(out: &mut [u8], at: usize, word: &[u8]) -> usize
+pub fn put_word(out: &mut [u8], at: usize, word: &[u8]) -> usize
     requires { ⌜ at + length (now word) ≤ length (now out) ⌝ }
     ensures { λ r. ⌜ WroteText (now (out .entry)) at (now (word .entry)) (now (out .exit)) r ⌝ }
 {
@@ -46,7 +46,7 @@ fn put_word(out: &mut [u8], at: usize, word: &[u8]) -> usize
 }
 
 // A number in decimal.
-fn put_decimal(out: &mut [u8], at: usize, x: usize) -> usize
+pub fn put_decimal(out: &mut [u8], at: usize, x: usize) -> usize
     requires { ⌜ at + length (decimalOf x) ≤ length (now out) ⌝ }
     ensures { λ r. ⌜ WroteText (now (out .entry)) at (decimalOf x) (now (out .exit)) r ⌝ }
 {
@@ -69,7 +69,7 @@ fn hex_digit(d: u8) -> u8
 }
 
 // The last `digits` digits of a number in hexadecimal.
-fn put_hex(out: &mut [u8], at: usize, x: u32, digits: usize) -> usize
+pub fn put_hex(out: &mut [u8], at: usize, x: u32, digits: usize) -> usize
     requires { ⌜ at + digits ≤ length (now out) ⌝ }
     ensures { λ r. ⌜ WroteText (now (out .entry)) at (hexOf digits x) (now (out .exit)) r × (r ≡ at + digits) ⌝ }
 {

@@ -1,0 +1,98 @@
+-- The turns of the loop that writes bytes as pairs of digits, and the line of each answer, over plain variables.
+-- Assumes nothing.
+use Prim.Native.Nat.{ℕ, suc, _+_, _*_, _<_, _≤_}
+use mathlib.Core.Path.{_≡_, refl, sym, ap, _∙_}
+use mathlib.Core.List.{List, [], _∷_, _++_, append-nil, append-assoc}
+use native.Mathlib.Numerals.{add-one}
+use native.Mathlib.Omega.{arith}
+use lib.ListN.{length, getD, take}
+use lib.Seq.{take-suc, take-all, length-take-le}
+use Rattle.listing.specs.Text.{Wrote, hexOf}
+use Rattle.listing.proofs.Texts.{wrote-both}
+use Rattle.ftd.specs.Refusal.{numberOf}
+use Rattle.ftd.specs.declared.refusal.Refusal.{Refusal}
+use Rattle.flow.specs.declared.sender.Opened.{Opened}
+use Rattle.flow.specs.declared.sender.Opened.the-variants.{Done}
+use Rattle.flow.specs.declared.sender.Opened.the-variants.{Refused as NotOpened}
+use Rattle.flow.specs.declared.sender.Published.{Published}
+use Rattle.flow.specs.declared.sender.Published.the-variants.{Number}
+use Rattle.flow.specs.declared.sender.Published.the-variants.{Refused as NotPublished}
+use Rattle.flow.specs.declared.sender.LoggedIn.{LoggedIn}
+use Rattle.flow.specs.declared.sender.LoggedIn.the-variants.{Wrote as Answered}
+use Rattle.flow.specs.declared.sender.LoggedIn.the-variants.{Refused as NotIn}
+use Rattle.flow.specs.declared.sender.Sent.{Sent}
+use Rattle.flow.specs.declared.sender.Sent.the-variants.{Drained}
+use Rattle.flow.specs.declared.sender.Sent.the-variants.{Wrote as MessageSent}
+use Rattle.flow.specs.declared.sender.Sent.the-variants.{Refused as NotSent}
+use Rattle.listing.specs.Text.{refused}
+use Rattle.play.specs.Lines.{hexBytes, wordLine, numbered, bytesLine, refusedLine, openedLine, publishedLine}
+use Rattle.play.specs.Lines.{loginLine, sentLine, opened, published, login, sent, none}
+
+pub hex-append : (l m : List ℕ) → hexBytes (l ++ m) ≡ hexBytes l ++ hexBytes m
+unfolding hexBytes
+hex-append [] m = refl
+hex-append (x ∷ l) m = rw (hex-append l m) (sym (append-assoc (hexOf 2 x) (hexBytes l) (hexBytes m)))
+
+hex-one : (x : ℕ) → hexBytes (x ∷ []) ≡ hexOf 2 x
+unfolding hexBytes
+hex-one x = append-nil (hexOf 2 x)
+
+pub pairs-turn : {l o p : List ℕ} {at to end : ℕ} (b : List ℕ) (i x : ℕ) → at ≤ length l → i < length b
+    → Wrote l at (hexBytes (take i b)) o to → x ≡ getD b i 0 → Wrote o to (hexOf 2 x) p end
+    → Wrote l at (hexBytes (take (i + 1) b)) p end
+pairs-turn b i x fits h inv q more =
+    rw (add-one i, take-suc b i 0 h, hex-append (take i b) (getD b i 0 ∷ []), hex-one (getD b i 0), ← q)
+    (wrote-both fits inv more)
+
+pub pairs-over : {l o : List ℕ} {at to : ℕ} (b : List ℕ) (i : ℕ) → length b ≤ i
+    → Wrote l at (hexBytes (take i b)) o to → Wrote l at (hexBytes b) o to
+pairs-over b i h inv = rw (take-all i b h) at inv
+
+-- ─── Lines ───
+
+pub front-room : (b : List ℕ) (n m : ℕ) → n < length b → 64 + 2 * length b ≤ m → 64 + 2 * length (take n b) ≤ m
+front-room b n m h r = rw (length-take-le n b (omega arith)) (omega arith)
+
+module _ {l o : List ℕ} {to : ℕ} where
+  pub front-all : (w b : List ℕ) (n : ℕ) → length b ≤ n → Wrote l 0 (bytesLine w b) o to
+      → Wrote l 0 (bytesLine w (take n b)) o to
+  front-all w b n h q = rw (take-all n b h) q
+
+  pub refused-is : (x n : ℕ) (r : Refusal) → x ≡ n → n ≡ numberOf r → Wrote l 0 (wordLine (numbered refused x)) o to
+      → Wrote l 0 (refusedLine r) o to
+  unfolding refusedLine
+  refused-is x n r e f q = rw (← f, ← e) q
+
+  pub opened-done : (a : Opened) → a ≡ Done → Wrote l 0 (wordLine opened) o to → Wrote l 0 (openedLine a) o to
+  opened-done a e q = rw e q
+
+  pub opened-not : (a : Opened) (r : Refusal) → a ≡ NotOpened r → Wrote l 0 (refusedLine r) o to
+      → Wrote l 0 (openedLine a) o to
+  opened-not a r e q = rw e q
+
+  pub published-as : (a : Published) (k x : ℕ) → a ≡ Number k → x ≡ k → Wrote l 0 (wordLine (numbered published x)) o to
+      → Wrote l 0 (publishedLine a) o to
+  published-as a k x e f q = rw (e, ← f) q
+
+  pub published-not : (a : Published) (r : Refusal) → a ≡ NotPublished r → Wrote l 0 (refusedLine r) o to
+      → Wrote l 0 (publishedLine a) o to
+  published-not a r e q = rw e q
+
+  pub login-as : (a : LoggedIn) (b : List ℕ) (n : ℕ) → a ≡ Answered n → Wrote l 0 (bytesLine login (take n b)) o to
+      → Wrote l 0 (loginLine b a) o to
+  login-as a b n e q = rw e q
+
+  pub login-not : (a : LoggedIn) (b : List ℕ) (r : Refusal) → a ≡ NotIn r → Wrote l 0 (refusedLine r) o to
+      → Wrote l 0 (loginLine b a) o to
+  login-not a b r e q = rw e q
+
+  pub sent-none : (a : Sent) (b : List ℕ) → a ≡ Drained → Wrote l 0 (wordLine none) o to → Wrote l 0 (sentLine b a) o to
+  sent-none a b e q = rw e q
+
+  pub sent-as : (a : Sent) (b : List ℕ) (k n : ℕ) → a ≡ MessageSent k n → Wrote l 0 (bytesLine sent (take n b)) o to
+      → Wrote l 0 (sentLine b a) o to
+  sent-as a b k n e q = rw e q
+
+  pub sent-not : (a : Sent) (b : List ℕ) (r : Refusal) → a ≡ NotSent r → Wrote l 0 (refusedLine r) o to
+      → Wrote l 0 (sentLine b a) o to
+  sent-not a b r e q = rw e q

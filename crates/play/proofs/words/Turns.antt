@@ -1,0 +1,162 @@
+-- The turns of the loops over a word's bytes, over plain variables. Assumes nothing.
+use Prim.Native.Nat.{ℕ, zero, suc, _+_, _*_, _/_, _%_, _<_, _≤_}
+use mathlib.Core.Path.{_≡_, refl, sym, ap, _∙_}
+use mathlib.Core.List.{List, [], _∷_}
+use mathlib.Core.Bool.{Bool, true, false, cond}
+use native.Mathlib.Nat.{add-zero, mul-le-mul-left}
+use native.Mathlib.Numerals.{add-one}
+use native.Mathlib.Omega.{arith}
+use borrow.Author.Tests.{le-leb, lt-leb, eq-eqb, ne-eqb}
+use lib.ListN.{length, getD, set, drop, drop-of-length-le}
+use lib.Seq.{drop-cons, paste, paste-zero, paste-suc}
+use lib.Dec.{eqb, leb}
+use Rattle.play.specs.Words.{upToSpace, endOf, digitOf, noNumber, digitsIn, numberIn, tidIn, allHex, pairOf}
+use Rattle.play.specs.Words.{bytesIn, sameWord}
+use Rattle.ftd.specs.Bytes.{put}
+use Rattle.ftd.proofs.bytes.Put.{paste-put}
+
+-- ─── Where a word ends ───
+
+module _ (l : List ℕ) (i e : ℕ) (inv : i + upToSpace (drop i l) ≡ e) where
+  pub space-here : i < length l → getD l i 0 ≡ 32 → i ≡ e
+  unfolding upToSpace
+  space-here h s = rw add-zero at (rw (drop-cons l i 0 h, s) at inv)
+
+  pub no-space : i < length l → (getD l i 0 ≡ 32 → ⊥) → (i + 1) + upToSpace (drop (i + 1) l) ≡ e
+  unfolding upToSpace
+  no-space h s =
+      let z : i + suc (upToSpace (drop (suc i) l)) ≡ e = rw (drop-cons l i 0 h, ne-eqb (getD l i 0) 32 s) at inv in
+      rw (add-one i) (omega arith)
+
+  pub line-over : length l ≤ i → i ≡ e
+  unfolding upToSpace
+  line-over h = rw add-zero at (rw (drop-of-length-le l h) at inv)
+
+-- ─── Numbers ───
+
+module _ (base : ℕ) (l : List ℕ) (i n t : ℕ) (inv : digitsIn base n (drop i l) ≡ t) (h : i < length l) where
+  step : cond (leb base (digitOf (getD l i 0))) noNumber
+      (cond (leb noNumber (n * base + digitOf (getD l i 0))) noNumber
+      (digitsIn base (n * base + digitOf (getD l i 0)) (drop (suc i) l))) ≡ t
+  unfolding digitsIn
+  step = rw (drop-cons l i 0 h) at inv
+
+  module _ (d : ℕ) (q : d ≡ digitOf (getD l i 0)) where
+    pub no-digit : base ≤ d → noNumber ≡ t
+    no-digit b = rw (← q, le-leb base d b) at step
+
+    pub too-high : d < base → (m : ℕ) → m ≡ n * base + d → noNumber ≤ m → noNumber ≡ t
+    too-high b m e g = rw (← q, lt-leb base d b, ← e, le-leb noNumber m g) at step
+
+    pub digit-more : d < base → (m : ℕ) → m ≡ n * base + d → m < noNumber → digitsIn base m (drop (i + 1) l) ≡ t
+    digit-more b m e g = rw (add-one i) (rw (← q, lt-leb base d b, ← e, lt-leb noNumber m g) at step)
+
+-- The bound of a step.
+pub scaled : (n base : ℕ) → n < 4294967296 → base ≤ 16 → n * base ≤ 68719476720
+scaled n base h b = omega (arith, mul-le-mul-left n b)
+
+-- A word with a byte at least.
+pub number-some : (base : ℕ) (l : List ℕ) → (length l ≡ 0 → ⊥) → digitsIn base 0 l ≡ numberIn base l
+unfolding numberIn
+number-some base l n = rw (ne-eqb (length l) 0 n)
+
+pub digits-over : (base : ℕ) (l : List ℕ) (i n t : ℕ) → digitsIn base n (drop i l) ≡ t → length l ≤ i → n ≡ t
+unfolding digitsIn
+digits-over base l i n t inv h = rw (drop-of-length-le l h) at inv
+
+-- A TID has eight digits.
+module _ (w : List ℕ) where
+  pub tid-eight : (r : ℕ) → length w ≡ 8 → r ≡ numberIn 16 w → r ≡ tidIn w
+  unfolding tidIn
+  tid-eight r e q = rw (eq-eqb (length w) 8 e) q
+
+  pub tid-other : (length w ≡ 8 → ⊥) → noNumber ≡ tidIn w
+  unfolding tidIn
+  tid-other n = rw (ne-eqb (length w) 8 n)
+
+-- ─── Hexadecimal digits ───
+
+module _ (l : List ℕ) (i : ℕ) (t : Bool) (inv : allHex (drop i l) ≡ t) where
+  module _ (h : i < length l) (d : ℕ) (q : d ≡ digitOf (getD l i 0)) where
+    pub hex-wrong : d ≡ 16 → false ≡ t
+    unfolding allHex
+    hex-wrong w = rw (drop-cons l i 0 h, ← q, w) at inv
+
+    pub hex-more : (d ≡ 16 → ⊥) → allHex (drop (i + 1) l) ≡ t
+    unfolding allHex
+    hex-more w = rw (add-one i) (rw (drop-cons l i 0 h, ← q, ne-eqb d 16 w) at inv)
+
+  pub hex-over : length l ≤ i → true ≡ t
+  unfolding allHex
+  hex-over h = rw (drop-of-length-le l h) at inv
+
+-- ─── Bytes ───
+
+pub length-bytes : (l : List ℕ) → length (bytesIn l) ≡ length l / 2
+unfolding bytesIn
+length-bytes [] = refl
+length-bytes (x ∷ []) = refl
+length-bytes (x ∷ y ∷ l) = let e = length-bytes l in omega (arith, e)
+
+pub byte-at : (l : List ℕ) (i : ℕ) → i < length l / 2
+    → getD (bytesIn l) i 0 ≡ pairOf (getD l (2 * i) 0) (getD l (2 * i + 1) 0)
+unfolding bytesIn
+byte-at [] i h = absurd (omega arith)
+byte-at (x ∷ []) i h = absurd (omega arith)
+byte-at (x ∷ y ∷ l) zero h = refl
+byte-at (x ∷ y ∷ l) (suc i) h =
+    let e : 2 * suc i ≡ suc (suc (2 * i)) = omega arith in
+    let f : suc (suc (2 * i)) + 1 ≡ suc (suc (2 * i + 1)) = omega arith in
+    rw (e, f) (byte-at l i (omega arith))
+
+pub pair-is : (a b high low : ℕ) → a ≡ digitOf high → b ≡ digitOf low → (a * 16 + b) % 256 ≡ pairOf high low
+unfolding pairOf
+pair-is a b high low p q = rw (p, q)
+
+-- No byte is put yet.
+pub bytes-start : (l word : List ℕ) (at : ℕ) → l ≡ paste l at (bytesIn word) 0
+bytes-start l word at = paste-zero l at (bytesIn word)
+
+-- A byte more is put.
+pub bytes-turn : (l out word : List ℕ) (at i r : ℕ) → out ≡ paste l at (bytesIn word) i → i < length word / 2
+    → at + length word / 2 ≤ length l → r ≡ pairOf (getD word (2 * i) 0) (getD word (2 * i + 1) 0)
+    → set out (at + i) r ≡ paste l at (bytesIn word) (i + 1)
+bytes-turn l out word at i r inv h room q =
+    rw (inv, q, ← byte-at word i h, add-one i)
+    (paste-suc l at (bytesIn word) i 0 (omega arith) (rw (length-bytes word) h))
+
+pub bytes-over : (l out word : List ℕ) (at i : ℕ) → out ≡ paste l at (bytesIn word) i → i ≤ length word / 2
+    → length word / 2 ≤ i → out ≡ put l at (bytesIn word)
+bytes-over l out word at i inv h g =
+    let e : i ≡ length (bytesIn word) = rw (length-bytes word) (omega arith) in
+    inv ∙ rw e (paste-put l at (bytesIn word))
+
+-- ─── Words that are the same ───
+
+module _ (l m : List ℕ) (i : ℕ) (t : Bool) (inv : sameWord (drop i l) (drop i m) ≡ t) (e : length l ≡ length m) where
+  module _ (h : i < length l) where
+    same-step : cond (eqb (getD l i 0) (getD m i 0)) (sameWord (drop (suc i) l) (drop (suc i) m)) false ≡ t
+    unfolding sameWord
+    same-step = rw (drop-cons l i 0 h, drop-cons m i 0 (omega arith)) at inv
+
+    pub word-differs : (getD l i 0 ≡ getD m i 0 → ⊥) → false ≡ t
+    word-differs w = rw (ne-eqb (getD l i 0) (getD m i 0) w) at same-step
+
+    pub word-more : getD l i 0 ≡ getD m i 0 → sameWord (drop (i + 1) l) (drop (i + 1) m) ≡ t
+    word-more w = rw (add-one i) (rw (eq-eqb (getD l i 0) (getD m i 0) w) at same-step)
+
+  pub word-over : length l ≤ i → true ≡ t
+  unfolding sameWord
+  word-over h = rw (drop-of-length-le l h, drop-of-length-le m {i = i} (omega arith)) at inv
+
+-- Words of other lengths differ.
+pub word-longer : (l m : List ℕ) → (length l ≡ length m → ⊥) → false ≡ sameWord l m
+unfolding sameWord
+word-longer [] [] n = absurd (n refl)
+word-longer [] (y ∷ m) n = refl
+word-longer (x ∷ l) [] n = refl
+word-longer (x ∷ l) (y ∷ m) n = go (eqb x y) (word-longer l m (λ e. n (ap suc e)))
+  where
+    go : (b : Bool) → false ≡ sameWord l m → false ≡ cond b (sameWord l m) false
+    go true ih = ih
+    go false ih = refl

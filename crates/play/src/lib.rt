@@ -1,0 +1,6 @@
+// The player of a script: a line is a call of an end on real bytes, and prints its answer as a line.
+mod words; // the words of a line
+mod text; // answers as lines
+pub mod calls; // a line as a call
+pub mod player; // the player
+pub mod input; // lines out of the input

@@ -1,0 +1,147 @@
+// The line that an answer is printed as.
+ghost use mathlib.Core.List.{_++_};
+ghost use mathlib.Core.Path.{_≡_};
+ghost use Prim.Native.Nat.{_+_, _*_, _<_, _≤_};
+ghost use lib.ListN.{length, take};
+ghost use Rattle.listing.specs.Text.{Wrote, decimalOf};
+ghost use Rattle.play.specs.Lines.{hexBytes, numbered, wordLine, bytesLine, refusedLine, openedLine};
+ghost use Rattle.play.specs.Lines.{publishedLine, loginLine, sentLine};
+use flow::sender::LoggedIn;
+use flow::sender::Opened;
+use flow::sender::Published;
+use flow::sender::Sent;
+use ftd::bytes::size8;
+use ftd::bytes::size32;
+use ftd::bytes::wide32;
+use ftd::refusal::Refusal;
+use ftd::refusal::number;
+use listing::put_byte;
+use listing::put_decimal;
+use listing::put_hex;
+use listing::put_word;
+
+// Bytes as pairs of hexadecimal digits.
+pub(crate) fn put_pairs(out: &mut [u8], at: usize, bytes: &[u8]) -> usize
+    requires { ⌜ at + 2 * length (now bytes) ≤ length (now out) ⌝ }
+    ensures { λ r. ⌜ Wrote (now (out .entry)) at (hexBytes (now (bytes .entry))) (now (out .exit)) r
+        × (r ≡ at + 2 * length (now (bytes .entry))) ⌝ }
+{
+    let mut to = at;
+    let mut i: usize = 0;
+    while i < bytes.len() {
+        to = put_hex(out, to, wide32(bytes[i]), 2);
+        i += 1;
+    }
+    to
+}
+
+// A line of a word.
+pub(crate) fn word_line(out: &mut [u8], word: &[u8]) -> usize
+    requires { ⌜ (64 ≤ length (now out)) × (length (now word) ≤ 16) ⌝ }
+    ensures { λ r. ⌜ Wrote (now (out .entry)) 0 (wordLine (now (word .entry))) (now (out .exit)) r
+        × (r ≤ length (now (out .exit))) ⌝ }
+{
+    let n = put_word(out, 0, word);
+    put_byte(out, n, 10)
+}
+
+// A word, a space and a number.
+fn put_numbered(out: &mut [u8], word: &[u8], x: usize) -> usize
+    requires { ⌜ (64 ≤ length (now out)) × (length (now word) ≤ 16) ⌝ }
+    ensures { λ r. ⌜ Wrote (now (out .entry)) 0 (numbered (now (word .entry)) x) (now (out .exit)) r × (r ≤ 40) ⌝ }
+{
+    let n = put_word(out, 0, word);
+    let n = put_byte(out, n, 32);
+    put_decimal(out, n, x)
+}
+
+// A line of a word and a number.
+pub(crate) fn number_line(out: &mut [u8], word: &[u8], x: usize) -> usize
+    requires { ⌜ (64 ≤ length (now out)) × (length (now word) ≤ 16) ⌝ }
+    ensures { λ r. ⌜ Wrote (now (out .entry)) 0 (wordLine (numbered (now (word .entry)) x)) (now (out .exit)) r
+        × (r ≤ length (now (out .exit))) ⌝ }
+{
+    let n = put_numbered(out, word, x);
+    put_byte(out, n, 10)
+}
+
+// A line of a word, the number of bytes, and the bytes.
+pub(crate) fn bytes_line(out: &mut [u8], word: &[u8], bytes: &[u8]) -> usize
+    requires { ⌜ (64 + 2 * length (now bytes) ≤ length (now out)) × (length (now word) ≤ 16) ⌝ }
+    ensures { λ r. ⌜ Wrote (now (out .entry)) 0 (bytesLine (now (word .entry)) (now (bytes .entry))) (now (out .exit)) r
+        × (r ≤ length (now (out .exit))) ⌝ }
+{
+    let n = put_numbered(out, word, bytes.len());
+    let n = put_byte(out, n, 32);
+    let n = put_pairs(out, n, bytes);
+    put_byte(out, n, 10)
+}
+
+// The first n bytes of an output, or all of it where there are no more.
+fn front_line(out: &mut [u8], word: &[u8], bytes: &[u8], n: usize) -> usize
+    requires { ⌜ (64 + 2 * length (now bytes) ≤ length (now out)) × (length (now word) ≤ 16) ⌝ }
+    ensures { λ r. ⌜ Wrote (now (out .entry)) 0 (bytesLine (now (word .entry)) (take n (now (bytes .entry))))
+        (now (out .exit)) r × (r ≤ length (now (out .exit))) ⌝ }
+{
+    if n < bytes.len() {
+        return bytes_line(out, word, &bytes[..n]);
+    }
+    bytes_line(out, word, bytes)
+}
+
+// `refused` and the paper's number.
+fn refused_line(out: &mut [u8], r: Refusal) -> usize
+    requires { ⌜ 64 ≤ length (now out) ⌝ }
+    ensures { λ n. ⌜ Wrote (now (out .entry)) 0 (refusedLine r) (now (out .exit)) n × (n ≤ length (now (out .exit))) ⌝ }
+{
+    number_line(out, b"refused", size8(number(r)))
+}
+
+// The line of an opening's answer.
+pub(crate) fn opened_line(out: &mut [u8], answer: Opened) -> usize
+    requires { ⌜ 64 ≤ length (now out) ⌝ }
+    ensures { λ r. ⌜ Wrote (now (out .entry)) 0 (openedLine answer) (now (out .exit)) r
+        × (r ≤ length (now (out .exit))) ⌝ }
+{
+    match answer {
+        Opened::Done => word_line(out, b"opened"),
+        Opened::Refused(r) => refused_line(out, r),
+    }
+}
+
+// The line of Publish's answer.
+pub(crate) fn published_line(out: &mut [u8], answer: Published) -> usize
+    requires { ⌜ 64 ≤ length (now out) ⌝ }
+    ensures { λ r. ⌜ Wrote (now (out .entry)) 0 (publishedLine answer) (now (out .exit)) r
+        × (r ≤ length (now (out .exit))) ⌝ }
+{
+    match answer {
+        Published::Number(k) => number_line(out, b"published", size32(k)),
+        Published::Refused(r) => refused_line(out, r),
+    }
+}
+
+// The line of Login's answer, with the bytes that it wrote to an output.
+pub(crate) fn login_line(out: &mut [u8], answer: LoggedIn, bytes: &[u8]) -> usize
+    requires { ⌜ 64 + 2 * length (now bytes) ≤ length (now out) ⌝ }
+    ensures { λ r. ⌜ Wrote (now (out .entry)) 0 (loginLine (now (bytes .entry)) answer) (now (out .exit)) r
+        × (r ≤ length (now (out .exit))) ⌝ }
+{
+    match answer {
+        LoggedIn::Wrote(n) => front_line(out, b"login", bytes, n),
+        LoggedIn::Refused(r) => refused_line(out, r),
+    }
+}
+
+// The line of Send's answer, with the bytes that it wrote to an output.
+pub(crate) fn sent_line(out: &mut [u8], answer: Sent, bytes: &[u8]) -> usize
+    requires { ⌜ 64 + 2 * length (now bytes) ≤ length (now out) ⌝ }
+    ensures { λ r. ⌜ Wrote (now (out .entry)) 0 (sentLine (now (bytes .entry)) answer) (now (out .exit)) r
+        × (r ≤ length (now (out .exit))) ⌝ }
+{
+    match answer {
+        Sent::Drained => word_line(out, b"none"),
+        Sent::Wrote { number: _, len: n } => front_line(out, b"sent", bytes, n),
+        Sent::Refused(r) => refused_line(out, r),
+    }
+}

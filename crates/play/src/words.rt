@@ -1,0 +1,167 @@
+// The words of a script's line: where a word ends, and the number or the bytes that it says.
+ghost use mathlib.Core.Path.{_≡_};
+ghost use Prim.Native.Nat.{_+_, _*_, _/_, _<_, _≤_};
+ghost use lib.ListN.{length};
+ghost use Rattle.ftd.specs.Bytes.{put};
+ghost use Rattle.play.specs.Words.{endOf, digitOf, numberIn, tidIn, allHex, saysBytes, pairOf, bytesIn, sameWord};
+
+// A number above all that four bytes hold stands for a word that says none.
+pub const NO_NUMBER: u64 = 4294967296;
+
+// Where the word that begins at a place ends: at the next space, or with the line.
+pub(crate) fn word_end(line: &[u8], at: usize) -> usize
+    requires { ⌜ at ≤ length (now line) ⌝ }
+    ensures { λ r. ⌜ (r ≡ endOf (now (line .entry)) at) × (at ≤ r) × (r ≤ length (now (line .entry))) ⌝ }
+{
+    let mut i = at;
+    while i < line.len() {
+        if line[i] == 32 {
+            return i;
+        }
+        i += 1;
+    }
+    i
+}
+
+// The value of a digit, decimal or hexadecimal in either case; 16 where it is none.
+fn digit(x: u8) -> u8
+    ensures { λ r. ⌜ (r ≡ digitOf x) × (r ≤ 16) ⌝ }
+{
+    if x < 48 {
+        return 16;
+    }
+    if x <= 57 {
+        return x - 48;
+    }
+    if x < 65 {
+        return 16;
+    }
+    if x <= 70 {
+        return x - 55;
+    }
+    if x < 97 {
+        return 16;
+    }
+    if x <= 102 {
+        return x - 87;
+    }
+    16
+}
+
+// A digit as a number of eight bytes.
+fn wide_digit(x: u8) -> u64
+    ensures { λ r. ⌜ (r ≡ digitOf x) × (r ≤ 16) ⌝ }
+{
+    digit(x) as u64
+}
+
+// A number with a digit behind it.
+fn behind(n: u64, base: u64, d: u64) -> u64
+    requires { ⌜ (n < 4294967296) × (base ≤ 16) × (d ≤ 16) ⌝ }
+    ensures { λ r. ⌜ r ≡ n * base + d ⌝ }
+{
+    n * base + d
+}
+
+// The number that a word's digits say, in a base; `NO_NUMBER` where it is no number, or above four bytes.
+pub(crate) fn read_number(word: &[u8], base: u64) -> u64
+    requires { ⌜ base ≤ 16 ⌝ }
+    ensures { λ r. ⌜ (r ≡ numberIn base (now (word .entry))) × (r ≤ 4294967296) ⌝ }
+{
+    if word.len() == 0 {
+        return NO_NUMBER;
+    }
+    let mut n: u64 = 0;
+    let mut i: usize = 0;
+    while i < word.len() {
+        let d = wide_digit(word[i]);
+        if base <= d {
+            return NO_NUMBER;
+        }
+        n = behind(n, base, d);
+        if NO_NUMBER <= n {
+            return NO_NUMBER;
+        }
+        i += 1;
+    }
+    n
+}
+
+// A TID: eight hexadecimal digits.
+pub(crate) fn read_tid(word: &[u8]) -> u64
+    ensures { λ r. ⌜ (r ≡ tidIn (now (word .entry))) × (r ≤ 4294967296) ⌝ }
+{
+    if word.len() == 8 {
+        return read_number(word, 16);
+    }
+    NO_NUMBER
+}
+
+// All bytes of a word are hexadecimal digits.
+fn all_hex(word: &[u8]) -> bool
+    ensures { λ r. ⌜ r ≡ allHex (now (word .entry)) ⌝ }
+{
+    let mut i: usize = 0;
+    while i < word.len() {
+        if digit(word[i]) == 16 {
+            return false;
+        }
+        i += 1;
+    }
+    true
+}
+
+// The word says bytes: pairs of hexadecimal digits, or `-` for none.
+pub(crate) fn says_bytes(word: &[u8]) -> bool
+    ensures { λ r. ⌜ r ≡ saysBytes (now (word .entry)) ⌝ }
+{
+    if word.len() == 0 {
+        return false;
+    }
+    if word.len() == 1 {
+        return word[0] == 45;
+    }
+    if word.len() % 2 == 1 {
+        return false;
+    }
+    all_hex(word)
+}
+
+// The byte that a pair of digits says.
+fn pair(high: u8, low: u8) -> u8
+    ensures { λ r. ⌜ r ≡ pairOf high low ⌝ }
+{
+    ((wide_digit(high) * 16 + wide_digit(low)) % 256) as u8
+}
+
+// The bytes that a word says are put at a place; answers how many.
+pub(crate) fn put_bytes(out: &mut [u8], at: usize, word: &[u8]) -> usize
+    requires { ⌜ at + length (now word) / 2 ≤ length (now out) ⌝ }
+    ensures { λ r. ⌜ (now (out .exit) ≡ put (now (out .entry)) at (bytesIn (now (word .entry))))
+        × (r ≡ length (bytesIn (now (word .entry)))) × (r ≡ length (now (word .entry)) / 2) ⌝ }
+{
+    let n = word.len() / 2;
+    let mut i: usize = 0;
+    while i < n {
+        out[at + i] = pair(word[2 * i], word[2 * i + 1]);
+        i += 1;
+    }
+    n
+}
+
+// The word is the one given.
+pub(crate) fn is_word(word: &[u8], given: &[u8]) -> bool
+    ensures { λ r. ⌜ r ≡ sameWord (now (word .entry)) (now (given .entry)) ⌝ }
+{
+    if word.len() != given.len() {
+        return false;
+    }
+    let mut i: usize = 0;
+    while i < word.len() {
+        if word[i] != given[i] {
+            return false;
+        }
+        i += 1;
+    }
+    true
+}
