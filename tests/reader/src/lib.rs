@@ -9,6 +9,8 @@ pub mod lister;
 pub mod makeup;
 pub mod packet;
 pub mod plain;
+pub mod script;
+pub mod serving;
 pub mod start;
 #[rustfmt::skip]
 pub mod tables;
