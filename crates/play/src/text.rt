@@ -3,7 +3,7 @@ ghost use mathlib.Core.List.{_++_};
 ghost use mathlib.Core.Path.{_≡_};
 ghost use Prim.Native.Nat.{_+_, _*_, _<_, _≤_};
 ghost use lib.ListN.{length, take};
-ghost use Rattle.listing.specs.Text.{Wrote, decimalOf};
+ghost use Rattle.listing.specs.Text.{WroteText, decimalOf};
 ghost use Rattle.play.specs.Lines.{hexBytes, numbered, wordLine, bytesLine, refusedLine, openedLine};
 ghost use Rattle.play.specs.Lines.{publishedLine, loginLine, sentLine};
 use flow::sender::LoggedIn;
@@ -23,7 +23,7 @@ use listing::put_word;
 // Bytes as pairs of hexadecimal digits.
 pub(crate) fn put_pairs(out: &mut [u8], at: usize, bytes: &[u8]) -> usize
     requires { ⌜ at + 2 * length (now bytes) ≤ length (now out) ⌝ }
-    ensures { λ r. ⌜ Wrote (now (out .entry)) at (hexBytes (now (bytes .entry))) (now (out .exit)) r
+    ensures { λ r. ⌜ WroteText (now (out .entry)) at (hexBytes (now (bytes .entry))) (now (out .exit)) r
         × (r ≡ at + 2 * length (now (bytes .entry))) ⌝ }
 {
     let mut to = at;
@@ -38,7 +38,7 @@ pub(crate) fn put_pairs(out: &mut [u8], at: usize, bytes: &[u8]) -> usize
 // A line of a word.
 pub(crate) fn word_line(out: &mut [u8], word: &[u8]) -> usize
     requires { ⌜ (64 ≤ length (now out)) × (length (now word) ≤ 16) ⌝ }
-    ensures { λ r. ⌜ Wrote (now (out .entry)) 0 (wordLine (now (word .entry))) (now (out .exit)) r
+    ensures { λ r. ⌜ WroteText (now (out .entry)) 0 (wordLine (now (word .entry))) (now (out .exit)) r
         × (r ≤ length (now (out .exit))) ⌝ }
 {
     let n = put_word(out, 0, word);
@@ -48,7 +48,7 @@ pub(crate) fn word_line(out: &mut [u8], word: &[u8]) -> usize
 // A word, a space and a number.
 fn put_numbered(out: &mut [u8], word: &[u8], x: usize) -> usize
     requires { ⌜ (64 ≤ length (now out)) × (length (now word) ≤ 16) ⌝ }
-    ensures { λ r. ⌜ Wrote (now (out .entry)) 0 (numbered (now (word .entry)) x) (now (out .exit)) r × (r ≤ 40) ⌝ }
+    ensures { λ r. ⌜ WroteText (now (out .entry)) 0 (numbered (now (word .entry)) x) (now (out .exit)) r × (r ≤ 40) ⌝ }
 {
     let n = put_word(out, 0, word);
     let n = put_byte(out, n, 32);
@@ -58,7 +58,7 @@ fn put_numbered(out: &mut [u8], word: &[u8], x: usize) -> usize
 // A line of a word and a number.
 pub(crate) fn number_line(out: &mut [u8], word: &[u8], x: usize) -> usize
     requires { ⌜ (64 ≤ length (now out)) × (length (now word) ≤ 16) ⌝ }
-    ensures { λ r. ⌜ Wrote (now (out .entry)) 0 (wordLine (numbered (now (word .entry)) x)) (now (out .exit)) r
+    ensures { λ r. ⌜ WroteText (now (out .entry)) 0 (wordLine (numbered (now (word .entry)) x)) (now (out .exit)) r
         × (r ≤ length (now (out .exit))) ⌝ }
 {
     let n = put_numbered(out, word, x);
@@ -68,7 +68,7 @@ pub(crate) fn number_line(out: &mut [u8], word: &[u8], x: usize) -> usize
 // A line of a word, the number of bytes, and the bytes.
 pub(crate) fn bytes_line(out: &mut [u8], word: &[u8], bytes: &[u8]) -> usize
     requires { ⌜ (64 + 2 * length (now bytes) ≤ length (now out)) × (length (now word) ≤ 16) ⌝ }
-    ensures { λ r. ⌜ Wrote (now (out .entry)) 0 (bytesLine (now (word .entry)) (now (bytes .entry))) (now (out .exit)) r
+    ensures { λ r. ⌜ WroteText (now (out .entry)) 0 (bytesLine (now (word .entry)) (now (bytes .entry))) (now (out .exit)) r
         × (r ≤ length (now (out .exit))) ⌝ }
 {
     let n = put_numbered(out, word, bytes.len());
@@ -80,7 +80,7 @@ pub(crate) fn bytes_line(out: &mut [u8], word: &[u8], bytes: &[u8]) -> usize
 // The first n bytes of an output, or all of it where there are no more.
 fn front_line(out: &mut [u8], word: &[u8], bytes: &[u8], n: usize) -> usize
     requires { ⌜ (64 + 2 * length (now bytes) ≤ length (now out)) × (length (now word) ≤ 16) ⌝ }
-    ensures { λ r. ⌜ Wrote (now (out .entry)) 0 (bytesLine (now (word .entry)) (take n (now (bytes .entry))))
+    ensures { λ r. ⌜ WroteText (now (out .entry)) 0 (bytesLine (now (word .entry)) (take n (now (bytes .entry))))
         (now (out .exit)) r × (r ≤ length (now (out .exit))) ⌝ }
 {
     if n < bytes.len() {
@@ -92,7 +92,7 @@ fn front_line(out: &mut [u8], word: &[u8], bytes: &[u8], n: usize) -> usize
 // `refused` and the paper's number.
 fn refused_line(out: &mut [u8], r: Refusal) -> usize
     requires { ⌜ 64 ≤ length (now out) ⌝ }
-    ensures { λ n. ⌜ Wrote (now (out .entry)) 0 (refusedLine r) (now (out .exit)) n × (n ≤ length (now (out .exit))) ⌝ }
+    ensures { λ n. ⌜ WroteText (now (out .entry)) 0 (refusedLine r) (now (out .exit)) n × (n ≤ length (now (out .exit))) ⌝ }
 {
     number_line(out, b"refused", size8(number(r)))
 }
@@ -100,7 +100,7 @@ fn refused_line(out: &mut [u8], r: Refusal) -> usize
 // The line of an opening's answer.
 pub(crate) fn opened_line(out: &mut [u8], answer: Opened) -> usize
     requires { ⌜ 64 ≤ length (now out) ⌝ }
-    ensures { λ r. ⌜ Wrote (now (out .entry)) 0 (openedLine answer) (now (out .exit)) r
+    ensures { λ r. ⌜ WroteText (now (out .entry)) 0 (openedLine answer) (now (out .exit)) r
         × (r ≤ length (now (out .exit))) ⌝ }
 {
     match answer {
@@ -112,7 +112,7 @@ pub(crate) fn opened_line(out: &mut [u8], answer: Opened) -> usize
 // The line of Publish's answer.
 pub(crate) fn published_line(out: &mut [u8], answer: Published) -> usize
     requires { ⌜ 64 ≤ length (now out) ⌝ }
-    ensures { λ r. ⌜ Wrote (now (out .entry)) 0 (publishedLine answer) (now (out .exit)) r
+    ensures { λ r. ⌜ WroteText (now (out .entry)) 0 (publishedLine answer) (now (out .exit)) r
         × (r ≤ length (now (out .exit))) ⌝ }
 {
     match answer {
@@ -124,7 +124,7 @@ pub(crate) fn published_line(out: &mut [u8], answer: Published) -> usize
 // The line of Login's answer, with the bytes that it wrote to an output.
 pub(crate) fn login_line(out: &mut [u8], answer: LoggedIn, bytes: &[u8]) -> usize
     requires { ⌜ 64 + 2 * length (now bytes) ≤ length (now out) ⌝ }
-    ensures { λ r. ⌜ Wrote (now (out .entry)) 0 (loginLine (now (bytes .entry)) answer) (now (out .exit)) r
+    ensures { λ r. ⌜ WroteText (now (out .entry)) 0 (loginLine (now (bytes .entry)) answer) (now (out .exit)) r
         × (r ≤ length (now (out .exit))) ⌝ }
 {
     match answer {
@@ -136,7 +136,7 @@ pub(crate) fn login_line(out: &mut [u8], answer: LoggedIn, bytes: &[u8]) -> usiz
 // The line of Send's answer, with the bytes that it wrote to an output.
 pub(crate) fn sent_line(out: &mut [u8], answer: Sent, bytes: &[u8]) -> usize
     requires { ⌜ 64 + 2 * length (now bytes) ≤ length (now out) ⌝ }
-    ensures { λ r. ⌜ Wrote (now (out .entry)) 0 (sentLine (now (bytes .entry)) answer) (now (out .exit)) r
+    ensures { λ r. ⌜ WroteText (now (out .entry)) 0 (sentLine (now (bytes .entry)) answer) (now (out .exit)) r
         × (r ≤ length (now (out .exit))) ⌝ }
 {
     match answer {

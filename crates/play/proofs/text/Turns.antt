@@ -7,7 +7,7 @@ use native.Mathlib.Numerals.{add-one}
 use native.Mathlib.Omega.{arith}
 use lib.ListN.{length, getD, take}
 use lib.Seq.{take-suc, take-all, length-take-le}
-use Rattle.listing.specs.Text.{Wrote, hexOf}
+use Rattle.listing.specs.Text.{WroteText, hexOf}
 use Rattle.listing.proofs.Texts.{wrote-both}
 use Rattle.ftd.specs.Refusal.{numberOf}
 use Rattle.ftd.specs.declared.refusal.Refusal.{Refusal}
@@ -38,14 +38,14 @@ unfolding hexBytes
 hex-one x = append-nil (hexOf 2 x)
 
 pub pairs-turn : {l o p : List ℕ} {at to end : ℕ} (b : List ℕ) (i x : ℕ) → at ≤ length l → i < length b
-    → Wrote l at (hexBytes (take i b)) o to → x ≡ getD b i 0 → Wrote o to (hexOf 2 x) p end
-    → Wrote l at (hexBytes (take (i + 1) b)) p end
+    → WroteText l at (hexBytes (take i b)) o to → x ≡ getD b i 0 → WroteText o to (hexOf 2 x) p end
+    → WroteText l at (hexBytes (take (i + 1) b)) p end
 pairs-turn b i x fits h inv q more =
     rw (add-one i, take-suc b i 0 h, hex-append (take i b) (getD b i 0 ∷ []), hex-one (getD b i 0), ← q)
     (wrote-both fits inv more)
 
 pub pairs-over : {l o : List ℕ} {at to : ℕ} (b : List ℕ) (i : ℕ) → length b ≤ i
-    → Wrote l at (hexBytes (take i b)) o to → Wrote l at (hexBytes b) o to
+    → WroteText l at (hexBytes (take i b)) o to → WroteText l at (hexBytes b) o to
 pairs-over b i h inv = rw (take-all i b h) at inv
 
 -- ─── Lines ───
@@ -54,45 +54,45 @@ pub front-room : (b : List ℕ) (n m : ℕ) → n < length b → 64 + 2 * length
 front-room b n m h r = rw (length-take-le n b (omega arith)) (omega arith)
 
 module _ {l o : List ℕ} {to : ℕ} where
-  pub front-all : (w b : List ℕ) (n : ℕ) → length b ≤ n → Wrote l 0 (bytesLine w b) o to
-      → Wrote l 0 (bytesLine w (take n b)) o to
+  pub front-all : (w b : List ℕ) (n : ℕ) → length b ≤ n → WroteText l 0 (bytesLine w b) o to
+      → WroteText l 0 (bytesLine w (take n b)) o to
   front-all w b n h q = rw (take-all n b h) q
 
-  pub refused-is : (x n : ℕ) (r : Refusal) → x ≡ n → n ≡ numberOf r → Wrote l 0 (wordLine (numbered refused x)) o to
-      → Wrote l 0 (refusedLine r) o to
+  pub refused-is : (x n : ℕ) (r : Refusal) → x ≡ n → n ≡ numberOf r → WroteText l 0 (wordLine (numbered refused x)) o to
+      → WroteText l 0 (refusedLine r) o to
   unfolding refusedLine
   refused-is x n r e f q = rw (← f, ← e) q
 
-  pub opened-done : (a : Opened) → a ≡ Done → Wrote l 0 (wordLine opened) o to → Wrote l 0 (openedLine a) o to
+  pub opened-done : (a : Opened) → a ≡ Done → WroteText l 0 (wordLine opened) o to → WroteText l 0 (openedLine a) o to
   opened-done a e q = rw e q
 
-  pub opened-not : (a : Opened) (r : Refusal) → a ≡ NotOpened r → Wrote l 0 (refusedLine r) o to
-      → Wrote l 0 (openedLine a) o to
+  pub opened-not : (a : Opened) (r : Refusal) → a ≡ NotOpened r → WroteText l 0 (refusedLine r) o to
+      → WroteText l 0 (openedLine a) o to
   opened-not a r e q = rw e q
 
-  pub published-as : (a : Published) (k x : ℕ) → a ≡ Number k → x ≡ k → Wrote l 0 (wordLine (numbered published x)) o to
-      → Wrote l 0 (publishedLine a) o to
+  pub published-as : (a : Published) (k x : ℕ) → a ≡ Number k → x ≡ k → WroteText l 0 (wordLine (numbered published x)) o to
+      → WroteText l 0 (publishedLine a) o to
   published-as a k x e f q = rw (e, ← f) q
 
-  pub published-not : (a : Published) (r : Refusal) → a ≡ NotPublished r → Wrote l 0 (refusedLine r) o to
-      → Wrote l 0 (publishedLine a) o to
+  pub published-not : (a : Published) (r : Refusal) → a ≡ NotPublished r → WroteText l 0 (refusedLine r) o to
+      → WroteText l 0 (publishedLine a) o to
   published-not a r e q = rw e q
 
-  pub login-as : (a : LoggedIn) (b : List ℕ) (n : ℕ) → a ≡ Answered n → Wrote l 0 (bytesLine login (take n b)) o to
-      → Wrote l 0 (loginLine b a) o to
+  pub login-as : (a : LoggedIn) (b : List ℕ) (n : ℕ) → a ≡ Answered n → WroteText l 0 (bytesLine login (take n b)) o to
+      → WroteText l 0 (loginLine b a) o to
   login-as a b n e q = rw e q
 
-  pub login-not : (a : LoggedIn) (b : List ℕ) (r : Refusal) → a ≡ NotIn r → Wrote l 0 (refusedLine r) o to
-      → Wrote l 0 (loginLine b a) o to
+  pub login-not : (a : LoggedIn) (b : List ℕ) (r : Refusal) → a ≡ NotIn r → WroteText l 0 (refusedLine r) o to
+      → WroteText l 0 (loginLine b a) o to
   login-not a b r e q = rw e q
 
-  pub sent-none : (a : Sent) (b : List ℕ) → a ≡ Drained → Wrote l 0 (wordLine none) o to → Wrote l 0 (sentLine b a) o to
+  pub sent-none : (a : Sent) (b : List ℕ) → a ≡ Drained → WroteText l 0 (wordLine none) o to → WroteText l 0 (sentLine b a) o to
   sent-none a b e q = rw e q
 
-  pub sent-as : (a : Sent) (b : List ℕ) (k n : ℕ) → a ≡ MessageSent k n → Wrote l 0 (bytesLine sent (take n b)) o to
-      → Wrote l 0 (sentLine b a) o to
+  pub sent-as : (a : Sent) (b : List ℕ) (k n : ℕ) → a ≡ MessageSent k n → WroteText l 0 (bytesLine sent (take n b)) o to
+      → WroteText l 0 (sentLine b a) o to
   sent-as a b k n e q = rw e q
 
-  pub sent-not : (a : Sent) (b : List ℕ) (r : Refusal) → a ≡ NotSent r → Wrote l 0 (refusedLine r) o to
-      → Wrote l 0 (sentLine b a) o to
+  pub sent-not : (a : Sent) (b : List ℕ) (r : Refusal) → a ≡ NotSent r → WroteText l 0 (refusedLine r) o to
+      → WroteText l 0 (sentLine b a) o to
   sent-not a b r e q = rw e q

@@ -4,7 +4,7 @@ use Prim.Native.Nat.{ℕ, _+_, _-_, _*_, _/_, _<_, _≤_}
 use mathlib.Core.Path.{_≡_, refl, sym, _∙_}
 use native.Mathlib.Omega.{arith}
 use lib.ListN.{length, getD, take, drop, replicate}
-use Rattle.listing.specs.Text.{Wrote}
+use Rattle.listing.specs.Text.{WroteText}
 use Rattle.play.specs.Lines.{hexBytes}
 use lib.Seq.{paste}
 use borrow.Author.Needs.{needs}
@@ -16,7 +16,7 @@ use Rattle.ftd.proofs.bytes.wide32.Reads as wide32-reads
 use Rattle.listing.proofs.put_hex.Reads as put-hex-reads
 
 abbrev Inv-loop : tie.InvT-loop
-Inv-loop out₀ at bytes to₀ i₀ out to i = (i ≤ length bytes) × (to ≡ at + 2 * i) × (length out ≡ length out₀) × Wrote out₀ at (hexBytes (take i bytes)) out to
+Inv-loop out₀ at bytes to₀ i₀ out to i = (i ≤ length bytes) × (to ≡ at + 2 * i) × (length out ≡ length out₀) × WroteText out₀ at (hexBytes (take i bytes)) out to
 
 abbrev μ-loop : tie.MeasureT-loop
 μ-loop out₀ at bytes to₀ i₀ out to i = length bytes - i
