@@ -1,1 +1,3 @@
+-- The laws of the player.
 pub mod Turns
+pub mod Shown

@@ -1,1 +1,2 @@
+-- The laws of printed lines.
 pub mod Turns

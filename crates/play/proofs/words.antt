@@ -1,1 +1,2 @@
+-- The laws of words.
 pub mod Turns

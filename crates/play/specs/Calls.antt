@@ -95,8 +95,8 @@ loginCall line at =
     (goingOn line b
     (goingOn line c
     (ending line d
-    (loginWith (numberIn 10 (wordIn line at a)) (numberIn 10 (wordIn line (a + 1) b)) (saysBytes (wordIn line (b + 1) c))
-    (saysBytes (wordIn line (c + 1) d)) (b + 1) (c + 1)))))
+    (loginWith (numberIn 10 (wordIn line at a)) (numberIn 10 (wordIn line (a + 1) b))
+    (saysBytes (wordIn line (b + 1) c)) (saysBytes (wordIn line (c + 1) d)) (b + 1) (c + 1)))))
 
 unfoldable pub sendCall : List ℕ → ℕ → Call
 sendCall line at =

@@ -10,13 +10,6 @@ use crate::words::read_tid;
 use crate::words::says_bytes;
 use crate::words::word_end;
 
-// The most bytes of the log, of the chain buffer and of an output.
-pub const MOST_LOG: usize = 1048576;
-
-pub const MOST_CHAIN: usize = 262144;
-
-pub const MOST_OUTPUT: usize = 65536;
-
 // The first word of a line.
 enum Verb {
     Unknown,

@@ -1,6 +1,6 @@
 // Lines out of input that comes piece by piece.
 ghost use mathlib.Core.Path.{_≡_};
-ghost use Prim.Native.Nat.{_+_, _<_, _≤_};
+ghost use Prim.Native.Nat.{_+_, _<_};
 ghost use lib.ListN.{length};
 
 // How far the input was taken, how many bytes of the line there are, and whether it ended. More bytes than its buffer
@@ -13,7 +13,8 @@ pub struct Taken {
 
 // Takes the bytes of the input from a place on, up to the end of the line, into its buffer behind those that are there.
 pub fn take_line(input: &[u8], at: usize, line: &mut [u8], have: usize) -> Taken
-    ensures { λ r. ⌜ (at < length (now (input .entry)) → at < r .at) × (length (now (line .exit)) ≡ length (now (line .entry))) ⌝ }
+    ensures { λ r. ⌜ (at < length (now (input .entry)) → at < r .at)
+        × (length (now (line .exit)) ≡ length (now (line .entry))) ⌝ }
 {
     let mut i = at;
     let mut n = have;

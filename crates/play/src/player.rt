@@ -3,6 +3,8 @@ ghost use mathlib.Core.Path.{_≡_};
 ghost use Prim.Native.Nat.{_+_, _*_, _<_, _≤_};
 ghost use lib.ListN.{length, replicate};
 ghost use Rattle.play.specs.Calls.{Placed, Counted};
+ghost use Rattle.play.specs.Played.{freshPlayer, withSender, badLine, Shows, ShowsOpening, ShowsPublish};
+ghost use Rattle.play.specs.Played.{ShowsLogin, ShowsSend};
 use crate::calls::Call;
 use crate::calls::call_of;
 use crate::text::login_line;
@@ -72,7 +74,9 @@ fn read_series(line: &[u8], at: usize, list: &mut [u16]) -> Series
 
 impl Player {
     // It has been given no line.
-    pub fn fresh() -> Player {
+    pub fn fresh() -> Player
+        ensures { λ r. ⌜ r ≡ freshPlayer ⌝ }
+    {
         Player {
             lines: 0,
             ready: false,
@@ -83,7 +87,9 @@ impl Player {
     }
 
     // The serving end is another.
-    fn with_sender(self, sender: Sender) -> Player {
+    fn with_sender(self, sender: Sender) -> Player
+        ensures { λ r. ⌜ r ≡ withSender self sender ⌝ }
+    {
         Player {
             lines: self.lines,
             ready: self.ready,
@@ -96,7 +102,7 @@ impl Player {
     // The line is no call: nothing changes.
     fn bad_line(self, text: &mut [u8]) -> Played
         requires { ⌜ 64 ≤ length (now text) ⌝ }
-        ensures { λ r. ⌜ r .len ≤ length (now (text .exit)) ⌝ }
+        ensures { λ r. ⌜ Shows self (badLine (self .lines)) r (now (text .entry)) (now (text .exit)) ⌝ }
     {
         Played {
             player: self,
@@ -130,24 +136,30 @@ impl Player {
     }
 
     // Opening of the serving end.
+    fn open_day(self, date: u32, series: &[u16], text: &mut [u8]) -> Played
+        requires { ⌜ 64 ≤ length (now text) ⌝ }
+        ensures { λ r. ⌜ ShowsOpening self date (now (series .entry)) r (now (text .entry)) (now (text .exit)) ⌝ }
+    {
+        let sender = self.sender;
+        let step = sender.open(date, series);
+        let answer = step.answer;
+        let end = step.end;
+        let len = opened_line(text, answer);
+        Played {
+            player: self.with_sender(end),
+            len: len,
+        }
+    }
+
+    // Opening, with the series that a line says.
     fn play_opening(self, date: u32, line: &[u8], at: usize, text: &mut [u8]) -> Played
         requires { ⌜ 64 ≤ length (now text) ⌝ }
         ensures { λ r. ⌜ r .len ≤ length (now (text .exit)) ⌝ }
     {
         let mut list = [0u16; 64];
-        let sender = self.sender;
         match read_series(line, at, &mut list) {
             Series::Wrong => self.bad_line(text),
-            Series::Count(n) => {
-                let step = sender.open(date, &list[..n]);
-                let answer = step.answer;
-                let end = step.end;
-                let len = opened_line(text, answer);
-                Played {
-                    player: self.with_sender(end),
-                    len: len,
-                }
-            }
+            Series::Count(n) => self.open_day(date, &list[..n], text),
         }
     }
 
@@ -161,7 +173,8 @@ impl Player {
         text: &mut [u8],
     ) -> Played
         requires { ⌜ 64 ≤ length (now text) ⌝ }
-        ensures { λ r. ⌜ r .len ≤ length (now (text .exit)) ⌝ }
+        ensures { λ r. ⌜ ShowsPublish self series tid (now (content .entry)) (now (log .entry)) (now (log .exit)) r
+            (now (text .entry)) (now (text .exit)) ⌝ }
     {
         let sender = self.sender;
         let step = sender.publish(series, tid, content, log);
@@ -184,7 +197,8 @@ impl Player {
         text: &mut [u8],
     ) -> Played
         requires { ⌜ 64 + 2 * length (now out) ≤ length (now text) ⌝ }
-        ensures { λ r. ⌜ r .len ≤ length (now (text .exit)) ⌝ }
+        ensures { λ r. ⌜ ShowsLogin self series (now (packet .entry)) (now (content .entry)) (length (now (out .entry)))
+            (now (out .exit)) r (now (text .entry)) (now (text .exit)) ⌝ }
     {
         let sender = self.sender;
         clear(out);
@@ -201,7 +215,8 @@ impl Player {
     // Send.
     fn play_send(self, series: u16, log: &[u8], out: &mut [u8], text: &mut [u8]) -> Played
         requires { ⌜ 64 + 2 * length (now out) ≤ length (now text) ⌝ }
-        ensures { λ r. ⌜ r .len ≤ length (now (text .exit)) ⌝ }
+        ensures { λ r. ⌜ ShowsSend self series (now (log .entry)) (length (now (out .entry))) (now (out .exit)) r
+            (now (text .entry)) (now (text .exit)) ⌝ }
     {
         let sender = self.sender;
         clear(out);
@@ -244,8 +259,8 @@ impl Player {
         out: &mut [u8],
         text: &mut [u8],
     ) -> Played
-        requires { ⌜ Placed (length (now line)) call × (length (now line) ≤ length (now bytes)) × (65536 ≤ length (now out))
-            × (131136 ≤ length (now text)) × (self .log ≤ length (now log)) ⌝ }
+        requires { ⌜ Placed (length (now line)) call × (length (now line) ≤ length (now bytes))
+            × (65536 ≤ length (now out)) × (131136 ≤ length (now text)) × (self .log ≤ length (now log)) ⌝ }
         ensures { λ r. ⌜ r .len ≤ length (now (text .exit)) ⌝ }
     {
         let size = self.log;

@@ -1,9 +1,12 @@
 // The line that an answer is printed as.
-ghost use mathlib.Core.List.{_++_};
 ghost use mathlib.Core.Path.{_≡_};
 ghost use Prim.Native.Nat.{_+_, _*_, _<_, _≤_};
 ghost use lib.ListN.{length, take};
+<<<<<<< HEAD
 ghost use Rattle.listing.specs.Text.{WroteText, decimalOf};
+=======
+ghost use Rattle.listing.specs.Text.{WroteText};
+>>>>>>> e3207a7 (The player: each call's state, printed line and bytes by definitions)
 ghost use Rattle.play.specs.Lines.{hexBytes, numbered, wordLine, bytesLine, refusedLine, openedLine};
 ghost use Rattle.play.specs.Lines.{publishedLine, loginLine, sentLine};
 use flow::sender::LoggedIn;

@@ -1,14 +1,15 @@
 -- `main` meets its contract. Assumes nothing.
 use Prim.Native.Nat.{ℕ}
 use mathlib.Core.Path.{_≡_, sym}
-use lib.ListN.{length, length-replicate}
 use borrow.Author.Needs.{needs}
+use lib.ListN.{length, length-replicate}
 use Rattle.ftdplay.proofs.main.Statement.{statement}
 use Rattle.ftdplay.proofs.main.Tie as tie
 
 abbrev Inv-loop : tie.InvT-loop
 Inv-loop input₀ line₀ log₀ bytes₀ out₀ text₀ now₀ turns₀ input line log bytes out text now turns =
-    (65536 ≡ length input) × (140000 ≡ length line) × (1048576 ≡ length log) × (140000 ≡ length bytes) × (65536 ≡ length out) × (131136 ≡ length text)
+    (65536 ≡ length input) × (140000 ≡ length line) × (1048576 ≡ length log)
+    × (140000 ≡ length bytes) × (65536 ≡ length out) × (131136 ≡ length text)
 
 abbrev μ-loop : tie.MeasureT-loop
 μ-loop input₀ line₀ log₀ bytes₀ out₀ text₀ now₀ turns₀ input line log bytes out text now turns = turns

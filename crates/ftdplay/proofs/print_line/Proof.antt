@@ -1,7 +1,7 @@
 -- `print_line` meets its contract. Assumes nothing.
 use mathlib.Core.Path.{sym}
-use lib.Seq.{length-take-le}
 use borrow.Author.Needs.{needs}
+use lib.Seq.{length-take-le}
 use Rattle.ftdplay.proofs.print_line.Statement.{statement}
 use Rattle.ftdplay.proofs.print_line.Tie as tie
 

@@ -1,15 +1,16 @@
 -- `print_piece` meets its contract. Assumes nothing.
-use Rattle.ftdplay.proofs.Pieces.{less}
 use Prim.Native.Nat.{_-_}
 use mathlib.Core.Path.{_≡_}
-use lib.ListN.{length}
 use borrow.Author.Needs.{needs}
+use lib.ListN.{length}
+use Rattle.ftdplay.proofs.Pieces.{less}
 use Rattle.ftdplay.proofs.print_piece.Statement.{statement}
 use Rattle.ftdplay.proofs.print_piece.Tie as tie
 
 abbrev Inv-loop : tie.InvT-loop
 Inv-loop have input line₀ log₀ bytes₀ out₀ text₀ now₀ at₀ line log bytes out text now at =
-    (length line ≡ length line₀) × (length log ≡ length log₀) × (length bytes ≡ length bytes₀) × (length out ≡ length out₀) × (length text ≡ length text₀)
+    (length line ≡ length line₀) × (length log ≡ length log₀)
+    × (length bytes ≡ length bytes₀) × (length out ≡ length out₀) × (length text ≡ length text₀)
 
 abbrev μ-loop : tie.MeasureT-loop
 μ-loop have input line₀ log₀ bytes₀ out₀ text₀ now₀ at₀ line log bytes out text now at = length input - at

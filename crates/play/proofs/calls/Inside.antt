@@ -1,5 +1,5 @@
 -- The places of a line's call lie in the line. Assumes nothing.
-use Prim.Native.Nat.{ℕ, zero, suc, _+_, _<_, _≤_}
+use Prim.Native.Nat.{ℕ, suc, _+_, _<_, _≤_}
 use mathlib.Core.Path.{_≡_, refl}
 use mathlib.Core.List.{List, [], _∷_}
 use mathlib.Core.Bool.{Bool, true, false, cond}
@@ -13,10 +13,10 @@ use Rattle.play.specs.declared.calls.Verb.the-variants.{Buffers as Names
 use Rattle.play.specs.declared.calls.Verb.the-variants.{Publish as NamesPublish, Login as NamesLogin}
 use Rattle.play.specs.declared.calls.Verb.the-variants.{Send as NamesSend}
 use Rattle.play.specs.declared.calls.Call.{Call}
-use Rattle.play.specs.declared.calls.Call.the-variants.{Bad}
 use Rattle.play.specs.Words.{upToSpace, endOf}
-use Rattle.play.specs.Calls.{verbOf, buffersWith, buffersCall, openingWith, openingCall, publishWith, publishCall}
-use Rattle.play.specs.Calls.{loginWith, loginCall, sendWith, sendCall, namedCall, callOf, goingOn, ending, Placed}
+use Rattle.play.specs.Calls.{verbOf, buffersWith, buffersCall, openingWith, openingCall, publishWith}
+use Rattle.play.specs.Calls.{publishCall, loginWith, loginCall, sendWith, sendCall, namedCall, callOf, goingOn}
+use Rattle.play.specs.Calls.{ending, Placed}
 
 -- A property of both choices.
 either : (P : Call → Type 0) (b : Bool) (x y : Call) → (b ≡ true → P x) → (b ≡ false → P y) → P (cond b x y)
@@ -64,7 +64,8 @@ module _ (n : ℕ) where
   login-placed x y t u p c h k =
       either (Placed n) (ltb 65535 x) _ _ (λ _. tt)
       (λ _. either (Placed n) (ltb 65536 y) _ _ (λ _. tt)
-      (λ e. either (Placed n) t _ _ (λ _. either (Placed n) u _ _ (λ _. (ltb-false 65536 y e, h, k)) (λ _. tt)) (λ _. tt)))
+      (λ e. either (Placed n) t _ _
+      (λ _. either (Placed n) u _ _ (λ _. (ltb-false 65536 y e, h, k)) (λ _. tt)) (λ _. tt)))
 
   send-placed : (x y : ℕ) → Placed n (sendWith x y)
   unfolding sendWith
@@ -111,7 +112,8 @@ module _ (line : List ℕ) where
   pub placed : (c : Call) → c ≡ callOf line → Placed (length line) c
   unfolding callOf
   placed c q =
-      rw q (going _ _ (end-inside line 0 (omega arith)) (λ e. named-placed _ (next e) (verbOf (take (endOf line 0) line))))
+      rw q (going _ _ (end-inside line 0 (omega arith))
+      (λ e. named-placed _ (next e) (verbOf (take (endOf line 0) line))))
     where
       next : {e : ℕ} → e < length line → e + 1 ≤ length line
       next p = omega (arith, p)

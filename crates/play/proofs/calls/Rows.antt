@@ -1,6 +1,6 @@
 -- The tests of a line, row by row, over plain variables: places and numbers as the calls gave them. Assumes nothing.
 use Prim.Native.Nat.{ℕ, _+_, _<_, _≤_}
-use mathlib.Core.Path.{_≡_, refl, sym, _∙_}
+use mathlib.Core.Path.{_≡_, sym}
 use mathlib.Core.List.{List, [], _∷_}
 use mathlib.Core.Bool.{Bool, true, false}
 use native.Mathlib.Omega.{arith}
@@ -15,8 +15,9 @@ use Rattle.play.specs.declared.calls.Verb.the-variants.{Send as NamesSen
 use Rattle.play.specs.declared.calls.Call.{Call}
 use Rattle.play.specs.declared.calls.Call.the-variants.{Bad, Publish, Login}
 use Rattle.play.specs.Words.{endOf, numberIn, tidIn, saysBytes, sameWord}
-use Rattle.play.specs.Calls.{verbOf, buffersWith, buffersCall, openingWith, openingCall, publishWith, publishCall}
-use Rattle.play.specs.Calls.{loginWith, loginCall, sendWith, sendCall, namedCall, callOf, wordIn, goingOn, ending}
+use Rattle.play.specs.Calls.{verbOf, buffersWith, buffersCall, openingWith, openingCall, publishWith}
+use Rattle.play.specs.Calls.{publishCall, loginWith, loginCall, sendWith, sendCall, namedCall, callOf, wordIn}
+use Rattle.play.specs.Calls.{goingOn, ending}
 
 -- A front part has as many elements as it was taken for.
 pub taken : (l : List ℕ) (n : ℕ) → n ≤ length l → n ≡ length (take n l)

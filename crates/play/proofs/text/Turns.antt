@@ -1,13 +1,17 @@
 -- The turns of the loop that writes bytes as pairs of digits, and the line of each answer, over plain variables.
 -- Assumes nothing.
-use Prim.Native.Nat.{ℕ, suc, _+_, _*_, _<_, _≤_}
-use mathlib.Core.Path.{_≡_, refl, sym, ap, _∙_}
+use Prim.Native.Nat.{ℕ, _+_, _*_, _<_, _≤_}
+use mathlib.Core.Path.{_≡_, refl, sym}
 use mathlib.Core.List.{List, [], _∷_, _++_, append-nil, append-assoc}
 use native.Mathlib.Numerals.{add-one}
 use native.Mathlib.Omega.{arith}
 use lib.ListN.{length, getD, take}
 use lib.Seq.{take-suc, take-all, length-take-le}
+<<<<<<< HEAD
 use Rattle.listing.specs.Text.{WroteText, hexOf}
+=======
+use Rattle.listing.specs.Text.{WroteText, hexOf, refused}
+>>>>>>> e3207a7 (The player: each call's state, printed line and bytes by definitions)
 use Rattle.listing.proofs.Texts.{wrote-both}
 use Rattle.ftd.specs.Refusal.{numberOf}
 use Rattle.ftd.specs.declared.refusal.Refusal.{Refusal}
@@ -24,7 +28,6 @@ use Rattle.flow.specs.declared.sender.Sent.{Sent}
 use Rattle.flow.specs.declared.sender.Sent.the-variants.{Drained}
 use Rattle.flow.specs.declared.sender.Sent.the-variants.{Wrote as MessageSent}
 use Rattle.flow.specs.declared.sender.Sent.the-variants.{Refused as NotSent}
-use Rattle.listing.specs.Text.{refused}
 use Rattle.play.specs.Lines.{hexBytes, wordLine, numbered, bytesLine, refusedLine, openedLine, publishedLine}
 use Rattle.play.specs.Lines.{loginLine, sentLine, opened, published, login, sent, none}
 

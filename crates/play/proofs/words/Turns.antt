@@ -1,6 +1,6 @@
 -- The turns of the loops over a word's bytes, over plain variables. Assumes nothing.
 use Prim.Native.Nat.{ℕ, zero, suc, _+_, _*_, _/_, _%_, _<_, _≤_}
-use mathlib.Core.Path.{_≡_, refl, sym, ap, _∙_}
+use mathlib.Core.Path.{_≡_, refl, ap, _∙_}
 use mathlib.Core.List.{List, [], _∷_}
 use mathlib.Core.Bool.{Bool, true, false, cond}
 use native.Mathlib.Nat.{add-zero, mul-le-mul-left}
@@ -10,10 +10,10 @@ use borrow.Author.Tests.{le-leb, lt-leb, eq-eqb, ne-eqb}
 use lib.ListN.{length, getD, set, drop, drop-of-length-le}
 use lib.Seq.{drop-cons, paste, paste-zero, paste-suc}
 use lib.Dec.{eqb, leb}
-use Rattle.play.specs.Words.{upToSpace, endOf, digitOf, noNumber, digitsIn, numberIn, tidIn, allHex, pairOf}
-use Rattle.play.specs.Words.{bytesIn, sameWord}
 use Rattle.ftd.specs.Bytes.{put}
 use Rattle.ftd.proofs.bytes.Put.{paste-put}
+use Rattle.play.specs.Words.{upToSpace, digitOf, noNumber, digitsIn, numberIn, tidIn, allHex, pairOf, bytesIn}
+use Rattle.play.specs.Words.{sameWord}
 
 -- ─── Where a word ends ───
 

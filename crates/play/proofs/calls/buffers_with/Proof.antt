@@ -1,21 +1,17 @@
+-- `calls::buffers_with` meets its contract. Assumes nothing.
 use Rattle.ftd.proofs.Tests.{tests}
 use Rattle.play.specs.Calls.{buffersWith}
 use Rattle.play.proofs.calls.buffers_with.Statement.{statement}
 use Rattle.play.proofs.calls.buffers_with.Tie as tie
-use Rattle.play.proofs.calls.buffers_with.Reads as reads
-use Rattle.play.proofs.calls.buffers_with.Lts as lts
 
--- src/calls.rt:73:9
 returns : tie.Need-returns
 unfolding buffersWith
 returns c = search tests
 
--- src/calls.rt:76:9
 returns-2 : tie.Need-returns-2
 unfolding buffersWith
 returns-2 c = search tests
 
--- src/calls.rt:69:1
 returns-3 : tie.Need-returns-3
 unfolding buffersWith
 returns-3 c = search tests

@@ -1,21 +1,17 @@
+-- `calls::opening_with` meets its contract. Assumes nothing.
+use borrow.Author.Needs.{needs}
 use Rattle.ftd.proofs.Tests.{tests}
 use Rattle.play.specs.Calls.{openingWith}
-use borrow.Author.Needs.{needs}
 use Rattle.play.proofs.calls.opening_with.Statement.{statement}
 use Rattle.play.proofs.calls.opening_with.Tie as tie
-use Rattle.play.proofs.calls.opening_with.Reads as reads
-use Rattle.play.proofs.calls.opening_with.Lts as lts
 
--- src/calls.rt:108:9
 returns : tie.Need-returns
 unfolding openingWith
 returns c = search tests
 
--- src/calls.rt:111:15
 cast-t4 : tie.Need-cast-t4
 cast-t4 c = search needs
 
--- src/calls.rt:104:1
 returns-2 : tie.Need-returns-2
 unfolding openingWith
 returns-2 c = search tests

@@ -1,72 +1,55 @@
-use Rattle.play.proofs.calls.Rows.{verb-buffers, verb-opening, verb-publish, verb-login, verb-send, verb-unknown}
+-- `calls::verb_of` meets its contract. Assumes nothing.
 use borrow.Author.Needs.{needs}
+use Rattle.play.proofs.calls.Rows.{verb-buffers, verb-opening, verb-publish, verb-login, verb-send}
+use Rattle.play.proofs.calls.Rows.{verb-unknown}
 use Rattle.play.proofs.calls.verb_of.Statement.{statement}
 use Rattle.play.proofs.calls.verb_of.Tie as tie
-use Rattle.play.proofs.calls.verb_of.Reads as reads
-use Rattle.play.proofs.calls.verb_of.Lts as lts
-use Rattle.play.proofs.words.is_word.Reads as is-word-reads
 
--- src/calls.rt:50:22
 slice-aggregate-is-word : tie.Need-slice-aggregate-is-word
 slice-aggregate-is-word c = search needs
 
--- src/calls.rt:50:8
 is-word-requires : tie.Need-is-word-requires
 is-word-requires c κs = search needs
 
--- src/calls.rt:51:9
 returns : tie.Need-returns
 returns c = search (needs, verb-buffers)
 
--- src/calls.rt:53:22
 slice-aggregate-is-word-2 : tie.Need-slice-aggregate-is-word-2
 slice-aggregate-is-word-2 c = search needs
 
--- src/calls.rt:53:8
 is-word-requires-2 : tie.Need-is-word-requires-2
 is-word-requires-2 c κs = search needs
 
--- src/calls.rt:54:9
 returns-2 : tie.Need-returns-2
 returns-2 c = search (needs, verb-opening)
 
--- src/calls.rt:56:22
 slice-aggregate-is-word-3 : tie.Need-slice-aggregate-is-word-3
 slice-aggregate-is-word-3 c = search needs
 
--- src/calls.rt:56:8
 is-word-requires-3 : tie.Need-is-word-requires-3
 is-word-requires-3 c κs = search needs
 
--- src/calls.rt:57:9
 returns-3 : tie.Need-returns-3
 returns-3 c = search (needs, verb-publish)
 
--- src/calls.rt:59:22
 slice-aggregate-is-word-4 : tie.Need-slice-aggregate-is-word-4
 slice-aggregate-is-word-4 c = search needs
 
--- src/calls.rt:59:8
 is-word-requires-4 : tie.Need-is-word-requires-4
 is-word-requires-4 c κs = search needs
 
--- src/calls.rt:60:9
 returns-4 : tie.Need-returns-4
 returns-4 c = search (needs, verb-login)
 
--- src/calls.rt:62:22
 slice-aggregate-is-word-5 : tie.Need-slice-aggregate-is-word-5
 slice-aggregate-is-word-5 c = search needs
 
--- src/calls.rt:62:8
 is-word-requires-5 : tie.Need-is-word-requires-5
 is-word-requires-5 c κs = search needs
 
--- src/calls.rt:63:9
 returns-5 : tie.Need-returns-5
 returns-5 c = search (needs, verb-send)
 
--- src/calls.rt:47:1
 returns-6 : tie.Need-returns-6
 returns-6 c = search (needs, verb-unknown)
 

@@ -1,52 +1,52 @@
-use Rattle.listing.proofs.Texts.{put-none}
-use Rattle.play.proofs.text.Turns.{pairs-turn, pairs-over}
-use Prim.Native.Nat.{ℕ, _+_, _-_, _*_, _/_, _<_, _≤_}
-use mathlib.Core.Path.{_≡_, refl, sym, _∙_}
+-- `text::put_pairs` meets its contract. Assumes nothing.
+use Prim.Native.Nat.{_+_, _-_, _*_, _≤_}
+use mathlib.Core.Path.{_≡_, refl}
 use native.Mathlib.Omega.{arith}
+<<<<<<< HEAD
 use lib.ListN.{length, getD, take, drop, replicate}
 use Rattle.listing.specs.Text.{WroteText}
-use Rattle.play.specs.Lines.{hexBytes}
-use lib.Seq.{paste}
+=======
 use borrow.Author.Needs.{needs}
+use lib.ListN.{length, take}
+use Rattle.listing.proofs.Texts.{put-none}
+use Rattle.listing.specs.Text.{WroteText}
+>>>>>>> e3207a7 (The player: each call's state, printed line and bytes by definitions)
+use Rattle.play.specs.Lines.{hexBytes}
+use Rattle.play.proofs.text.Turns.{pairs-turn, pairs-over}
 use Rattle.play.proofs.text.put_pairs.Statement.{statement}
 use Rattle.play.proofs.text.put_pairs.Tie as tie
-use Rattle.play.proofs.text.put_pairs.Reads as reads
-use Rattle.play.proofs.text.put_pairs.Lts as lts
-use Rattle.ftd.proofs.bytes.wide32.Reads as wide32-reads
-use Rattle.listing.proofs.put_hex.Reads as put-hex-reads
 
 abbrev Inv-loop : tie.InvT-loop
+<<<<<<< HEAD
 Inv-loop out₀ at bytes to₀ i₀ out to i = (i ≤ length bytes) × (to ≡ at + 2 * i) × (length out ≡ length out₀) × WroteText out₀ at (hexBytes (take i bytes)) out to
+=======
+Inv-loop out₀ at bytes to₀ i₀ out to i =
+    (i ≤ length bytes) × (to ≡ at + 2 * i) × (length out ≡ length out₀)
+    × WroteText out₀ at (hexBytes (take i bytes)) out to
+>>>>>>> e3207a7 (The player: each call's state, printed line and bytes by definitions)
 
 abbrev μ-loop : tie.MeasureT-loop
 μ-loop out₀ at bytes to₀ i₀ out to i = length bytes - i
 
--- src/text.rt:22:5
 loop-holds : tie.Need-loop-holds Inv-loop μ-loop
 unfolding hexBytes
 loop-holds c = (search needs, search needs, refl, record { bytes = put-none _ _; place = omega arith })
 
--- src/text.rt:23:38
 shared-slice-read-wide32 : tie.Need-shared-slice-read-wide32 Inv-loop μ-loop
 shared-slice-read-wide32 c = search needs
 
--- src/text.rt:23:31
 wide32-requires : tie.Need-wide32-requires Inv-loop μ-loop
 wide32-requires c κs = search needs
 
--- src/text.rt:23:9
 put-hex-requires : tie.Need-put-hex-requires Inv-loop μ-loop
 put-hex-requires c κs = search needs
 
--- src/text.rt:24:9
 add-i : tie.Need-add-i Inv-loop μ-loop
 add-i c = search needs
 
--- src/text.rt:22:5
 loop-less : tie.Need-loop-less Inv-loop μ-loop
 loop-less c = search needs
 
--- src/text.rt:22:5
 loop-again : tie.Need-loop-again Inv-loop μ-loop
 loop-again c =
     let l = c .before .before .before .before .before .before .before .loop in
@@ -54,15 +54,14 @@ loop-again c =
       search needs,
       search needs,
       search needs,
-      pairs-turn (a .bytes .now) (l .i) _ (omega arith) (c .before .before .before .before .before .before .loop-test .taken) (l .inv .3)
+      pairs-turn (a .bytes .now) (l .i) _ (omega arith)
+          (c .before .before .before .before .before .before .loop-test .taken) (l .inv .3)
           (c .before .before .before .wide32 .ensures .0) (c .before .before .put-hex .ensures .0),
     )
 
--- src/text.rt:15:1
 same-length : tie.Need-same-length Inv-loop μ-loop
 same-length c = search needs
 
--- src/text.rt:15:1
 returns : tie.Need-returns Inv-loop μ-loop
 returns c = (search (needs, pairs-over), search needs)
 

@@ -1,66 +1,48 @@
-use Rattle.play.proofs.text.Turns.{sent-none, sent-as, sent-not}
+-- `text::sent_line` meets its contract. Assumes nothing.
 use borrow.Author.Needs.{needs}
+use Rattle.play.proofs.text.Turns.{sent-none, sent-as, sent-not}
 use Rattle.play.proofs.text.sent_line.Statement.{statement}
 use Rattle.play.proofs.text.sent_line.Tie as tie
-use Rattle.play.proofs.text.sent_line.Reads as reads
-use Rattle.play.proofs.text.sent_line.Lts as lts
-use Rattle.play.proofs.text.front_line.Reads as front-line-reads
-use Rattle.play.proofs.text.refused_line.Reads as refused-line-reads
-use Rattle.play.proofs.text.word_line.Reads as word-line-reads
 
--- src/text.rt:143:36
 enum-told : tie.Need-enum-told
 enum-told c = search needs
 
--- src/text.rt:143:41
 slice-aggregate-word-line : tie.Need-slice-aggregate-word-line
 slice-aggregate-word-line c = search needs
 
--- src/text.rt:143:26
 word-line-requires : tie.Need-word-line-requires
 word-line-requires c κs = search needs
 
--- src/text.rt:144:39
 enum-known-answer : tie.Need-enum-known-answer
 enum-known-answer c = search needs
 
--- src/text.rt:144:62
 slice-aggregate-front-line : tie.Need-slice-aggregate-front-line
 slice-aggregate-front-line c = search needs
 
--- src/text.rt:144:46
 front-line-requires : tie.Need-front-line-requires
 front-line-requires c κs = search needs
 
--- src/text.rt:145:23
 enum-known-answer-2 : tie.Need-enum-known-answer-2
 enum-known-answer-2 c = search needs
 
--- src/text.rt:145:29
 refused-line-requires : tie.Need-refused-line-requires
 refused-line-requires c κs = search needs
 
--- src/text.rt:137:1
 same-length : tie.Need-same-length
 same-length c = search needs
 
--- src/text.rt:137:1
 returns : tie.Need-returns
 returns c = (search (needs, sent-none), search needs)
 
--- src/text.rt:137:1
 same-length-2 : tie.Need-same-length-2
 same-length-2 c = search needs
 
--- src/text.rt:137:1
 returns-2 : tie.Need-returns-2
 returns-2 c = (search (needs, sent-as), search needs)
 
--- src/text.rt:137:1
 same-length-3 : tie.Need-same-length-3
 same-length-3 c = search needs
 
--- src/text.rt:137:1
 returns-3 : tie.Need-returns-3
 returns-3 c = (search (needs, sent-not), search needs)
 

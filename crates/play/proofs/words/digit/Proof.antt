@@ -1,50 +1,40 @@
+-- `words::digit` meets its contract. Assumes nothing.
+use borrow.Author.Needs.{needs}
 use Rattle.ftd.proofs.Tests.{tests}
 use Rattle.play.specs.Words.{digitOf}
-use borrow.Author.Needs.{needs}
 use Rattle.play.proofs.words.digit.Statement.{statement}
 use Rattle.play.proofs.words.digit.Tie as tie
-use Rattle.play.proofs.words.digit.Reads as reads
-use Rattle.play.proofs.words.digit.Lts as lts
 
--- src/words.rt:32:9
 returns : tie.Need-returns
 unfolding digitOf
 returns c = (search tests, search needs)
 
--- src/words.rt:35:9
 returns-2 : tie.Need-returns-2
 unfolding digitOf
 returns-2 c = (search tests, search needs)
 
--- src/words.rt:38:9
 returns-3 : tie.Need-returns-3
 unfolding digitOf
 returns-3 c = (search tests, search needs)
 
--- src/words.rt:41:16
 sub-result : tie.Need-sub-result
 sub-result c = search needs
 
--- src/words.rt:41:9
 returns-4 : tie.Need-returns-4
 unfolding digitOf
 returns-4 c = (search tests, search needs)
 
--- src/words.rt:44:9
 returns-5 : tie.Need-returns-5
 unfolding digitOf
 returns-5 c = (search tests, search needs)
 
--- src/words.rt:47:16
 sub-result-2 : tie.Need-sub-result-2
 sub-result-2 c = search needs
 
--- src/words.rt:47:9
 returns-6 : tie.Need-returns-6
 unfolding digitOf
 returns-6 c = (search tests, search needs)
 
--- src/words.rt:28:1
 returns-7 : tie.Need-returns-7
 unfolding digitOf
 returns-7 c = (search tests, search needs)

@@ -1,55 +1,44 @@
-use Rattle.play.proofs.words.Turns.{word-longer, word-differs, word-more, word-over}
-use Prim.Native.Nat.{ℕ, _+_, _-_, _*_, _/_, _<_, _≤_}
-use mathlib.Core.Path.{_≡_, refl, sym, _∙_}
-use native.Mathlib.Omega.{arith}
-use lib.ListN.{length, getD, take, drop, replicate}
-use Rattle.play.specs.Words.{upToSpace, endOf, digitOf, digitsIn, numberIn, allHex, sameWord, bytesIn}
-use lib.Seq.{paste}
+-- `words::is_word` meets its contract. Assumes nothing.
+use Prim.Native.Nat.{_-_, _≤_}
+use mathlib.Core.Path.{_≡_, refl}
 use borrow.Author.Needs.{needs}
+use lib.ListN.{length, drop}
+use Rattle.play.specs.Words.{sameWord}
+use Rattle.play.proofs.words.Turns.{word-longer, word-differs, word-more, word-over}
 use Rattle.play.proofs.words.is_word.Statement.{statement}
 use Rattle.play.proofs.words.is_word.Tie as tie
-use Rattle.play.proofs.words.is_word.Reads as reads
-use Rattle.play.proofs.words.is_word.Lts as lts
 
 abbrev Inv-loop : tie.InvT-loop
-Inv-loop word given i₀ i = (i ≤ length word) × (length word ≡ length given) × (sameWord (drop i word) (drop i given) ≡ sameWord word given)
+Inv-loop word given i₀ i =
+    (i ≤ length word) × (length word ≡ length given) × (sameWord (drop i word) (drop i given) ≡ sameWord word given)
 
 abbrev μ-loop : tie.MeasureT-loop
 μ-loop word given i₀ i = length word - i
 
--- src/words.rt:150:9
 returns : tie.Need-returns Inv-loop μ-loop
 returns c = search (needs, word-longer)
 
--- src/words.rt:153:5
 loop-holds : tie.Need-loop-holds Inv-loop μ-loop
 loop-holds c = (search needs, search needs, refl)
 
--- src/words.rt:154:12
 shared-slice-read-if2 : tie.Need-shared-slice-read-if2 Inv-loop μ-loop
 shared-slice-read-if2 c = search needs
 
--- src/words.rt:154:23
 shared-slice-read-if2-2 : tie.Need-shared-slice-read-if2-2 Inv-loop μ-loop
 shared-slice-read-if2-2 c = search needs
 
--- src/words.rt:155:13
 returns-2 : tie.Need-returns-2 Inv-loop μ-loop
 returns-2 c = search (needs, word-differs)
 
--- src/words.rt:157:9
 add-i : tie.Need-add-i Inv-loop μ-loop
 add-i c = search needs
 
--- src/words.rt:153:5
 loop-less : tie.Need-loop-less Inv-loop μ-loop
 loop-less c = search needs
 
--- src/words.rt:153:5
 loop-again : tie.Need-loop-again Inv-loop μ-loop
 loop-again c = (search needs, search needs, search (needs, word-more))
 
--- src/words.rt:146:1
 returns-3 : tie.Need-returns-3 Inv-loop μ-loop
 returns-3 c = search (needs, word-over)
 

@@ -1,77 +1,60 @@
-use Rattle.play.proofs.words.Turns.{bytes-start, bytes-turn, bytes-over, length-bytes}
-use lib.ListN.{length-set}
-use Prim.Native.Nat.{ℕ, _+_, _-_, _*_, _/_, _<_, _≤_}
-use mathlib.Core.Path.{_≡_, refl, sym, _∙_}
-use native.Mathlib.Omega.{arith}
-use lib.ListN.{length, getD, take, drop, replicate}
-use Rattle.play.specs.Words.{upToSpace, endOf, digitOf, digitsIn, numberIn, allHex, sameWord, bytesIn}
-use lib.Seq.{paste}
+-- `words::put_bytes` meets its contract. Assumes nothing.
+use Prim.Native.Nat.{_-_, _/_, _≤_}
+use mathlib.Core.Path.{_≡_, refl}
 use borrow.Author.Needs.{needs}
+use lib.ListN.{length-set, length}
+use lib.Seq.{paste}
+use Rattle.play.specs.Words.{bytesIn}
+use Rattle.play.proofs.words.Turns.{bytes-start, bytes-turn, bytes-over, length-bytes}
 use Rattle.play.proofs.words.put_bytes.Statement.{statement}
 use Rattle.play.proofs.words.put_bytes.Tie as tie
-use Rattle.play.proofs.words.put_bytes.Reads as reads
-use Rattle.play.proofs.words.put_bytes.Lts as lts
-use Rattle.play.proofs.words.pair.Reads as pair-reads
 
 abbrev Inv-loop : tie.InvT-loop
-Inv-loop out₀ at word n i₀ out i = (i ≤ length word / 2) × (length out ≡ length out₀) × (out ≡ paste out₀ at (bytesIn word) i)
+Inv-loop out₀ at word n i₀ out i =
+    (i ≤ length word / 2) × (length out ≡ length out₀) × (out ≡ paste out₀ at (bytesIn word) i)
 
 abbrev μ-loop : tie.MeasureT-loop
 μ-loop out₀ at word n i₀ out i = length word / 2 - i
 
--- src/words.rt:138:5
 loop-holds : tie.Need-loop-holds Inv-loop μ-loop
 loop-holds c = (search needs, refl, search (needs, bytes-start))
 
--- src/words.rt:139:33
 mul-pair : tie.Need-mul-pair Inv-loop μ-loop
 mul-pair c = search needs
 
--- src/words.rt:139:28
 shared-slice-read-pair : tie.Need-shared-slice-read-pair Inv-loop μ-loop
 shared-slice-read-pair c = search needs
 
--- src/words.rt:139:46
 mul-pair-2 : tie.Need-mul-pair-2 Inv-loop μ-loop
 mul-pair-2 c = search needs
 
--- src/words.rt:139:46
 add-pair : tie.Need-add-pair Inv-loop μ-loop
 add-pair c = search needs
 
--- src/words.rt:139:41
 shared-slice-read-pair-2 : tie.Need-shared-slice-read-pair-2 Inv-loop μ-loop
 shared-slice-read-pair-2 c = search needs
 
--- src/words.rt:139:23
 pair-requires : tie.Need-pair-requires Inv-loop μ-loop
 pair-requires c κs = search needs
 
--- src/words.rt:139:13
 add-out : tie.Need-add-out Inv-loop μ-loop
 add-out c = search needs
 
--- src/words.rt:139:9
 slice-write-out : tie.Need-slice-write-out Inv-loop μ-loop
 slice-write-out c = search needs
 
--- src/words.rt:140:9
 add-i : tie.Need-add-i Inv-loop μ-loop
 add-i c = search needs
 
--- src/words.rt:138:5
 loop-less : tie.Need-loop-less Inv-loop μ-loop
 loop-less c = search needs
 
--- src/words.rt:138:5
 loop-again : tie.Need-loop-again Inv-loop μ-loop
 loop-again c = (search needs, search (needs, length-set), search (needs, bytes-turn))
 
--- src/words.rt:131:1
 same-length : tie.Need-same-length Inv-loop μ-loop
 same-length c = search needs
 
--- src/words.rt:131:1
 returns : tie.Need-returns Inv-loop μ-loop
 returns c = (search (needs, bytes-over), search (needs, length-bytes), search needs)
 

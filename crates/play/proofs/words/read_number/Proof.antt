@@ -1,65 +1,52 @@
+-- `words::read_number` meets its contract. Assumes nothing.
 use Prim.Native.Nat.{_-_, _<_, _≤_}
 use mathlib.Core.Path.{_≡_}
-use lib.ListN.{length, drop}
 use borrow.Author.Needs.{needs}
-use Rattle.play.specs.Words.{digitsIn, numberIn}
+use lib.ListN.{length, drop}
 use Rattle.ftd.proofs.Tests.{tests}
+use Rattle.play.specs.Words.{digitsIn, numberIn}
 use Rattle.play.proofs.words.Turns.{number-some, no-digit, too-high, digit-more, digits-over}
 use Rattle.play.proofs.words.read_number.Statement.{statement}
 use Rattle.play.proofs.words.read_number.Tie as tie
-use Rattle.play.proofs.words.read_number.Reads as reads
-use Rattle.play.proofs.words.read_number.Lts as lts
-use Rattle.play.proofs.words.behind.Reads as behind-reads
-use Rattle.play.proofs.words.wide_digit.Reads as wide-digit-reads
 
 abbrev Inv-loop : tie.InvT-loop
-Inv-loop word base n₀ i₀ n i = (i ≤ length word) × (n < 4294967296) × (digitsIn base n (drop i word) ≡ numberIn base word)
+Inv-loop word base n₀ i₀ n i =
+    (i ≤ length word) × (n < 4294967296) × (digitsIn base n (drop i word) ≡ numberIn base word)
 
 abbrev μ-loop : tie.MeasureT-loop
 μ-loop word base n₀ i₀ n i = length word - i
 
--- src/words.rt:72:9
 returns : tie.Need-returns Inv-loop μ-loop
 unfolding numberIn
 returns c = (search tests, search needs)
 
--- src/words.rt:76:5
 loop-holds : tie.Need-loop-holds Inv-loop μ-loop
 loop-holds c = (search needs, search needs, search (needs, number-some))
 
--- src/words.rt:77:28
 shared-slice-read-wide-digit : tie.Need-shared-slice-read-wide-digit Inv-loop μ-loop
 shared-slice-read-wide-digit c = search needs
 
--- src/words.rt:77:13
 wide-digit-requires : tie.Need-wide-digit-requires Inv-loop μ-loop
 wide-digit-requires c κs = search needs
 
--- src/words.rt:79:13
 returns-2 : tie.Need-returns-2 Inv-loop μ-loop
 returns-2 c = (search (needs, no-digit), search needs)
 
--- src/words.rt:81:9
 behind-requires : tie.Need-behind-requires Inv-loop μ-loop
 behind-requires c κs = search needs
 
--- src/words.rt:83:13
 returns-3 : tie.Need-returns-3 Inv-loop μ-loop
 returns-3 c = (search (needs, too-high), search needs)
 
--- src/words.rt:85:9
 add-i : tie.Need-add-i Inv-loop μ-loop
 add-i c = search needs
 
--- src/words.rt:76:5
 loop-less : tie.Need-loop-less Inv-loop μ-loop
 loop-less c = search needs
 
--- src/words.rt:76:5
 loop-again : tie.Need-loop-again Inv-loop μ-loop
 loop-again c = (search needs, search needs, search (needs, digit-more))
 
--- src/words.rt:67:1
 returns-4 : tie.Need-returns-4 Inv-loop μ-loop
 returns-4 c = (search (needs, digits-over), search needs)
 

@@ -1,20 +1,15 @@
-use Rattle.play.proofs.words.Turns.{tid-eight, tid-other}
+-- `words::read_tid` meets its contract. Assumes nothing.
 use borrow.Author.Needs.{needs}
+use Rattle.play.proofs.words.Turns.{tid-eight, tid-other}
 use Rattle.play.proofs.words.read_tid.Statement.{statement}
 use Rattle.play.proofs.words.read_tid.Tie as tie
-use Rattle.play.proofs.words.read_tid.Reads as reads
-use Rattle.play.proofs.words.read_tid.Lts as lts
-use Rattle.play.proofs.words.read_number.Reads as read-number-reads
 
--- src/words.rt:95:9
 read-number-requires : tie.Need-read-number-requires
 read-number-requires c κs = search needs
 
--- src/words.rt:95:9
 returns : tie.Need-returns
 returns c = (search (needs, tid-eight), search needs)
 
--- src/words.rt:91:1
 returns-2 : tie.Need-returns-2
 returns-2 c = (search (needs, tid-other), search needs)
 

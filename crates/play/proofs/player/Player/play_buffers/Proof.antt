@@ -1,66 +1,48 @@
-use Rattle.play.proofs.calls.Rows.{taken}
+-- `player::Player::play_buffers` meets its contract. Assumes nothing.
 use borrow.Author.Needs.{needs}
+use Rattle.play.proofs.calls.Rows.{taken}
 use Rattle.play.proofs.player.Player.play_buffers.Statement.{statement}
 use Rattle.play.proofs.player.Player.play_buffers.Tie as tie
-use Rattle.play.proofs.player.Player.play_buffers.Reads as reads
-use Rattle.play.proofs.player.Player.play_buffers.Lts as lts
-use Rattle.play.proofs.player.Player.bad_line.Reads as bad-line-reads
-use Rattle.play.proofs.player.clear.Reads as clear-reads
-use Rattle.play.proofs.text.word_line.Reads as word-line-reads
 
--- src/player.rt:121:13
 bad-line-requires : tie.Need-bad-line-requires
 bad-line-requires c κs = search needs
 
--- src/player.rt:121:13
 same-length : tie.Need-same-length
 same-length c = search needs
 
--- src/player.rt:121:13
 returns : tie.Need-returns
 returns c = search needs
 
--- src/player.rt:124:13
 bad-line-requires-2 : tie.Need-bad-line-requires-2
 bad-line-requires-2 c κs = search needs
 
--- src/player.rt:124:13
 same-length-2 : tie.Need-same-length-2
 same-length-2 c = search needs
 
--- src/player.rt:124:13
 returns-2 : tie.Need-returns-2
 returns-2 c = search needs
 
--- src/player.rt:126:15
 slice-relend-prefix-clear : tie.Need-slice-relend-prefix-clear
 slice-relend-prefix-clear c = search needs
 
--- src/player.rt:126:15
 slice-aggregate-clear : tie.Need-slice-aggregate-clear
 slice-aggregate-clear c = search (needs, taken)
 
--- src/player.rt:126:9
 clear-requires : tie.Need-clear-requires
 clear-requires c κs = search needs
 
--- src/player.rt:135:34
 slice-aggregate-word-line : tie.Need-slice-aggregate-word-line
 slice-aggregate-word-line c = search needs
 
--- src/player.rt:135:18
 word-line-requires : tie.Need-word-line-requires
 word-line-requires c κs = search needs
 
--- src/player.rt:116:5
 same-length-3 : tie.Need-same-length-3
 same-length-3 c = search needs
 
--- src/player.rt:116:5
 same-length-4 : tie.Need-same-length-4
 same-length-4 c = search needs
 
--- src/player.rt:116:5
 returns-3 : tie.Need-returns-3
 returns-3 c = search needs
 

@@ -1,0 +1,14 @@
+-- `player::Player::fresh` meets its contract. Assumes nothing.
+use borrow.Author.Needs.{needs}
+use Rattle.play.proofs.player.Shown.{fresh-is}
+use Rattle.play.proofs.player.Player.fresh.Statement.{statement}
+use Rattle.play.proofs.player.Player.fresh.Tie as tie
+
+fresh-requires : tie.Need-fresh-requires
+fresh-requires c κs = search needs
+
+returns : tie.Need-returns
+returns c = search (needs, fresh-is)
+
+pub fresh-spec : {M : Type 1} → statement M
+fresh-spec = tie.close (tie.spec fresh-requires returns)
