@@ -2,11 +2,7 @@
 ghost use mathlib.Core.Path.{_≡_};
 ghost use Prim.Native.Nat.{_+_, _*_, _<_, _≤_};
 ghost use lib.ListN.{length, take};
-<<<<<<< HEAD
-ghost use Rattle.listing.specs.Text.{WroteText, decimalOf};
-=======
 ghost use Rattle.listing.specs.Text.{WroteText};
->>>>>>> e3207a7 (The player: each call's state, printed line and bytes by definitions)
 ghost use Rattle.play.specs.Lines.{hexBytes, numbered, wordLine, bytesLine, refusedLine, openedLine};
 ghost use Rattle.play.specs.Lines.{publishedLine, loginLine, sentLine};
 use flow::sender::LoggedIn;
@@ -71,7 +67,8 @@ pub(crate) fn number_line(out: &mut [u8], word: &[u8], x: usize) -> usize
 // A line of a word, the number of bytes, and the bytes.
 pub(crate) fn bytes_line(out: &mut [u8], word: &[u8], bytes: &[u8]) -> usize
     requires { ⌜ (64 + 2 * length (now bytes) ≤ length (now out)) × (length (now word) ≤ 16) ⌝ }
-    ensures { λ r. ⌜ WroteText (now (out .entry)) 0 (bytesLine (now (word .entry)) (now (bytes .entry))) (now (out .exit)) r
+    ensures { λ r. ⌜ WroteText (now (out .entry)) 0 (bytesLine (now (word .entry)) (now (bytes .entry))) (now (out .exit))
+        r
         × (r ≤ length (now (out .exit))) ⌝ }
 {
     let n = put_numbered(out, word, bytes.len());
@@ -95,7 +92,8 @@ fn front_line(out: &mut [u8], word: &[u8], bytes: &[u8], n: usize) -> usize
 // `refused` and the paper's number.
 fn refused_line(out: &mut [u8], r: Refusal) -> usize
     requires { ⌜ 64 ≤ length (now out) ⌝ }
-    ensures { λ n. ⌜ WroteText (now (out .entry)) 0 (refusedLine r) (now (out .exit)) n × (n ≤ length (now (out .exit))) ⌝ }
+    ensures { λ n.
+        ⌜ WroteText (now (out .entry)) 0 (refusedLine r) (now (out .exit)) n × (n ≤ length (now (out .exit))) ⌝ }
 {
     number_line(out, b"refused", size8(number(r)))
 }

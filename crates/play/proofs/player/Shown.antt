@@ -32,7 +32,8 @@ module _ {l t : List ℕ} {to : ℕ} where
   pub opened-is : (a m : Opened) → a ≡ m → WroteText l 0 (openedLine a) t to → WroteText l 0 (openedLine m) t to
   opened-is a m e q = rw (← e) q
 
-  pub published-is : (a m : Published) → a ≡ m → WroteText l 0 (publishedLine a) t to → WroteText l 0 (publishedLine m) t to
+  pub published-is : (a m : Published) → a ≡ m → WroteText l 0 (publishedLine a) t to
+      → WroteText l 0 (publishedLine m) t to
   published-is a m e q = rw (← e) q
 
 -- An output that was cleared.

@@ -7,11 +7,7 @@ use native.Mathlib.Numerals.{add-one}
 use native.Mathlib.Omega.{arith}
 use lib.ListN.{length, getD, take}
 use lib.Seq.{take-suc, take-all, length-take-le}
-<<<<<<< HEAD
-use Rattle.listing.specs.Text.{WroteText, hexOf}
-=======
 use Rattle.listing.specs.Text.{WroteText, hexOf, refused}
->>>>>>> e3207a7 (The player: each call's state, printed line and bytes by definitions)
 use Rattle.listing.proofs.Texts.{wrote-both}
 use Rattle.ftd.specs.Refusal.{numberOf}
 use Rattle.ftd.specs.declared.refusal.Refusal.{Refusal}
@@ -73,7 +69,8 @@ module _ {l o : List ℕ} {to : ℕ} where
       → WroteText l 0 (openedLine a) o to
   opened-not a r e q = rw e q
 
-  pub published-as : (a : Published) (k x : ℕ) → a ≡ Number k → x ≡ k → WroteText l 0 (wordLine (numbered published x)) o to
+  pub published-as : (a : Published) (k x : ℕ) → a ≡ Number k → x ≡ k
+      → WroteText l 0 (wordLine (numbered published x)) o to
       → WroteText l 0 (publishedLine a) o to
   published-as a k x e f q = rw (e, ← f) q
 
@@ -89,7 +86,8 @@ module _ {l o : List ℕ} {to : ℕ} where
       → WroteText l 0 (loginLine b a) o to
   login-not a b r e q = rw e q
 
-  pub sent-none : (a : Sent) (b : List ℕ) → a ≡ Drained → WroteText l 0 (wordLine none) o to → WroteText l 0 (sentLine b a) o to
+  pub sent-none : (a : Sent) (b : List ℕ) → a ≡ Drained → WroteText l 0 (wordLine none) o to
+      → WroteText l 0 (sentLine b a) o to
   sent-none a b e q = rw e q
 
   pub sent-as : (a : Sent) (b : List ℕ) (k n : ℕ) → a ≡ MessageSent k n → WroteText l 0 (bytesLine sent (take n b)) o to

@@ -24,7 +24,9 @@ same-length c = search needs
 returns : tie.Need-returns
 unfolding bytesLine wordLine
 returns c =
-    let n = c .before .before .before .before .before .before .before .before .before .before .before .before .before .before .put-numbered in
+    let n =
+    c .before .before .before .before .before .before .before .before .before .before .before .before .before
+    .before .put-numbered in
     let s = c .before .before .before .before .before .before .before .before .before .before .put-byte in
     let p = c .before .before .before .before .before .before .put-pairs in (
       wrote-both (omega arith)

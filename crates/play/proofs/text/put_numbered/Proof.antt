@@ -24,7 +24,9 @@ same-length c = search needs
 returns : tie.Need-returns
 unfolding numbered
 returns c =
-    let a = c .before .before .before .before .before .before .before .before .before .before .before .before .before .before .args in
+    let a =
+    c .before .before .before .before .before .before .before .before .before .before .before .before .before
+    .before .args in
     let w = c .before .before .before .before .before .before .before .before .before .before .put-word in (
       wrote-both (omega arith)
           (wrote-both (omega arith) (w .ensures) (c .before .before .before .before .before .before .put-byte .ensures))

@@ -2,28 +2,19 @@
 use Prim.Native.Nat.{_+_, _-_, _*_, _≤_}
 use mathlib.Core.Path.{_≡_, refl}
 use native.Mathlib.Omega.{arith}
-<<<<<<< HEAD
-use lib.ListN.{length, getD, take, drop, replicate}
-use Rattle.listing.specs.Text.{WroteText}
-=======
 use borrow.Author.Needs.{needs}
 use lib.ListN.{length, take}
 use Rattle.listing.proofs.Texts.{put-none}
 use Rattle.listing.specs.Text.{WroteText}
->>>>>>> e3207a7 (The player: each call's state, printed line and bytes by definitions)
 use Rattle.play.specs.Lines.{hexBytes}
 use Rattle.play.proofs.text.Turns.{pairs-turn, pairs-over}
 use Rattle.play.proofs.text.put_pairs.Statement.{statement}
 use Rattle.play.proofs.text.put_pairs.Tie as tie
 
 abbrev Inv-loop : tie.InvT-loop
-<<<<<<< HEAD
-Inv-loop out₀ at bytes to₀ i₀ out to i = (i ≤ length bytes) × (to ≡ at + 2 * i) × (length out ≡ length out₀) × WroteText out₀ at (hexBytes (take i bytes)) out to
-=======
 Inv-loop out₀ at bytes to₀ i₀ out to i =
     (i ≤ length bytes) × (to ≡ at + 2 * i) × (length out ≡ length out₀)
     × WroteText out₀ at (hexBytes (take i bytes)) out to
->>>>>>> e3207a7 (The player: each call's state, printed line and bytes by definitions)
 
 abbrev μ-loop : tie.MeasureT-loop
 μ-loop out₀ at bytes to₀ i₀ out to i = length bytes - i
