@@ -1,5 +1,4 @@
-// Send of a serving end with one open series, as numbers: what a measure of Send needs. The whole interface of the ends
-// is another.
+// Send of a serving end with one open series, as numbers: what a measure of Send needs. The whole interface of the ends is another.
 ghost use mathlib.Core.Path.{_≡_};
 ghost use Rattle.flow.specs.Serving.{sendOf};
 ghost use Rattle.exports.specs.Serving.{senderFor, sentNumbers};
@@ -12,8 +11,8 @@ use flow::sender::Sent;
 use ftd::refusal::number;
 use ftd::tags::TradeDate;
 
-// A day with one series, how many were published in it and how many bytes of the log are used, and a seat that is
-// logged in to it with a number next.
+// A day with one series, how many were published in it and how many bytes of the log are used, and a seat that is logged in to it
+// with a number next.
 #[repr(C)]
 pub struct FtdSeat {
     pub next: u64,

@@ -17,8 +17,7 @@ same-length c = search needs
 
 returns : tie.Need-returns
 returns c =
-    let g =
-    rw (c .before .before .before .before .before .sender-for .ensures) at (c .before .before .before .send .ensures) in
+    let g = rw (c .before .before .before .before .before .sender-for .ensures) at (c .before .before .before .send .ensures) in
     (rw (← (g .1 .1)) (c .sent .ensures), g .2)
 
 pub ftd-send-spec : {M : Type 1} → statement M
