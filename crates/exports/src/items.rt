@@ -229,11 +229,11 @@ pub extern "C" fn ftd_write_item(
     text: &[u8],
     out: &mut [u8],
 ) -> FtdWritten
-    ensures { λ r. ⌜ (r ≡ writtenNumbers
+    ensures answer { λ r. ⌜ r ≡ writtenNumbers
         (writtenAnswer (fitVerdict (itemFits fid i (itemFor value) (now (text .entry))))
-        (itemWritten fid i (itemFor value) (now (text .entry))) (now (out .entry))))
-        × (now (out .exit) ≡ writtenOutput (fitVerdict (itemFits fid i (itemFor value) (now (text .entry))))
         (itemWritten fid i (itemFor value) (now (text .entry))) (now (out .entry))) ⌝ }
+    ensures output { λ _. ⌜ now (out .exit) ≡ writtenOutput (fitVerdict (itemFits fid i (itemFor value) (now (text .entry))))
+        (itemWritten fid i (itemFor value) (now (text .entry))) (now (out .entry)) ⌝ }
 {
     written(write_item(fid, i, item_for(value), text, out))
 }

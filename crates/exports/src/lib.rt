@@ -346,11 +346,11 @@ pub extern "C" fn ftd_write_plain(
     body: &[u8],
     out: &mut [u8],
 ) -> FtdWritten
-    ensures { λ r. ⌜ (r ≡ writtenNumbers
+    ensures answer { λ r. ⌜ r ≡ writtenNumbers
         (writtenAnswer (plainVerdict kind (now (extension .entry)) (now (body .entry)))
-        (packetBytes kind (now (extension .entry)) (now (body .entry))) (now (out .entry))))
-        × (now (out .exit) ≡ writtenOutput (plainVerdict kind (now (extension .entry)) (now (body .entry)))
         (packetBytes kind (now (extension .entry)) (now (body .entry))) (now (out .entry))) ⌝ }
+    ensures output { λ _. ⌜ now (out .exit) ≡ writtenOutput (plainVerdict kind (now (extension .entry)) (now (body .entry)))
+        (packetBytes kind (now (extension .entry)) (now (body .entry))) (now (out .entry)) ⌝ }
 {
     written(write_plain(kind, extension, body, out))
 }

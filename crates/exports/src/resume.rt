@@ -49,8 +49,8 @@ pub extern "C" fn ftd_find_resume(content: &[u8]) -> FtdResume
 // The start field for a series and a number, at the start of the output.
 #[no_mangle]
 pub extern "C" fn ftd_write_resume(series: u16, number: u32, out: &mut [u8]) -> FtdWritten
-    ensures { λ r. ⌜ (r ≡ writtenNumbers (writtenAnswer fine (resumeBytes series number) (now (out .entry))))
-        × (now (out .exit) ≡ writtenOutput fine (resumeBytes series number) (now (out .entry))) ⌝ }
+    ensures answer { λ r. ⌜ r ≡ writtenNumbers (writtenAnswer fine (resumeBytes series number) (now (out .entry))) ⌝ }
+    ensures output { λ _. ⌜ now (out .exit) ≡ writtenOutput fine (resumeBytes series number) (now (out .entry)) ⌝ }
 {
     written(write_resume(series, number, out))
 }
