@@ -41,8 +41,8 @@ publishWith series tid whole content =
     (cond (ltb 4294967295 tid) Bad (cond whole (Publish series tid content) Bad))
 
 -- An output of at most 65,536 bytes.
-unfoldable pub loginWith : ℕ → ℕ → Bool → Bool → ℕ → ℕ → Call
-loginWith series room whole filled packet content =
+unfoldable pub loginCallWith : ℕ → ℕ → Bool → Bool → ℕ → ℕ → Call
+loginCallWith series room whole filled packet content =
     cond (ltb 65535 series) Bad
     (cond (ltb 65536 room) Bad (cond whole (cond filled (Login series room packet content) Bad) Bad))
 
@@ -95,7 +95,7 @@ loginCall line at =
     (goingOn line b
     (goingOn line c
     (ending line d
-    (loginWith (numberIn 10 (wordIn line at a)) (numberIn 10 (wordIn line (a + 1) b))
+    (loginCallWith (numberIn 10 (wordIn line at a)) (numberIn 10 (wordIn line (a + 1) b))
     (saysBytes (wordIn line (b + 1) c)) (saysBytes (wordIn line (c + 1) d)) (b + 1) (c + 1)))))
 
 unfoldable pub sendCall : List ℕ → ℕ → Call

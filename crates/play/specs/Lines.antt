@@ -24,17 +24,17 @@ unfoldable pub hexBytes : List ℕ → List ℕ
 hexBytes [] = []
 hexBytes (x ∷ l) = hexOf 2 x ++ hexBytes l
 
-abbrev pub space : List ℕ
-space = 32 ∷ []
+abbrev pub gap : List ℕ
+gap = 32 ∷ []
 
 unfoldable pub wordLine : List ℕ → List ℕ
 wordLine word = word ++ newline
 
 unfoldable pub numbered : List ℕ → ℕ → List ℕ
-numbered word n = word ++ space ++ decimalOf n
+numbered word n = word ++ gap ++ decimalOf n
 
 unfoldable pub bytesLine : List ℕ → List ℕ → List ℕ
-bytesLine word bytes = wordLine (numbered word (length bytes) ++ space ++ hexBytes bytes)
+bytesLine word bytes = wordLine (numbered word (length bytes) ++ gap ++ hexBytes bytes)
 
 -- ─── Answers ───
 
@@ -67,9 +67,9 @@ publishedLine (Number k) = wordLine (numbered published k)
 publishedLine (NotPublished r) = refusedLine r
 
 -- `login`, how many bytes were written, and these bytes of the output.
-abbrev pub loginLine : List ℕ → LoggedIn → List ℕ
-loginLine out (Answered n) = bytesLine login (take n out)
-loginLine out (NotIn r) = refusedLine r
+abbrev pub loginAnswerLine : List ℕ → LoggedIn → List ℕ
+loginAnswerLine out (Answered n) = bytesLine login (take n out)
+loginAnswerLine out (NotIn r) = refusedLine r
 
 -- `sent` likewise, or `none`.
 abbrev pub sentLine : List ℕ → Sent → List ℕ

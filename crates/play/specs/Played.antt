@@ -10,7 +10,7 @@ use Rattle.flow.specs.Serving.{openDayOf, publishOf, loginOf, sendOf}
 use Rattle.listing.specs.Text.{WroteText}
 use Rattle.play.specs.declared.player.Player.{Player}
 use Rattle.play.specs.declared.player.Played.{Played}
-use Rattle.play.specs.Lines.{wordLine, numbered, openedLine, publishedLine, loginLine, sentLine}
+use Rattle.play.specs.Lines.{wordLine, numbered, openedLine, publishedLine, loginAnswerLine, sentLine}
 
 -- No line was given, no buffer is laid out, and the serving end is fresh.
 abbrev pub freshPlayer : Player
@@ -46,7 +46,7 @@ ShowsPublish p s tid content log log′ r before after =
 abbrev pub ShowsLogin : Player → ℕ → List ℕ → List ℕ → ℕ → List ℕ → Played → List ℕ → List ℕ → Type 0
 ShowsLogin p s packet content n out r before after =
     let m = loginOf (p .sender) s packet content (replicate n 0) in
-    Shows (withSender p (m .end)) (loginLine (m .bytes) (m .answer)) r before after × (out ≡ m .bytes)
+    Shows (withSender p (m .end)) (loginAnswerLine (m .bytes) (m .answer)) r before after × (out ≡ m .bytes)
 
 abbrev pub ShowsSend : Player → ℕ → List ℕ → ℕ → List ℕ → Played → List ℕ → List ℕ → Type 0
 ShowsSend p s log n out r before after =

@@ -19,8 +19,8 @@ endOf line at = at + upToSpace (drop at line)
 -- ─── Numbers ───
 
 -- The value of a digit: 0 to 9, then A to F and a to f as 10 to 15; of any other byte 16.
-unfoldable pub digitOf : ℕ → ℕ
-digitOf x =
+unfoldable pub digitValue : ℕ → ℕ
+digitValue x =
     cond (ltb x 48) 16
     (cond (leb x 57) (x - 48)
     (cond (ltb x 65) 16
@@ -33,15 +33,15 @@ abbrev pub noNumber : ℕ
 noNumber = 4294967296
 
 -- A number n and the digits behind it.
-unfoldable pub digitsIn : ℕ → ℕ → List ℕ → ℕ
-digitsIn base n [] = n
-digitsIn base n (x ∷ l) =
-    cond (leb base (digitOf x)) noNumber
-    (cond (leb noNumber (n * base + digitOf x)) noNumber (digitsIn base (n * base + digitOf x) l))
+unfoldable pub digitsFrom : ℕ → ℕ → List ℕ → ℕ
+digitsFrom base n [] = n
+digitsFrom base n (x ∷ l) =
+    cond (leb base (digitValue x)) noNumber
+    (cond (leb noNumber (n * base + digitValue x)) noNumber (digitsFrom base (n * base + digitValue x) l))
 
 -- A word as a number in a base: one digit at least.
 unfoldable pub numberIn : ℕ → List ℕ → ℕ
-numberIn base word = cond (eqb (length word) 0) noNumber (digitsIn base 0 word)
+numberIn base word = cond (eqb (length word) 0) noNumber (digitsFrom base 0 word)
 
 -- A TID has eight hexadecimal digits.
 unfoldable pub tidIn : List ℕ → ℕ
@@ -51,7 +51,7 @@ tidIn word = cond (eqb (length word) 8) (numberIn 16 word) noNumber
 
 unfoldable pub allHex : List ℕ → Bool
 allHex [] = true
-allHex (x ∷ l) = cond (eqb (digitOf x) 16) false (allHex l)
+allHex (x ∷ l) = cond (eqb (digitValue x) 16) false (allHex l)
 
 -- Pairs of hexadecimal digits, one at least; or `-` for no byte.
 unfoldable pub saysBytes : List ℕ → Bool
@@ -61,13 +61,13 @@ saysBytes word =
     (cond (eqb (length word % 2) 1) false (allHex word)))
 
 unfoldable pub pairOf : ℕ → ℕ → ℕ
-pairOf high low = (digitOf high * 16 + digitOf low) % 256
+pairOf high low = (digitValue high * 16 + digitValue low) % 256
 
 -- The bytes that a word says; `-` has no pair.
-unfoldable pub bytesIn : List ℕ → List ℕ
-bytesIn [] = []
-bytesIn (x ∷ []) = []
-bytesIn (x ∷ y ∷ l) = pairOf x y ∷ bytesIn l
+unfoldable pub saidBytes : List ℕ → List ℕ
+saidBytes [] = []
+saidBytes (x ∷ []) = []
+saidBytes (x ∷ y ∷ l) = pairOf x y ∷ saidBytes l
 
 -- ─── Words that are the same ───
 

@@ -3,7 +3,7 @@ ghost use mathlib.Core.Path.{_≡_};
 ghost use Prim.Native.Nat.{_≤_};
 ghost use lib.ListN.{length};
 ghost use Rattle.play.specs.Calls.{verbOf, buffersWith, buffersCall, openingWith, openingCall, publishWith};
-ghost use Rattle.play.specs.Calls.{publishCall, loginWith, loginCall, sendWith, sendCall, callOf};
+ghost use Rattle.play.specs.Calls.{publishCall, loginCallWith, loginCall, sendWith, sendCall, callOf};
 use crate::words::is_word;
 use crate::words::read_number;
 use crate::words::read_tid;
@@ -184,7 +184,7 @@ fn login_with(
     packet: usize,
     content: usize,
 ) -> Call
-    ensures { λ r. ⌜ r ≡ loginWith series room whole filled packet content ⌝ }
+    ensures { λ r. ⌜ r ≡ loginCallWith series room whole filled packet content ⌝ }
 {
     if series > 65535 {
         return Call::Bad;

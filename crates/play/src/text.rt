@@ -4,7 +4,7 @@ ghost use Prim.Native.Nat.{_+_, _*_, _<_, _≤_};
 ghost use lib.ListN.{length, take};
 ghost use Rattle.listing.specs.Text.{WroteText};
 ghost use Rattle.play.specs.Lines.{hexBytes, numbered, wordLine, bytesLine, refusedLine, openedLine};
-ghost use Rattle.play.specs.Lines.{publishedLine, loginLine, sentLine};
+ghost use Rattle.play.specs.Lines.{publishedLine, loginAnswerLine, sentLine};
 use flow::sender::LoggedIn;
 use flow::sender::Opened;
 use flow::sender::Published;
@@ -125,7 +125,7 @@ pub(crate) fn published_line(out: &mut [u8], answer: Published) -> usize
 // The line of Login's answer, with the bytes that it wrote to an output.
 pub(crate) fn login_line(out: &mut [u8], answer: LoggedIn, bytes: &[u8]) -> usize
     requires { ⌜ 64 + 2 * length (now bytes) ≤ length (now out) ⌝ }
-    ensures { λ r. ⌜ WroteText (now (out .entry)) 0 (loginLine (now (bytes .entry)) answer) (now (out .exit)) r
+    ensures { λ r. ⌜ WroteText (now (out .entry)) 0 (loginAnswerLine (now (bytes .entry)) answer) (now (out .exit)) r
         × (r ≤ length (now (out .exit))) ⌝ }
 {
     match answer {

@@ -3,7 +3,7 @@ ghost use mathlib.Core.Path.{_≡_};
 ghost use Prim.Native.Nat.{_+_, _*_, _/_, _<_, _≤_};
 ghost use lib.ListN.{length};
 ghost use Rattle.ftd.specs.Bytes.{put};
-ghost use Rattle.play.specs.Words.{endOf, digitOf, numberIn, tidIn, allHex, saysBytes, pairOf, bytesIn, sameWord};
+ghost use Rattle.play.specs.Words.{endOf, digitValue, numberIn, tidIn, allHex, saysBytes, pairOf, saidBytes, sameWord};
 
 // A number above all that four bytes hold stands for a word that says none.
 pub const NO_NUMBER: u64 = 4294967296;
@@ -25,7 +25,7 @@ pub(crate) fn word_end(line: &[u8], at: usize) -> usize
 
 // The value of a digit, decimal or hexadecimal in either case; 16 where it is none.
 fn digit(x: u8) -> u8
-    ensures { λ r. ⌜ (r ≡ digitOf x) × (r ≤ 16) ⌝ }
+    ensures { λ r. ⌜ (r ≡ digitValue x) × (r ≤ 16) ⌝ }
 {
     if x < 48 {
         return 16;
@@ -50,7 +50,7 @@ fn digit(x: u8) -> u8
 
 // A digit as a number of eight bytes.
 fn wide_digit(x: u8) -> u64
-    ensures { λ r. ⌜ (r ≡ digitOf x) × (r ≤ 16) ⌝ }
+    ensures { λ r. ⌜ (r ≡ digitValue x) × (r ≤ 16) ⌝ }
 {
     digit(x) as u64
 }
@@ -137,8 +137,8 @@ fn pair(high: u8, low: u8) -> u8
 // The bytes that a word says are put at a place; answers how many.
 pub(crate) fn put_bytes(out: &mut [u8], at: usize, word: &[u8]) -> usize
     requires { ⌜ at + length (now word) / 2 ≤ length (now out) ⌝ }
-    ensures { λ r. ⌜ (now (out .exit) ≡ put (now (out .entry)) at (bytesIn (now (word .entry))))
-        × (r ≡ length (bytesIn (now (word .entry)))) × (r ≡ length (now (word .entry)) / 2) ⌝ }
+    ensures { λ r. ⌜ (now (out .exit) ≡ put (now (out .entry)) at (saidBytes (now (word .entry))))
+        × (r ≡ length (saidBytes (now (word .entry)))) × (r ≡ length (now (word .entry)) / 2) ⌝ }
 {
     let n = word.len() / 2;
     let mut i: usize = 0;

@@ -15,7 +15,7 @@ use Rattle.play.specs.declared.calls.Verb.the-variants.{Send as NamesSen
 use Rattle.play.specs.declared.calls.Call.{Call}
 use Rattle.play.specs.Words.{upToSpace, endOf}
 use Rattle.play.specs.Calls.{verbOf, buffersWith, buffersCall, openingWith, openingCall, publishWith}
-use Rattle.play.specs.Calls.{publishCall, loginWith, loginCall, sendWith, sendCall, namedCall, callOf, goingOn}
+use Rattle.play.specs.Calls.{publishCall, loginCallWith, loginCall, sendWith, sendCall, namedCall, callOf, goingOn}
 use Rattle.play.specs.Calls.{ending, Placed}
 
 -- A property of both choices.
@@ -59,8 +59,8 @@ module _ (n : ℕ) where
       either (Placed n) (ltb 65535 x) _ _ (λ _. tt)
       (λ _. either (Placed n) (ltb 4294967295 y) _ _ (λ _. tt) (λ _. either (Placed n) t _ _ (λ _. h) (λ _. tt)))
 
-  login-placed : (x y : ℕ) (t u : Bool) (p c : ℕ) → p ≤ n → c ≤ n → Placed n (loginWith x y t u p c)
-  unfolding loginWith
+  login-placed : (x y : ℕ) (t u : Bool) (p c : ℕ) → p ≤ n → c ≤ n → Placed n (loginCallWith x y t u p c)
+  unfolding loginCallWith
   login-placed x y t u p c h k =
       either (Placed n) (ltb 65535 x) _ _ (λ _. tt)
       (λ _. either (Placed n) (ltb 65536 y) _ _ (λ _. tt)

@@ -16,7 +16,7 @@ use Rattle.play.specs.declared.calls.Call.{Call}
 use Rattle.play.specs.declared.calls.Call.the-variants.{Bad, Publish, Login}
 use Rattle.play.specs.Words.{endOf, numberIn, tidIn, saysBytes, sameWord}
 use Rattle.play.specs.Calls.{verbOf, buffersWith, buffersCall, openingWith, openingCall, publishWith}
-use Rattle.play.specs.Calls.{publishCall, loginWith, loginCall, sendWith, sendCall, namedCall, callOf, wordIn}
+use Rattle.play.specs.Calls.{publishCall, loginCallWith, loginCall, sendWith, sendCall, namedCall, callOf, wordIn}
 use Rattle.play.specs.Calls.{goingOn, ending}
 
 -- A front part has as many elements as it was taken for.
@@ -38,16 +38,16 @@ module _ (x y c : ℕ) (t : Bool) (hx : x ≤ 65535) (hy : y ≤ 4294967295) whe
   publish-no e = rw (le-ltb 65535 x hx, le-ltb 4294967295 y hy, e)
 
 module _ (x y p c : ℕ) (t u : Bool) (hx : x ≤ 65535) (hy : y ≤ 65536) where
-  pub login-yes : t ≡ true → u ≡ true → Login x y p c ≡ loginWith x y t u p c
-  unfolding loginWith
+  pub login-yes : t ≡ true → u ≡ true → Login x y p c ≡ loginCallWith x y t u p c
+  unfolding loginCallWith
   login-yes e f = rw (le-ltb 65535 x hx, le-ltb 65536 y hy, e, f)
 
-  pub login-no-content : t ≡ true → u ≡ false → Bad ≡ loginWith x y t u p c
-  unfolding loginWith
+  pub login-no-content : t ≡ true → u ≡ false → Bad ≡ loginCallWith x y t u p c
+  unfolding loginCallWith
   login-no-content e f = rw (le-ltb 65535 x hx, le-ltb 65536 y hy, e, f)
 
-  pub login-no-packet : t ≡ false → Bad ≡ loginWith x y t u p c
-  unfolding loginWith
+  pub login-no-packet : t ≡ false → Bad ≡ loginCallWith x y t u p c
+  unfolding loginCallWith
   login-no-packet e = rw (le-ltb 65535 x hx, le-ltb 65536 y hy, e)
 
 -- ─── The first word ───
@@ -181,7 +181,7 @@ module _ (line : List ℕ) (at a : ℕ) (pa : a ≡ endOf line at) where
         pub login-row : length line ≤ d → (x : ℕ) → x ≡ numberIn 10 (wordIn line at a) → (y : ℕ)
             → y ≡ numberIn 10 (wordIn line (a + 1) b) → (t : Bool) → t ≡ saysBytes (wordIn line (b + 1) c)
             → (u : Bool) → u ≡ saysBytes (wordIn line (c + 1) d) → (r : Call)
-            → r ≡ loginWith x y t u (b + 1) (c + 1) → r ≡ loginCall line at
+            → r ≡ loginCallWith x y t u (b + 1) (c + 1) → r ≡ loginCall line at
         unfolding loginCall goingOn ending
         login-row h x px y py t pt u pu r q =
             rw (

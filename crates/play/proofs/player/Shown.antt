@@ -13,7 +13,7 @@ use Rattle.flow.specs.Ends.{freshSender}
 use Rattle.flow.specs.Serving.{loginOf, sendOf}
 use Rattle.listing.specs.Text.{WroteText}
 use Rattle.play.specs.declared.player.Player.{Player}
-use Rattle.play.specs.Lines.{openedLine, publishedLine, loginLine, sentLine, wordLine, numbered}
+use Rattle.play.specs.Lines.{openedLine, publishedLine, loginAnswerLine, sentLine, wordLine, numbered}
 use Rattle.play.specs.Played.{freshPlayer, withSender, badLine}
 
 pub fresh-is : (e : Sender) → e ≡ freshSender
@@ -44,8 +44,8 @@ module _ (n : ℕ) (o : List ℕ) (z : o ≡ replicate n 0) where
     login-sender p pl e q f = rw (← z, ← f) q
 
     pub login-shown : {l t : List ℕ} {to : ℕ} (a : LoggedIn) (b : List ℕ) → a ≡ loginOf x s packet content o .answer
-        → b ≡ loginOf x s packet content o .bytes → WroteText l 0 (loginLine b a) t to
-        → WroteText l 0 (loginLine (loginOf x s packet content (replicate n 0) .bytes)
+        → b ≡ loginOf x s packet content o .bytes → WroteText l 0 (loginAnswerLine b a) t to
+        → WroteText l 0 (loginAnswerLine (loginOf x s packet content (replicate n 0) .bytes)
         (loginOf x s packet content (replicate n 0) .answer)) t to
     login-shown a b f g q = rw (← z, ← f, ← g) q
 

@@ -25,7 +25,7 @@ use Rattle.flow.specs.declared.sender.Sent.the-variants.{Drained}
 use Rattle.flow.specs.declared.sender.Sent.the-variants.{Wrote as MessageSent}
 use Rattle.flow.specs.declared.sender.Sent.the-variants.{Refused as NotSent}
 use Rattle.play.specs.Lines.{hexBytes, wordLine, numbered, bytesLine, refusedLine, openedLine, publishedLine}
-use Rattle.play.specs.Lines.{loginLine, sentLine, opened, published, login, sent, none}
+use Rattle.play.specs.Lines.{loginAnswerLine, sentLine, opened, published, login, sent, none}
 
 pub hex-append : (l m : List ℕ) → hexBytes (l ++ m) ≡ hexBytes l ++ hexBytes m
 unfolding hexBytes
@@ -79,11 +79,11 @@ module _ {l o : List ℕ} {to : ℕ} where
   published-not a r e q = rw e q
 
   pub login-as : (a : LoggedIn) (b : List ℕ) (n : ℕ) → a ≡ Answered n → WroteText l 0 (bytesLine login (take n b)) o to
-      → WroteText l 0 (loginLine b a) o to
+      → WroteText l 0 (loginAnswerLine b a) o to
   login-as a b n e q = rw e q
 
   pub login-not : (a : LoggedIn) (b : List ℕ) (r : Refusal) → a ≡ NotIn r → WroteText l 0 (refusedLine r) o to
-      → WroteText l 0 (loginLine b a) o to
+      → WroteText l 0 (loginAnswerLine b a) o to
   login-not a b r e q = rw e q
 
   pub sent-none : (a : Sent) (b : List ℕ) → a ≡ Drained → WroteText l 0 (wordLine none) o to

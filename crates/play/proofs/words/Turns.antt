@@ -12,7 +12,7 @@ use lib.Seq.{drop-cons, paste, paste-zero, paste-suc}
 use lib.Dec.{eqb, leb}
 use Rattle.ftd.specs.Bytes.{put}
 use Rattle.ftd.proofs.bytes.Put.{paste-put}
-use Rattle.play.specs.Words.{upToSpace, digitOf, noNumber, digitsIn, numberIn, tidIn, allHex, pairOf, bytesIn}
+use Rattle.play.specs.Words.{upToSpace, digitValue, noNumber, digitsFrom, numberIn, tidIn, allHex, pairOf, saidBytes}
 use Rattle.play.specs.Words.{sameWord}
 
 -- ─── Where a word ends ───
@@ -34,21 +34,21 @@ module _ (l : List ℕ) (i e : ℕ) (inv : i + upToSpace (drop i l) ≡ e) where
 
 -- ─── Numbers ───
 
-module _ (base : ℕ) (l : List ℕ) (i n t : ℕ) (inv : digitsIn base n (drop i l) ≡ t) (h : i < length l) where
-  step : cond (leb base (digitOf (getD l i 0))) noNumber
-      (cond (leb noNumber (n * base + digitOf (getD l i 0))) noNumber
-      (digitsIn base (n * base + digitOf (getD l i 0)) (drop (suc i) l))) ≡ t
-  unfolding digitsIn
+module _ (base : ℕ) (l : List ℕ) (i n t : ℕ) (inv : digitsFrom base n (drop i l) ≡ t) (h : i < length l) where
+  step : cond (leb base (digitValue (getD l i 0))) noNumber
+      (cond (leb noNumber (n * base + digitValue (getD l i 0))) noNumber
+      (digitsFrom base (n * base + digitValue (getD l i 0)) (drop (suc i) l))) ≡ t
+  unfolding digitsFrom
   step = rw (drop-cons l i 0 h) at inv
 
-  module _ (d : ℕ) (q : d ≡ digitOf (getD l i 0)) where
+  module _ (d : ℕ) (q : d ≡ digitValue (getD l i 0)) where
     pub no-digit : base ≤ d → noNumber ≡ t
     no-digit b = rw (← q, le-leb base d b) at step
 
     pub too-high : d < base → (m : ℕ) → m ≡ n * base + d → noNumber ≤ m → noNumber ≡ t
     too-high b m e g = rw (← q, lt-leb base d b, ← e, le-leb noNumber m g) at step
 
-    pub digit-more : d < base → (m : ℕ) → m ≡ n * base + d → m < noNumber → digitsIn base m (drop (i + 1) l) ≡ t
+    pub digit-more : d < base → (m : ℕ) → m ≡ n * base + d → m < noNumber → digitsFrom base m (drop (i + 1) l) ≡ t
     digit-more b m e g = rw (add-one i) (rw (← q, lt-leb base d b, ← e, lt-leb noNumber m g) at step)
 
 -- The bound of a step.
@@ -56,12 +56,12 @@ pub scaled : (n base : ℕ) → n < 4294967296 → base ≤ 16 → n * base ≤ 
 scaled n base h b = omega (arith, mul-le-mul-left n b)
 
 -- A word with a byte at least.
-pub number-some : (base : ℕ) (l : List ℕ) → (length l ≡ 0 → ⊥) → digitsIn base 0 l ≡ numberIn base l
+pub number-some : (base : ℕ) (l : List ℕ) → (length l ≡ 0 → ⊥) → digitsFrom base 0 l ≡ numberIn base l
 unfolding numberIn
 number-some base l n = rw (ne-eqb (length l) 0 n)
 
-pub digits-over : (base : ℕ) (l : List ℕ) (i n t : ℕ) → digitsIn base n (drop i l) ≡ t → length l ≤ i → n ≡ t
-unfolding digitsIn
+pub digits-over : (base : ℕ) (l : List ℕ) (i n t : ℕ) → digitsFrom base n (drop i l) ≡ t → length l ≤ i → n ≡ t
+unfolding digitsFrom
 digits-over base l i n t inv h = rw (drop-of-length-le l h) at inv
 
 -- A TID has eight digits.
@@ -77,7 +77,7 @@ module _ (w : List ℕ) where
 -- ─── Hexadecimal digits ───
 
 module _ (l : List ℕ) (i : ℕ) (t : Bool) (inv : allHex (drop i l) ≡ t) where
-  module _ (h : i < length l) (d : ℕ) (q : d ≡ digitOf (getD l i 0)) where
+  module _ (h : i < length l) (d : ℕ) (q : d ≡ digitValue (getD l i 0)) where
     pub hex-wrong : d ≡ 16 → false ≡ t
     unfolding allHex
     hex-wrong w = rw (drop-cons l i 0 h, ← q, w) at inv
@@ -92,15 +92,15 @@ module _ (l : List ℕ) (i : ℕ) (t : Bool) (inv : allHex (drop i l) ≡ t) whe
 
 -- ─── Bytes ───
 
-pub length-bytes : (l : List ℕ) → length (bytesIn l) ≡ length l / 2
-unfolding bytesIn
+pub length-bytes : (l : List ℕ) → length (saidBytes l) ≡ length l / 2
+unfolding saidBytes
 length-bytes [] = refl
 length-bytes (x ∷ []) = refl
 length-bytes (x ∷ y ∷ l) = let e = length-bytes l in omega (arith, e)
 
 pub byte-at : (l : List ℕ) (i : ℕ) → i < length l / 2
-    → getD (bytesIn l) i 0 ≡ pairOf (getD l (2 * i) 0) (getD l (2 * i + 1) 0)
-unfolding bytesIn
+    → getD (saidBytes l) i 0 ≡ pairOf (getD l (2 * i) 0) (getD l (2 * i + 1) 0)
+unfolding saidBytes
 byte-at [] i h = absurd (omega arith)
 byte-at (x ∷ []) i h = absurd (omega arith)
 byte-at (x ∷ y ∷ l) zero h = refl
@@ -109,27 +109,27 @@ byte-at (x ∷ y ∷ l) (suc i) h =
     let f : suc (suc (2 * i)) + 1 ≡ suc (suc (2 * i + 1)) = omega arith in
     rw (e, f) (byte-at l i (omega arith))
 
-pub pair-is : (a b high low : ℕ) → a ≡ digitOf high → b ≡ digitOf low → (a * 16 + b) % 256 ≡ pairOf high low
+pub pair-is : (a b high low : ℕ) → a ≡ digitValue high → b ≡ digitValue low → (a * 16 + b) % 256 ≡ pairOf high low
 unfolding pairOf
 pair-is a b high low p q = rw (p, q)
 
 -- No byte is put yet.
-pub bytes-start : (l word : List ℕ) (at : ℕ) → l ≡ paste l at (bytesIn word) 0
-bytes-start l word at = paste-zero l at (bytesIn word)
+pub bytes-start : (l word : List ℕ) (at : ℕ) → l ≡ paste l at (saidBytes word) 0
+bytes-start l word at = paste-zero l at (saidBytes word)
 
 -- A byte more is put.
-pub bytes-turn : (l out word : List ℕ) (at i r : ℕ) → out ≡ paste l at (bytesIn word) i → i < length word / 2
+pub bytes-turn : (l out word : List ℕ) (at i r : ℕ) → out ≡ paste l at (saidBytes word) i → i < length word / 2
     → at + length word / 2 ≤ length l → r ≡ pairOf (getD word (2 * i) 0) (getD word (2 * i + 1) 0)
-    → set out (at + i) r ≡ paste l at (bytesIn word) (i + 1)
+    → set out (at + i) r ≡ paste l at (saidBytes word) (i + 1)
 bytes-turn l out word at i r inv h room q =
     rw (inv, q, ← byte-at word i h, add-one i)
-    (paste-suc l at (bytesIn word) i 0 (omega arith) (rw (length-bytes word) h))
+    (paste-suc l at (saidBytes word) i 0 (omega arith) (rw (length-bytes word) h))
 
-pub bytes-over : (l out word : List ℕ) (at i : ℕ) → out ≡ paste l at (bytesIn word) i → i ≤ length word / 2
-    → length word / 2 ≤ i → out ≡ put l at (bytesIn word)
+pub bytes-over : (l out word : List ℕ) (at i : ℕ) → out ≡ paste l at (saidBytes word) i → i ≤ length word / 2
+    → length word / 2 ≤ i → out ≡ put l at (saidBytes word)
 bytes-over l out word at i inv h g =
-    let e : i ≡ length (bytesIn word) = rw (length-bytes word) (omega arith) in
-    inv ∙ rw e (paste-put l at (bytesIn word))
+    let e : i ≡ length (saidBytes word) = rw (length-bytes word) (omega arith) in
+    inv ∙ rw e (paste-put l at (saidBytes word))
 
 -- ─── Words that are the same ───
 

@@ -1,17 +1,17 @@
 -- `calls::login_with` meets its contract. Assumes nothing.
 use borrow.Author.Needs.{needs}
 use Rattle.ftd.proofs.Tests.{tests}
-use Rattle.play.specs.Calls.{loginWith}
+use Rattle.play.specs.Calls.{loginCallWith}
 use Rattle.play.proofs.calls.Rows.{login-yes, login-no-content, login-no-packet}
 use Rattle.play.proofs.calls.login_with.Statement.{statement}
 use Rattle.play.proofs.calls.login_with.Tie as tie
 
 returns : tie.Need-returns
-unfolding loginWith
+unfolding loginCallWith
 returns c = search tests
 
 returns-2 : tie.Need-returns-2
-unfolding loginWith
+unfolding loginCallWith
 returns-2 c = search tests
 
 cast-t9 : tie.Need-cast-t9

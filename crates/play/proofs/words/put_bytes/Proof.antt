@@ -4,14 +4,14 @@ use mathlib.Core.Path.{_≡_, refl}
 use borrow.Author.Needs.{needs}
 use lib.ListN.{length-set, length}
 use lib.Seq.{paste}
-use Rattle.play.specs.Words.{bytesIn}
+use Rattle.play.specs.Words.{saidBytes}
 use Rattle.play.proofs.words.Turns.{bytes-start, bytes-turn, bytes-over, length-bytes}
 use Rattle.play.proofs.words.put_bytes.Statement.{statement}
 use Rattle.play.proofs.words.put_bytes.Tie as tie
 
 abbrev Inv-loop : tie.InvT-loop
 Inv-loop out₀ at word n i₀ out i =
-    (i ≤ length word / 2) × (length out ≡ length out₀) × (out ≡ paste out₀ at (bytesIn word) i)
+    (i ≤ length word / 2) × (length out ≡ length out₀) × (out ≡ paste out₀ at (saidBytes word) i)
 
 abbrev μ-loop : tie.MeasureT-loop
 μ-loop out₀ at word n i₀ out i = length word / 2 - i

@@ -4,14 +4,14 @@ use mathlib.Core.Path.{_≡_}
 use borrow.Author.Needs.{needs}
 use lib.ListN.{length, drop}
 use Rattle.ftd.proofs.Tests.{tests}
-use Rattle.play.specs.Words.{digitsIn, numberIn}
+use Rattle.play.specs.Words.{digitsFrom, numberIn}
 use Rattle.play.proofs.words.Turns.{number-some, no-digit, too-high, digit-more, digits-over}
 use Rattle.play.proofs.words.read_number.Statement.{statement}
 use Rattle.play.proofs.words.read_number.Tie as tie
 
 abbrev Inv-loop : tie.InvT-loop
 Inv-loop word base n₀ i₀ n i =
-    (i ≤ length word) × (n < 4294967296) × (digitsIn base n (drop i word) ≡ numberIn base word)
+    (i ≤ length word) × (n < 4294967296) × (digitsFrom base n (drop i word) ≡ numberIn base word)
 
 abbrev μ-loop : tie.MeasureT-loop
 μ-loop word base n₀ i₀ n i = length word - i
