@@ -75,8 +75,8 @@ expect "the start field has another FID" "$root/target/staticlib"
 fresh_library() {
     rm -rf "$work/library"
     mkdir -p "$work/library/crates" "$work/library/target"
-    cp -R "$root/crates/ftd" "$root/crates/exports" "$work/library/crates/"
-    printf 'ftd:\nexports: ftd\n' >"$work/library/crates.txt"
+    cp -R "$root/crates/ftd" "$root/crates/flow" "$root/crates/exports" "$work/library/crates/"
+    printf 'ftd:\nflow: ftd\nexports: ftd flow\n' >"$work/library/crates.txt"
     # What is proved of ftd is taken over where ftd isn't changed.
     cp -R "$root/target/rlib" "$root/target/stamp" "$work/library/target/"
 }
@@ -98,7 +98,7 @@ expect "a message's number is its TID, and so says its definition" "$work/librar
 if [ "${1:-}" = --long ]; then
     fresh_library
     change "$work/library/crates/ftd/src/tags.rt" '= [0, 4, 1, 1, 0, 4, 2];' '= [0, 4, 1, 1, 0, 4, 3];'
-    change "$work/library/crates/ftd/specs/Tags.antt" 'knownTag 0x06 2 ∷ []' 'knownTag 0x06 3 ∷ []'
+    change "$work/library/crates/ftd/specs/Tags.antt" 'knownTag 0x06 2' 'knownTag 0x06 3'
     prove
     expect "tag 0x06 has three bytes, and so says its definition" "$work/library/target/staticlib"
 fi

@@ -42,8 +42,14 @@ knownTag k n = record { kind = k; size = n }
 -- Kinds and lengths of their data, as the paper lists them.
 unfoldable pub knownTags : List KnownTag
 knownTags =
-    knownTag 0x00 0 ∷ knownTag 0x01 4 ∷ knownTag 0x02 1 ∷ knownTag 0x03 1 ∷ knownTag 0x04 0 ∷ knownTag 0x05 4 ∷ knownTag
-    0x06 2 ∷ []
+    knownTag 0x00 0
+    ∷ knownTag 0x01 4
+    ∷ knownTag 0x02 1
+    ∷ knownTag 0x03 1
+    ∷ knownTag 0x04 0
+    ∷ knownTag 0x05 4
+    ∷ knownTag 0x06 2
+    ∷ []
 
 -- The length is the one that the list has for the kind; of a kind that it does not have each length is right.
 abbrev pub rightIn : List KnownTag → ℕ → ℕ → Bool
