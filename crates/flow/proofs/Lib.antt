@@ -11,4 +11,4 @@ pub mod logins
 pub mod first
 pub mod second
 pub mod Agreement
-pub mod examples
+pub mod bench

@@ -7,7 +7,6 @@ pub mod Promises
 pub mod World
 pub mod Agreement
 pub mod Bench
-pub mod Examples
 pub mod Helpers
 pub mod LoginHelpers
 pub mod ReceiveHelpers

@@ -1,7 +1,6 @@
 // The two ends of a flow (01, "The serving end", "The receiving end"): their states, and what each call answers.
 ghost use Rattle.flow.specs.Agreement.{Agreement};
 ghost use Rattle.flow.specs.Bench.{Bench};
-ghost use Rattle.flow.specs.Examples.{Examples};
 
 pub mod limits; // the limits of both
 pub mod series; // series in a list
@@ -22,9 +21,4 @@ pub fn keeps_agreement()
 // The bench examples P1 to P12, as a promise: the definitions answer what the paper says.
 pub fn keeps_bench()
     ensures { λ _. ⌜ Bench ⌝ }
-{}
-
-// Two lists of calls, as a promise: what the definitions make of them.
-pub fn keeps_examples()
-    ensures { λ _. ⌜ Examples ⌝ }
 {}

@@ -1,5 +1,5 @@
 -- `keeps_bench` meets its contract. Assumes nothing.
-use Rattle.flow.proofs.examples.Bench.{bench-holds}
+use Rattle.flow.proofs.bench.Bench.{bench-holds}
 use Rattle.flow.proofs.keeps_bench.Statement.{statement}
 use Rattle.flow.proofs.keeps_bench.Tie as tie
 

@@ -10,18 +10,11 @@ use Rattle.flow.specs.Receiving.{openEndOf, connectOf, requestOf, reques
 use Rattle.flow.specs.Receiving.{confirmWith, confirmLoginOf, receiveWith, receiveOf}
 use Rattle.flow.specs.World.{start}
 use Rattle.flow.specs.Bench.{reqLogin, rspLogin, atLast, four, bothEnds, bench}
-use Rattle.flow.specs.Examples.{a1, a2, a3, b1, b2, c1, c2, d1, twoDays, twoDaysStart, twoDaysEnd}
-use Rattle.flow.specs.Examples.{twoDaysRefusals, early, lastOfOne, between, lastOfThree, late, twoLoginsStart}
-use Rattle.flow.specs.Examples.{beforeOne, behindOne, beforeThree, behindThree, twoLoginsEnd, twoLoginsRefusals}
-use Rattle.flow.specs.Examples.{behindFirst, behindMiddle, behindLast}
-use Rattle.flow.proofs.examples.Tests.{isCaughtUp}
 
 unfoldable pub opened : Unit {0}
 unfolding Opened.opened fieldWith wrongSeries freshSender daySeries isServed publishedOf placeOf withEntry withNext
     freshReceiver keptSeries isOpen keptOf liveOf withSeries partStart allParts entryBytes entry logShort entryFits
     entriesOf entryOf openDayOf publishOf startOf loginWith loginOf noneLeft sendBytes sendOf openEndOf connectOf
     requestOf requestBytes requestLoginOf lastAfter confirmWith confirmLoginOf receiveWith receiveOf start reqLogin
-    rspLogin atLast four bothEnds bench a1 a2 a3 b1 b2 c1 c2 d1 twoDays twoDaysStart twoDaysEnd twoDaysRefusals early
-    lastOfOne between lastOfThree late twoLoginsStart beforeOne behindOne beforeThree behindThree twoLoginsEnd
-    twoLoginsRefusals behindFirst behindMiddle behindLast isCaughtUp
+    rspLogin atLast four bothEnds bench
 opened = tt

@@ -4,14 +4,14 @@ use mathlib.Core.Bool.{Bool}
 use lib.Dec.{T, eqb, eqb→eq}
 use lib.ListN.{length}
 use Rattle.ftd.specs.Bench.{same}
 use Rattle.flow.specs.World.{inRuns}
 use Rattle.flow.specs.Agreement.{publishedOn, reported}
-use Rattle.flow.specs.Examples.{refusals, twoDays, twoDaysStart, twoDaysEnd, twoDaysRefusals, twoDaysShown}
-use Rattle.flow.specs.Examples.{twoLogins, twoLoginsStart, beforeOne, behindOne, beforeThree, behindThree}
-use Rattle.flow.specs.Examples.{twoLoginsEnd, twoLoginsRefusals, twoLoginsShown, lastAnswer, chainDropped}
-use Rattle.flow.specs.Examples.{Examples}
-use Rattle.flow.proofs.examples.Tests.{holdAll, each, isCaughtUp, caught-up}
-use Rattle.flow.proofs.examples.Opened.{opened}
+use Rattle.lists.specs.Examples.{refusals, twoDays, twoDaysStart, twoDaysEnd, twoDaysRefusals, twoDaysShown}
+use Rattle.lists.specs.Examples.{twoLogins, twoLoginsStart, beforeOne, behindOne, beforeThree, behindThree}
+use Rattle.lists.specs.Examples.{twoLoginsEnd, twoLoginsRefusals, twoLoginsShown, lastAnswer, chainDropped}
+use Rattle.lists.specs.Examples.{Examples}
+use Rattle.lists.proofs.Tests.{holdAll, each, isCaughtUp, caught-up}
+use Rattle.lists.proofs.Opened.{opened}
 
 line-is : T (inRuns twoDaysStart twoDays)
 unfolding opened

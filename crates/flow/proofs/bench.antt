@@ -1,0 +1,3 @@
+-- The bench table, computed.
+pub mod Opened
+pub mod Bench
