@@ -1,4 +1,4 @@
--- Items of a field as the numbers that C and Rust get and give (tests/include/ftd.h); and modes.
+-- Items of a field as the numbers that C and Rust get and give (include/ftd.h); and modes.
 use Prim.Native.Nat.{ℕ}
 use mathlib.Core.Bool.{Bool, cond, not}
 use lib.Dec.{eqb, ltb}

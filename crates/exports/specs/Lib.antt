@@ -2,3 +2,5 @@
 pub mod Numbers
 pub mod Items
 pub mod Serving
+pub mod Receiving
+pub mod Laws

@@ -1,6 +1,6 @@
--- What `ftd` answers, as the numbers that C and Rust get (tests/include/ftd.h).
+-- What `ftd` answers, as the numbers that C and Rust get (include/ftd.h).
 use Prim.Native.Nat.{ℕ, _-_}
-use mathlib.Core.List.{List}
+use mathlib.Core.List.{List, [], _∷_}
 use mathlib.Core.Bool.{Bool, true, false, cond}
 use lib.ListN.{drop}
 use lib.Dec.{eqb}
@@ -30,6 +30,7 @@ use Rattle.ftd.specs.declared.chain.ChainSize.the-variants.{Refused as NotTaken
 use Rattle.ftd.specs.declared.write.Written.{Written}
 use Rattle.ftd.specs.declared.write.Written.the-variants.{Bytes, NotPlain, NoPacket}
 use Rattle.ftd.specs.declared.write.Written.the-variants.{Refused as NotWritten}
+use Rattle.exports.specs.declared.FtdSpan.{FtdSpan}
 use Rattle.exports.specs.declared.FtdPacket.{FtdPacket}
 use Rattle.exports.specs.declared.FtdField.{FtdField}
 use Rattle.exports.specs.declared.FtdStep.{FtdStep}
@@ -60,15 +61,33 @@ dateOf (At d) = d
 abbrev pub tradeDateNumbers : TradeDate → FtdDate
 tradeDateNumbers d = record { date = dateOf d; dated = datedFlag d }
 
+-- The trade date that numbers say: none where the first is 0.
+unfoldable pub dateFor : ℕ → ℕ → TradeDate
+dateFor dated date = cond (eqb dated 0) None (At date)
+
+-- ─── A part of lent bytes ───
+
+abbrev pub spanNumbers : Span → FtdSpan
+spanNumbers s = record { start = s .start; len = s .len }
+
+abbrev pub noSpan : FtdSpan
+noSpan = record { start = 0; len = 0 }
+
+-- ─── Two lists as one, place by place ───
+
+abbrev pub paired : {A B C : Type 0} → (A → B → C) → List A → List B → List C
+paired f [] m = []
+paired f (x ∷ l) [] = []
+paired f (x ∷ l) (y ∷ m) = f x y ∷ paired f l m
+
 -- ─── A packet: 0 short, 1 link, 2 skipped, 3 message, 4 refused; what an answer does not have is 0 ───
 
 unfoldable pub plainNumbers : ℕ → ℕ → FtdPacket
 plainNumbers answer refusal =
     record {
-      extension = 0;
-      extent = 0;
-      start = 0;
-      len = 0;
+      size = 0;
+      extension = noSpan;
+      content = noSpan;
       tid = 0;
       number = 0;
       date = 0;
@@ -81,13 +100,12 @@ plainNumbers answer refusal =
       dated = 0;
     }
 
-unfoldable pub linkNumbers : ℕ → Span → TradeDate → FtdPacket
-linkNumbers kind e d =
+unfoldable pub linkNumbers : ℕ → ℕ → Span → TradeDate → FtdPacket
+linkNumbers n kind e d =
     record {
-      extension = e .start;
-      extent = e .len;
-      start = 0;
-      len = 0;
+      size = n;
+      extension = spanNumbers e;
+      content = noSpan;
       tid = 0;
       number = 0;
       date = dateOf d;
@@ -101,13 +119,12 @@ linkNumbers kind e d =
     }
 
 -- The extension of a skipped packet is not read, so it has no trade date.
-unfoldable pub skippedNumbers : ℕ → Span → Span → FtdPacket
-skippedNumbers kind e body =
+unfoldable pub skippedNumbers : ℕ → ℕ → Span → Span → FtdPacket
+skippedNumbers n kind e body =
     record {
-      extension = e .start;
-      extent = e .len;
-      start = body .start;
-      len = body .len;
+      size = n;
+      extension = spanNumbers e;
+      content = spanNumbers body;
       tid = 0;
       number = 0;
       date = 0;
@@ -120,13 +137,12 @@ skippedNumbers kind e body =
       dated = 0;
     }
 
-unfoldable pub messageNumbers : Header → Span → Span → TradeDate → FtdPacket
-messageNumbers h e content d =
+unfoldable pub messageNumbers : ℕ → Header → Span → Span → TradeDate → FtdPacket
+messageNumbers n h e content d =
     record {
-      extension = e .start;
-      extent = e .len;
-      start = content .start;
-      len = content .len;
+      size = n;
+      extension = spanNumbers e;
+      content = spanNumbers content;
       tid = h .tid;
       number = h .number;
       date = dateOf d;
@@ -139,16 +155,17 @@ messageNumbers h e content d =
       dated = datedFlag d;
     }
 
-abbrev pub packetNumbers : Packet → TradeDate → FtdPacket
-packetNumbers Short d = plainNumbers 0 0
-packetNumbers (Link kind e) d = linkNumbers kind e d
-packetNumbers (Skipped kind e body) d = skippedNumbers kind e body
-packetNumbers (Message h e content) d = messageNumbers h e content d
-packetNumbers (Refused r) d = plainNumbers 4 (numberOf r)
+-- A link, skipped or message packet of n bytes.
+abbrev pub packetNumbers : ℕ → Packet → TradeDate → FtdPacket
+packetNumbers n Short d = plainNumbers 0 0
+packetNumbers n (Link kind e) d = linkNumbers n kind e d
+packetNumbers n (Skipped kind e body) d = skippedNumbers n kind e body
+packetNumbers n (Message h e content) d = messageNumbers n h e content d
+packetNumbers n (Refused r) d = plainNumbers 4 (numberOf r)
 
 -- A packet with the trade date that it bears.
-abbrev pub datedNumbers : Dated → FtdPacket
-datedNumbers x = packetNumbers (x .packet) (x .date)
+abbrev pub datedNumbers : ℕ → Dated → FtdPacket
+datedNumbers n x = packetNumbers n (x .packet) (x .date)
 
 -- ─── A field: 1, its FID and its place, or all 0 ───
 
@@ -173,9 +190,6 @@ verdictNumber Passed = 0
 verdictNumber (Against r) = numberOf r
 
 -- ─── A message written ───
-
-unfoldable pub dateFor : ℕ → ℕ → TradeDate
-dateFor dated date = cond (eqb dated 0) None (At date)
 
 unfoldable pub messageFor : FtdMessage → Outgoing
 messageFor m = record { date = dateFor (m .dated) (m .date); tid = m .tid; series = m .series; number = m .number }

@@ -3,9 +3,10 @@ ghost use mathlib.Core.Path.{_≡_};
 ghost use Rattle.ftd.specs.Mode.{modeOf};
 ghost use Rattle.ftd.specs.Item.{itemValueOf, itemFits, itemWritten};
 ghost use Rattle.ftd.specs.Write.{writtenAnswer, writtenOutput, fitVerdict};
-ghost use Rattle.exports.specs.Numbers.{flag, writtenNumbers};
+ghost use Rattle.exports.specs.Numbers.{writtenNumbers};
 ghost use Rattle.exports.specs.Items.{valueNumbers, textNumbers, dayNumbers, dateNumbers, itemNumbers, charFor};
 ghost use Rattle.exports.specs.Items.{wordFor, intFor, itemFor, modeNumber};
+use crate::tags::flag_of;
 use crate::written::FtdWritten;
 use crate::written::written;
 use ftd::dates::Date;
@@ -58,16 +59,6 @@ fn text(from: usize, size: usize) -> FtdItem
         kind: 5,
         negative: 0,
     }
-}
-
-// 1 for true.
-fn flag_of(b: bool) -> u8
-    ensures { λ r. ⌜ r ≡ flag b ⌝ }
-{
-    if b {
-        return 1;
-    }
-    0
 }
 
 // A day.
@@ -232,7 +223,8 @@ pub extern "C" fn ftd_write_item(
     ensures answer { λ r. ⌜ r ≡ writtenNumbers
         (writtenAnswer (fitVerdict (itemFits fid i (itemFor value) (now (text .entry))))
         (itemWritten fid i (itemFor value) (now (text .entry))) (now (out .entry))) ⌝ }
-    ensures output { λ _. ⌜ now (out .exit) ≡ writtenOutput (fitVerdict (itemFits fid i (itemFor value) (now (text .entry))))
+    ensures output { λ _. ⌜ now (out .exit) ≡ writtenOutput
+        (fitVerdict (itemFits fid i (itemFor value) (now (text .entry))))
         (itemWritten fid i (itemFor value) (now (text .entry))) (now (out .entry)) ⌝ }
 {
     written(write_item(fid, i, item_for(value), text, out))
@@ -240,7 +232,7 @@ pub extern "C" fn ftd_write_item(
 
 // The mode of a message by its TID.
 #[no_mangle]
-pub extern "C" fn ftd_mode(tid: u32) -> u8
+pub extern "C" fn ftd_mode_of(tid: u32) -> u8
     ensures { λ r. ⌜ r ≡ modeNumber (modeOf tid) ⌝ }
 {
     match mode_of(tid) {

@@ -1,15 +1,18 @@
-// The library for C and Rust: functions on numbers and byte slices. Each calls `ftd` and gives its answer as numbers;
-// tests/include/ftd.h says what they mean. Here: packets, fields and messages.
+// The library for C and Rust: functions on numbers, byte slices and the two ends by value. Each calls `ftd` or `flow`
+// and gives its answer as numbers; include/ftd.h says what they mean. Here: packets, fields and messages.
 ghost use mathlib.Core.Path.{_≡_};
 ghost use Rattle.ftd.specs.Bytes.{joined};
+ghost use Rattle.ftd.specs.Fields.{fieldWith};
 ghost use Rattle.ftd.specs.Packet.{datedOf, fieldOf, saidIn};
 ghost use Rattle.ftd.specs.Content.{contentCheck};
-ghost use Rattle.ftd.specs.Write.{writtenAnswer, writtenOutput, packetBytes, plainVerdict};
+ghost use Rattle.ftd.specs.Write.{writtenAnswer, writtenOutput, packetBytes, plainVerdict, fieldVerdict};
 ghost use Rattle.ftd.specs.Chain.{packetsOf, sizeAnswer, chainVerdict};
+ghost use Rattle.exports.specs.Laws.{EndLaws};
 ghost use Rattle.exports.specs.Numbers.{plainNumbers, linkNumbers, skippedNumbers, messageNumbers, packetNumbers};
-ghost use Rattle.exports.specs.Numbers.{datedNumbers, fieldNumbers, stepOf, directionFor, verdictNumber, dateFor};
-ghost use Rattle.exports.specs.Numbers.{messageFor, sizeNumbers, writtenNumbers};
+ghost use Rattle.exports.specs.Numbers.{datedNumbers, fieldNumbers, stepOf, directionFor, verdictNumber};
+ghost use Rattle.exports.specs.Numbers.{spanNumbers, messageFor, sizeNumbers, writtenNumbers};
 use crate::tags::date;
+use crate::tags::date_for;
 use crate::tags::dated;
 use crate::written::FtdWritten;
 use crate::written::written;
@@ -22,6 +25,7 @@ use ftd::composition::Direction;
 use ftd::content::check_content;
 use ftd::fields::FieldPlace;
 use ftd::fields::field_size;
+use ftd::fields::write_field;
 use ftd::items::Checked;
 use ftd::packet::Header;
 use ftd::packet::Packet;
@@ -38,15 +42,23 @@ pub mod tags; // what the tags of an extension say
 pub mod written; // what the writers answer
 pub mod items; // items of fields, and modes
 pub mod resume; // the start field
-pub mod serving; // Send, for measures
+pub mod serving; // the serving end
+pub mod receiving; // the receiving end
 
-// What some bytes are: places, header values, the trade date, which answer it is, and the number of the refusal.
+// A part of lent bytes.
 #[repr(C)]
-pub struct FtdPacket {
-    pub extension: usize,
-    pub extent: usize,
+pub struct FtdSpan {
     pub start: usize,
     pub len: usize,
+}
+
+// What some bytes are: the packet's length, places, header values, the trade date, which answer it is, and the number
+// of the refusal.
+#[repr(C)]
+pub struct FtdPacket {
+    pub size: usize,
+    pub extension: FtdSpan,
+    pub content: FtdSpan,
     pub tid: u32,
     pub number: u32,
     pub date: u32,
@@ -94,15 +106,24 @@ pub struct FtdSize {
     pub refusal: u8,
 }
 
+// A part as numbers.
+pub(crate) fn span(s: Span) -> FtdSpan
+    ensures { λ r. ⌜ r ≡ spanNumbers s ⌝ }
+{
+    FtdSpan {
+        start: s.start,
+        len: s.len,
+    }
+}
+
 // An answer with no packet: short, or refused.
 fn plain(answer: u8, refusal: u8) -> FtdPacket
     ensures { λ r. ⌜ r ≡ plainNumbers answer refusal ⌝ }
 {
     FtdPacket {
-        extension: 0,
-        extent: 0,
-        start: 0,
-        len: 0,
+        size: 0,
+        extension: FtdSpan { start: 0, len: 0 },
+        content: FtdSpan { start: 0, len: 0 },
         tid: 0,
         number: 0,
         date: 0,
@@ -116,15 +137,14 @@ fn plain(answer: u8, refusal: u8) -> FtdPacket
     }
 }
 
-// A link packet.
-fn link(kind: u8, e: Span, d: TradeDate) -> FtdPacket
-    ensures { λ r. ⌜ r ≡ linkNumbers kind e d ⌝ }
+// A link packet of n bytes.
+fn link(n: usize, kind: u8, e: Span, d: TradeDate) -> FtdPacket
+    ensures { λ r. ⌜ r ≡ linkNumbers n kind e d ⌝ }
 {
     FtdPacket {
-        extension: e.start,
-        extent: e.len,
-        start: 0,
-        len: 0,
+        size: n,
+        extension: span(e),
+        content: FtdSpan { start: 0, len: 0 },
         tid: 0,
         number: 0,
         date: date(d),
@@ -138,15 +158,14 @@ fn link(kind: u8, e: Span, d: TradeDate) -> FtdPacket
     }
 }
 
-// A skipped packet.
-fn skipped(kind: u8, e: Span, body: Span) -> FtdPacket
-    ensures { λ r. ⌜ r ≡ skippedNumbers kind e body ⌝ }
+// A skipped packet of n bytes.
+fn skipped(n: usize, kind: u8, e: Span, body: Span) -> FtdPacket
+    ensures { λ r. ⌜ r ≡ skippedNumbers n kind e body ⌝ }
 {
     FtdPacket {
-        extension: e.start,
-        extent: e.len,
-        start: body.start,
-        len: body.len,
+        size: n,
+        extension: span(e),
+        content: span(body),
         tid: 0,
         number: 0,
         date: 0,
@@ -160,16 +179,15 @@ fn skipped(kind: u8, e: Span, body: Span) -> FtdPacket
     }
 }
 
-// A message packet.
-fn message(h: Header, e: Span, content: Span, d: TradeDate) -> FtdPacket
-    ensures { λ r. ⌜ r ≡ messageNumbers h e content d ⌝ }
+// A message packet of n bytes.
+fn message(n: usize, h: Header, e: Span, content: Span, d: TradeDate) -> FtdPacket
+    ensures { λ r. ⌜ r ≡ messageNumbers n h e content d ⌝ }
 {
     let c = h.chain;
     FtdPacket {
-        extension: e.start,
-        extent: e.len,
-        start: content.start,
-        len: content.len,
+        size: n,
+        extension: span(e),
+        content: span(content),
         tid: h.tid,
         number: h.number,
         date: date(d),
@@ -183,23 +201,23 @@ fn message(h: Header, e: Span, content: Span, d: TradeDate) -> FtdPacket
     }
 }
 
-// What was read, as numbers.
-fn numbers(found: Packet, d: TradeDate) -> FtdPacket
-    ensures { λ r. ⌜ r ≡ packetNumbers found d ⌝ }
+// What was read, as numbers, with as many bytes as the first four say.
+fn numbers(n: usize, found: Packet, d: TradeDate) -> FtdPacket
+    ensures { λ r. ⌜ r ≡ packetNumbers n found d ⌝ }
 {
     match found {
         Packet::Short => plain(0, 0),
-        Packet::Link { kind, extension } => link(kind, extension, d),
+        Packet::Link { kind, extension } => link(n, kind, extension, d),
         Packet::Skipped {
             kind,
             extension,
             body,
-        } => skipped(kind, extension, body),
+        } => skipped(n, kind, extension, body),
         Packet::Message {
             header,
             extension,
             content,
-        } => message(header, extension, content, d),
+        } => message(n, header, extension, content, d),
         Packet::Refused(r) => plain(4, number(r)),
     }
 }
@@ -207,12 +225,12 @@ fn numbers(found: Packet, d: TradeDate) -> FtdPacket
 // What the bytes from the front on are.
 #[no_mangle]
 pub extern "C" fn ftd_read(p: &[u8]) -> FtdPacket
-    ensures { λ r. ⌜ r ≡ datedNumbers (datedOf (now (p .entry))) ⌝ }
+    ensures { λ r. ⌜ r ≡ datedNumbers (saidIn (now (p .entry))) (datedOf (now (p .entry))) ⌝ }
 {
     let d = read_dated(p);
     let found = d.packet;
     let date = d.date;
-    numbers(found, date)
+    numbers(said_length(p), found, date)
 }
 
 // As many bytes as the first four say; 0 where they are not there.
@@ -225,7 +243,7 @@ pub extern "C" fn ftd_said_length(p: &[u8]) -> usize
 
 // Field i of a message packet, counted from 0.
 #[no_mangle]
-pub extern "C" fn ftd_field(p: &[u8], i: usize) -> FtdField
+pub extern "C" fn ftd_find_field(p: &[u8], i: usize) -> FtdField
     ensures { λ r. ⌜ r ≡ fieldNumbers (fieldOf (now (p .entry)) i) ⌝ }
 {
     match find_field(p, i) {
@@ -264,6 +282,17 @@ pub extern "C" fn ftd_field_at(content: &[u8], at: usize) -> FtdStep
     }
 }
 
+// A field with a FID and bytes, at the start of the output.
+#[no_mangle]
+pub extern "C" fn ftd_write_field(fid: u32, bytes: &[u8], out: &mut [u8]) -> FtdWritten
+    ensures answer { λ r. ⌜ r ≡ writtenNumbers
+        (writtenAnswer (fieldVerdict (now (bytes .entry))) (fieldWith fid (now (bytes .entry))) (now (out .entry))) ⌝ }
+    ensures output { λ _. ⌜ now (out .exit) ≡ writtenOutput (fieldVerdict (now (bytes .entry)))
+        (fieldWith fid (now (bytes .entry))) (now (out .entry)) ⌝ }
+{
+    written(write_field(fid, bytes, out))
+}
+
 // 0 is up, any other number down.
 fn direction_for(d: u8) -> Direction
     ensures { λ r. ⌜ r ≡ directionFor d ⌝ }
@@ -285,16 +314,6 @@ pub extern "C" fn ftd_check(tid: u32, direction: u8, content: &[u8], limit: usiz
     }
 }
 
-// The trade date that a number says there is, or none.
-fn date_for(dated: u8, date: u32) -> TradeDate
-    ensures { λ r. ⌜ r ≡ dateFor dated date ⌝ }
-{
-    if dated == 0 {
-        return TradeDate::None;
-    }
-    TradeDate::At(date)
-}
-
 // What a message's packets bear.
 fn message_for(m: FtdMessage) -> Message
     ensures { λ r. ⌜ r ≡ messageFor m ⌝ }
@@ -309,7 +328,7 @@ fn message_for(m: FtdMessage) -> Message
 
 // How many packets and bytes a message takes.
 #[no_mangle]
-pub extern "C" fn ftd_size(m: FtdMessage, content: &[u8]) -> FtdSize
+pub extern "C" fn ftd_message_size(m: FtdMessage, content: &[u8]) -> FtdSize
     ensures { λ r. ⌜ r ≡ sizeNumbers (sizeAnswer (messageFor m) (now (content .entry))) ⌝ }
 {
     match chain_size(message_for(m), content) {
@@ -328,7 +347,7 @@ pub extern "C" fn ftd_size(m: FtdMessage, content: &[u8]) -> FtdSize
 
 // All packets of a message, one behind the other; refused, the output is as it was.
 #[no_mangle]
-pub extern "C" fn ftd_write(m: FtdMessage, content: &[u8], out: &mut [u8]) -> FtdWritten
+pub extern "C" fn ftd_write_message(m: FtdMessage, content: &[u8], out: &mut [u8]) -> FtdWritten
     ensures answer { λ r. ⌜ r ≡ writtenNumbers
         (writtenAnswer (chainVerdict (now (content .entry)))
         (joined (packetsOf (messageFor m) (now (content .entry)))) (now (out .entry))) ⌝ }
@@ -349,8 +368,14 @@ pub extern "C" fn ftd_write_plain(
     ensures answer { λ r. ⌜ r ≡ writtenNumbers
         (writtenAnswer (plainVerdict kind (now (extension .entry)) (now (body .entry)))
         (packetBytes kind (now (extension .entry)) (now (body .entry))) (now (out .entry))) ⌝ }
-    ensures output { λ _. ⌜ now (out .exit) ≡ writtenOutput (plainVerdict kind (now (extension .entry)) (now (body .entry)))
+    ensures output { λ _. ⌜ now (out .exit) ≡ writtenOutput
+        (plainVerdict kind (now (extension .entry)) (now (body .entry)))
         (packetBytes kind (now (extension .entry)) (now (body .entry))) (now (out .entry)) ⌝ }
 {
     written(write_plain(kind, extension, body, out))
 }
+
+// The ends as numbers and back, as a promise.
+pub fn keeps_end_laws()
+    ensures { λ _. ⌜ EndLaws ⌝ }
+{}

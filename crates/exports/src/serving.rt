@@ -1,60 +1,103 @@
-// Send of a serving end with one open series, as numbers: what a measure of Send needs. The whole interface of the ends is another.
+// The serving end for C and Rust: its state as numbers by value, and its calls. Any numbers are a state.
 ghost use mathlib.Core.Path.{_≡_};
-ghost use Rattle.flow.specs.Serving.{sendOf};
-ghost use Rattle.exports.specs.Serving.{senderFor, sentNumbers};
+ghost use Rattle.flow.specs.Ends.{freshSender};
+ghost use Rattle.flow.specs.Serving.{openDayOf, publishOf, loginOf, sendOf};
+ghost use Rattle.exports.specs.Serving.{senderFor, servedNumbers, senderNumbers};
+ghost use Rattle.exports.specs.Serving.{openedNumber, publishedWith, loggedInWith, sentWith};
+ghost use Rattle.exports.specs.Serving.{dayOpenedNumbers, publishedNumbers, loggedInNumbers, sentNumbers};
+use crate::tags::date;
+use crate::tags::date_for;
+use crate::tags::dated;
+use crate::tags::flag_of;
 use flow::sender::Day;
 use flow::sender::DaySeries;
+use flow::sender::LoggedIn;
+use flow::sender::Opened;
 use flow::sender::Place;
+use flow::sender::Published;
 use flow::sender::Seat;
 use flow::sender::Sender;
 use flow::sender::Sent;
 use ftd::refusal::number;
-use ftd::tags::TradeDate;
 
-// A day with one series, how many were published in it and how many bytes of the log are used, and a seat that is logged in to it
-// with a number next.
+// A series: the number that is sent next, how many were published, and whether it is logged in.
 #[repr(C)]
-pub struct FtdSeat {
+pub struct FtdServed {
     pub next: u64,
-    pub used: usize,
-    pub date: u32,
     pub published: u32,
     pub series: u16,
+    pub login: u8,
 }
 
-// What Send answers: the message's number and how many bytes were written; none left; or refused.
+// The serving end: bytes of the log in use, its series in the opening's order, how many are open, and the trade date.
+#[repr(C)]
+pub struct FtdSender {
+    pub used: usize,
+    pub series: [FtdServed; 8],
+    pub count: usize,
+    pub date: u32,
+    pub dated: u8,
+}
+
+// What a call leaves: the end, and its answer.
+#[repr(C)]
+pub struct FtdSenderOpened {
+    pub end: FtdSender,
+    pub refusal: u8,
+}
+
+#[repr(C)]
+pub struct FtdPublished {
+    pub end: FtdSender,
+    pub number: u32,
+    pub refusal: u8,
+}
+
+#[repr(C)]
+pub struct FtdLoggedIn {
+    pub end: FtdSender,
+    pub bytes: usize,
+    pub refusal: u8,
+}
+
 #[repr(C)]
 pub struct FtdSent {
+    pub end: FtdSender,
     pub bytes: usize,
     pub number: u32,
     pub answer: u8,
     pub refusal: u8,
 }
 
-// The serving end that the numbers say.
-fn sender_for(s: FtdSeat) -> Sender
+// The end that the numbers say.
+fn sender_for(s: FtdSender) -> Sender
     ensures { λ r. ⌜ r ≡ senderFor s ⌝ }
 {
     let mut series = [DaySeries {
         series: 0,
         published: 0,
     }; 8];
-    series[0] = DaySeries {
-        series: s.series,
-        published: s.published,
-    };
     let mut places = [Place {
         login: false,
         next: 0,
     }; 8];
-    places[0] = Place {
-        login: true,
-        next: s.next,
-    };
+    let mut i: usize = 0;
+    while i < 8 {
+        let one = s.series[i];
+        series[i] = DaySeries {
+            series: one.series,
+            published: one.published,
+        };
+        places[i] = Place {
+            login: one.login != 0,
+            next: one.next,
+        };
+        i += 1;
+    }
     Sender {
         day: Day {
-            date: TradeDate::At(s.date),
-            count: 1,
+            date: date_for(s.dated, s.date),
+            count: s.count,
             series: series,
             used: s.used,
         },
@@ -62,24 +105,174 @@ fn sender_for(s: FtdSeat) -> Sender
     }
 }
 
-// An answer of Send.
-fn sent(a: Sent) -> FtdSent
-    ensures { λ r. ⌜ r ≡ sentNumbers a ⌝ }
+// A series as numbers.
+fn served(d: DaySeries, p: Place) -> FtdServed
+    ensures { λ r. ⌜ r ≡ servedNumbers d p ⌝ }
+{
+    FtdServed {
+        next: p.next,
+        published: d.published,
+        series: d.series,
+        login: flag_of(p.login),
+    }
+}
+
+// The end as numbers.
+fn sender_numbers(e: Sender) -> FtdSender
+    ensures { λ r. ⌜ r ≡ senderNumbers e ⌝ }
+{
+    let day = e.day;
+    let seat = e.seat;
+    let own = day.date;
+    let mut all = [FtdServed {
+        next: 0,
+        published: 0,
+        series: 0,
+        login: 0,
+    }; 8];
+    let mut i: usize = 0;
+    while i < 8 {
+        all[i] = served(day.series[i], seat.places[i]);
+        i += 1;
+    }
+    FtdSender {
+        used: day.used,
+        series: all,
+        count: day.count,
+        date: date(own),
+        dated: dated(own),
+    }
+}
+
+// An end with no series, no day and no login.
+#[no_mangle]
+pub extern "C" fn ftd_sender_fresh() -> FtdSender
+    ensures { λ r. ⌜ r ≡ senderNumbers freshSender ⌝ }
+{
+    sender_numbers(Sender::fresh())
+}
+
+// What an opening of either end answers: 0, or the number of the refusal.
+pub(crate) fn opened(a: Opened) -> u8
+    ensures { λ r. ⌜ r ≡ openedNumber a ⌝ }
+{
+    match a {
+        Opened::Done => 0,
+        Opened::Refused(r) => number(r),
+    }
+}
+
+// Opening: a trade date and the series.
+#[no_mangle]
+pub extern "C" fn ftd_sender_open(end: FtdSender, date: u32, series: &[u16]) -> FtdSenderOpened
+    ensures { λ r. ⌜ r ≡ dayOpenedNumbers (openDayOf (senderFor end) date (now (series .entry))) ⌝ }
+{
+    let step = sender_for(end).open(date, series);
+    let after = step.end;
+    let answer = step.answer;
+    FtdSenderOpened {
+        end: sender_numbers(after),
+        refusal: opened(answer),
+    }
+}
+
+// What Publish answers.
+fn published(end: FtdSender, a: Published) -> FtdPublished
+    ensures { λ r. ⌜ r ≡ publishedWith end a ⌝ }
+{
+    match a {
+        Published::Number(k) => FtdPublished {
+            end: end,
+            number: k,
+            refusal: 0,
+        },
+        Published::Refused(r) => FtdPublished {
+            end: end,
+            number: 0,
+            refusal: number(r),
+        },
+    }
+}
+
+// Publish: the message's entry goes into the log.
+#[no_mangle]
+pub extern "C" fn ftd_publish(
+    end: FtdSender,
+    series: u16,
+    tid: u32,
+    content: &[u8],
+    log: &mut [u8],
+) -> FtdPublished
+    ensures answer { λ r. ⌜ r ≡ publishedNumbers (publishOf (senderFor end) series tid (now (content .entry))
+        (now (log .entry))) ⌝ }
+    ensures log { λ _. ⌜ now (log .exit) ≡ publishOf (senderFor end) series tid (now (content .entry))
+        (now (log .entry)) .bytes ⌝ }
+{
+    let step = sender_for(end).publish(series, tid, content, log);
+    let after = step.end;
+    let answer = step.answer;
+    published(sender_numbers(after), answer)
+}
+
+// What Login answers.
+fn logged_in(end: FtdSender, a: LoggedIn) -> FtdLoggedIn
+    ensures { λ r. ⌜ r ≡ loggedInWith end a ⌝ }
+{
+    match a {
+        LoggedIn::Wrote(n) => FtdLoggedIn {
+            end: end,
+            bytes: n,
+            refusal: 0,
+        },
+        LoggedIn::Refused(r) => FtdLoggedIn {
+            end: end,
+            bytes: 0,
+            refusal: number(r),
+        },
+    }
+}
+
+// Login: a login packet and the answer's content; the answer is written.
+#[no_mangle]
+pub extern "C" fn ftd_login(
+    end: FtdSender,
+    series: u16,
+    packet: &[u8],
+    content: &[u8],
+    out: &mut [u8],
+) -> FtdLoggedIn
+    ensures answer { λ r. ⌜ r ≡ loggedInNumbers (loginOf (senderFor end) series (now (packet .entry))
+        (now (content .entry)) (now (out .entry))) ⌝ }
+    ensures output { λ _. ⌜ now (out .exit) ≡ loginOf (senderFor end) series (now (packet .entry))
+        (now (content .entry)) (now (out .entry)) .bytes ⌝ }
+{
+    let step = sender_for(end).login(series, packet, content, out);
+    let after = step.end;
+    let answer = step.answer;
+    logged_in(sender_numbers(after), answer)
+}
+
+// What Send answers.
+fn sent(end: FtdSender, a: Sent) -> FtdSent
+    ensures { λ r. ⌜ r ≡ sentWith end a ⌝ }
 {
     match a {
         Sent::Drained => FtdSent {
+            end: end,
             bytes: 0,
             number: 0,
             answer: 0,
             refusal: 0,
         },
         Sent::Wrote { number, len } => FtdSent {
+            end: end,
             bytes: len,
             number: number,
             answer: 1,
             refusal: 0,
         },
         Sent::Refused(r) => FtdSent {
+            end: end,
             bytes: 0,
             number: 0,
             answer: 2,
@@ -88,14 +281,15 @@ fn sent(a: Sent) -> FtdSent
     }
 }
 
-// Send in that series.
+// Send: all packets of the series' next message are written.
 #[no_mangle]
-pub extern "C" fn ftd_send(s: FtdSeat, log: &[u8], out: &mut [u8]) -> FtdSent
-    ensures answer { λ r. ⌜ r ≡ sentNumbers (sendOf (senderFor s) (s .series) (now (log .entry)) (now (out .entry)) .answer) ⌝ }
-    ensures output { λ _. ⌜ now (out .exit) ≡ sendOf (senderFor s) (s .series) (now (log .entry)) (now (out .entry)) .bytes ⌝ }
+pub extern "C" fn ftd_send(end: FtdSender, series: u16, log: &[u8], out: &mut [u8]) -> FtdSent
+    ensures answer { λ r. ⌜ r ≡ sentNumbers (sendOf (senderFor end) series (now (log .entry)) (now (out .entry))) ⌝ }
+    ensures output { λ _. ⌜ now (out .exit) ≡ sendOf (senderFor end) series (now (log .entry)) (now (out .entry))
+        .bytes ⌝ }
 {
-    let series = s.series;
-    let step = sender_for(s).send(series, log, out);
+    let step = sender_for(end).send(series, log, out);
+    let after = step.end;
     let answer = step.answer;
-    sent(answer)
+    sent(sender_numbers(after), answer)
 }

@@ -1,7 +1,7 @@
-// What the tags of an extension say, as numbers.
+// What the tags of an extension say, as numbers; trade dates and Bools as numbers.
 ghost use mathlib.Core.Path.{_≡_};
 ghost use Rattle.ftd.specs.Tags.{tradeDateOf, keepAliveOf};
-ghost use Rattle.exports.specs.Numbers.{datedFlag, dateOf, tradeDateNumbers, flag};
+ghost use Rattle.exports.specs.Numbers.{datedFlag, dateOf, dateFor, tradeDateNumbers, flag};
 use ftd::tags::TradeDate;
 use ftd::tags::keep_alive;
 use ftd::tags::trade_date;
@@ -31,6 +31,26 @@ pub(crate) fn date(d: TradeDate) -> u32
         TradeDate::None => 0,
         TradeDate::At(x) => x,
     }
+}
+
+// The trade date that a number says there is, or none.
+pub(crate) fn date_for(dated: u8, date: u32) -> TradeDate
+    ensures { λ r. ⌜ r ≡ dateFor dated date ⌝ }
+{
+    if dated == 0 {
+        return TradeDate::None;
+    }
+    TradeDate::At(date)
+}
+
+// 1 for true.
+pub(crate) fn flag_of(b: bool) -> u8
+    ensures { λ r. ⌜ r ≡ flag b ⌝ }
+{
+    if b {
+        return 1;
+    }
+    0
 }
 
 // The trade date that an extension bears.

@@ -4,6 +4,12 @@ use borrow.Author.Needs.{needs}
 use Rattle.exports.proofs.message.Statement.{statement}
 use Rattle.exports.proofs.message.Tie as tie
 
+span-requires : tie.Need-span-requires
+span-requires c κs = search needs
+
+span-requires-2 : tie.Need-span-requires-2
+span-requires-2 c κs = search needs
+
 date-requires : tie.Need-date-requires
 date-requires c κs = search needs
 
@@ -15,7 +21,14 @@ dated-requires c κs = search needs
 
 returns : tie.Need-returns
 unfolding messageNumbers
-returns c = rw (c .before .before .date .ensures, c .before .letter .ensures, c .dated .ensures)
+returns c =
+    rw (
+      c .before .before .before .before .span .ensures,
+      c .before .before .before .span2 .ensures,
+      c .before .before .date .ensures,
+      c .before .letter .ensures,
+      c .dated .ensures,
+    )
 
 pub message-spec : {M : Type 1} → statement M
-message-spec = tie.close (tie.spec date-requires letter-requires dated-requires returns)
+message-spec = tie.close (tie.spec span-requires span-requires-2 date-requires letter-requires dated-requires returns)

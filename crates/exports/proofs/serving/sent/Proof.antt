@@ -1,4 +1,4 @@
--- `serving::sent` meets its contract. Assumes nothing.
+-- `serving::sent` meets its contract, case by case. Assumes nothing.
 use borrow.Author.Needs.{needs}
 use Rattle.exports.proofs.serving.sent.Statement.{statement}
 use Rattle.exports.proofs.serving.sent.Tie as tie

@@ -1,8 +1,8 @@
--- `date_for` meets its contract, by its test. Assumes nothing.
+-- `tags::date_for` meets its contract, by its test. Assumes nothing.
 use Rattle.ftd.proofs.Tests.{tests}
 use Rattle.exports.specs.Numbers.{dateFor}
-use Rattle.exports.proofs.date_for.Statement.{statement}
-use Rattle.exports.proofs.date_for.Tie as tie
+use Rattle.exports.proofs.tags.date_for.Statement.{statement}
+use Rattle.exports.proofs.tags.date_for.Tie as tie
 
 returns : tie.Need-returns
 unfolding dateFor

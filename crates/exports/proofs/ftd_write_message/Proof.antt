@@ -1,7 +1,7 @@
--- `ftd_write` meets its contract. Assumes nothing.
+-- `ftd_write_message` meets its contract. Assumes nothing.
 use borrow.Author.Needs.{needs}
-use Rattle.exports.proofs.ftd_write.Statement.{statement}
-use Rattle.exports.proofs.ftd_write.Tie as tie
+use Rattle.exports.proofs.ftd_write_message.Statement.{statement}
+use Rattle.exports.proofs.ftd_write_message.Tie as tie
 
 message-for-requires : tie.Need-message-for-requires
 message-for-requires c κs = search needs
@@ -22,7 +22,7 @@ returns c =
       c .before .before .before .write-chain .ensures .1,
     )
 
-pub ftd-write-spec : {M : Type 1} → statement M
-ftd-write-spec =
+pub ftd-write-message-spec : {M : Type 1} → statement M
+ftd-write-message-spec =
     tie.close
     (tie.spec message-for-requires write-chain-requires written-requires same-length returns)

@@ -1,7 +1,7 @@
--- `ftd_field` meets its contract, case by case. Assumes nothing.
+-- `ftd_find_field` meets its contract, case by case. Assumes nothing.
 use borrow.Author.Needs.{needs}
-use Rattle.exports.proofs.ftd_field.Statement.{statement}
-use Rattle.exports.proofs.ftd_field.Tie as tie
+use Rattle.exports.proofs.ftd_find_field.Statement.{statement}
+use Rattle.exports.proofs.ftd_find_field.Tie as tie
 
 find-field-requires : tie.Need-find-field-requires
 find-field-requires c κs = search needs
@@ -18,6 +18,6 @@ returns c = rw (← (c .before .before .find-field .ensures .0), c .enum-told .g
 returns-2 : tie.Need-returns-2
 returns-2 c = rw (← (c .before .before .before .find-field .ensures .0), c .before .fid .given .1)
 
-pub ftd-field-spec : {M : Type 1} → statement M
-ftd-field-spec =
+pub ftd-find-field-spec : {M : Type 1} → statement M
+ftd-find-field-spec =
     tie.close (tie.spec find-field-requires enum-told enum-known-fid returns returns-2)

@@ -1,7 +1,7 @@
--- `ftd_size` meets its contract, case by case. Assumes nothing.
+-- `ftd_message_size` meets its contract, case by case. Assumes nothing.
 use borrow.Author.Needs.{needs}
-use Rattle.exports.proofs.ftd_size.Statement.{statement}
-use Rattle.exports.proofs.ftd_size.Tie as tie
+use Rattle.exports.proofs.ftd_message_size.Statement.{statement}
+use Rattle.exports.proofs.ftd_message_size.Tie as tie
 
 message-for-requires : tie.Need-message-for-requires
 message-for-requires c κs = search needs
@@ -35,8 +35,8 @@ returns-2 c =
       c .number .ensures,
     )
 
-pub ftd-size-spec : {M : Type 1} → statement M
-ftd-size-spec =
+pub ftd-message-size-spec : {M : Type 1} → statement M
+ftd-message-size-spec =
     tie.close
     (tie.spec
     message-for-requires

@@ -1,7 +1,7 @@
--- `items::ftd_mode` meets its contract, case by case. Assumes nothing.
+-- `items::ftd_mode_of` meets its contract, case by case. Assumes nothing.
 use borrow.Author.Needs.{needs}
-use Rattle.exports.proofs.items.ftd_mode.Statement.{statement}
-use Rattle.exports.proofs.items.ftd_mode.Tie as tie
+use Rattle.exports.proofs.items.ftd_mode_of.Statement.{statement}
+use Rattle.exports.proofs.items.ftd_mode_of.Tie as tie
 
 mode-of-requires : tie.Need-mode-of-requires
 mode-of-requires c κs = search needs
@@ -36,8 +36,8 @@ returns-4 c = rw (← (c .before .before .mode-of .ensures), c .enum-told4 .give
 returns-5 : tie.Need-returns-5
 returns-5 c = rw (← (c .before .before .mode-of .ensures), c .enum-told5 .given .1)
 
-pub ftd-mode-spec : {M : Type 1} → statement M
-ftd-mode-spec =
+pub ftd-mode-of-spec : {M : Type 1} → statement M
+ftd-mode-of-spec =
     tie.close
     (tie.spec
     mode-of-requires

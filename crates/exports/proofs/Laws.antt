@@ -1,0 +1,249 @@
+-- `EndLaws` holds. Assumes nothing.
+use Prim.Native.Nat.{ℕ, _+_}
+use native.Mathlib.Omega.{arith}
+use mathlib.Core.Path.{_≡_, refl, sym, ap, _∙_}
+use mathlib.Core.List.{List, [], _∷_, map}
+use mathlib.Core.Bool.{Bool, true, false, not}
+use lib.ListN.{length, length-map}
+use lib.Dec.{eqb}
+use Rattle.ftd.specs.Packet.{datedOf}
+use Rattle.ftd.specs.declared.tags.TradeDate.{TradeDate}
+use Rattle.ftd.specs.declared.tags.TradeDate.the-variants.{None, At}
+use Rattle.flow.specs.declared.sender.DaySeries.{DaySeries}
+use Rattle.flow.specs.declared.sender.Place.{Place}
+use Rattle.flow.specs.declared.sender.Sender.{Sender}
+use Rattle.flow.specs.declared.sender.Opened.{Opened}
+use Rattle.flow.specs.declared.sender.Published.{Published}
+use Rattle.flow.specs.declared.sender.LoggedIn.{LoggedIn}
+use Rattle.flow.specs.declared.sender.Sent.{Sent}
+use Rattle.flow.specs.declared.receiver.KeptSeries.{KeptSeries}
+use Rattle.flow.specs.declared.receiver.LiveSeries.{LiveSeries}
+use Rattle.flow.specs.declared.receiver.Receiver.{Receiver}
+use Rattle.flow.specs.declared.receiver.Confirmed.{Confirmed}
+use Rattle.flow.specs.declared.receiver.Confirmed.the-variants.{Last}
+use Rattle.flow.specs.declared.receiver.Confirmed.the-variants.{Refused as NotConfirmed}
+use Rattle.flow.specs.declared.receiver.Received.{Received}
+use Rattle.flow.specs.declared.receiver.Received.the-variants.{Idle, Duplicate, Partial, Complete}
+use Rattle.flow.specs.declared.receiver.Received.the-variants.{Refused as NotTaken}
+use Rattle.flow.specs.Ends.{Left, Wrote, freshSender, freshReceiver, isServed, withEntry, withNext}
+use Rattle.flow.specs.Serving.{openDayOf, publishOf, loginOf, sendOf}
+use Rattle.flow.specs.Receiving.{openEndOf, connectOf, confirmLoginOf, receiveOf}
+use Rattle.flow.proofs.common.Days.{upto-same}
+use Rattle.flow.proofs.ends.SenderLookups.{eight-entry, eight-next}
+use Rattle.flow.proofs.ends.SenderLookups.{Eight as SenderEight}
+use Rattle.flow.proofs.ends.SenderOpened.{openedSender, opened-eight, fresh-eight}
+use Rattle.flow.proofs.ends.ReceiverLookups.{Eight as ReceiverEight}
+use Rattle.flow.proofs.ends.ReceiverOpened.{connect-eight}
+use Rattle.flow.proofs.ends.ReceiverOpened.{fresh-eight as fresh-end-eight}
+use Rattle.flow.proofs.calls.Serving.{OpenDone, open-refused, open-taken, open-cases}
+use Rattle.flow.proofs.calls.Serving.{PublishDone, publish-refused, publish-taken, publish-cases}
+use Rattle.flow.proofs.calls.Serving.{LoginDone, login-refused, login-taken, login-cases}
+use Rattle.flow.proofs.calls.Serving.{SendDone, send-unknown, send-outside, send-drained, send-damaged, send-small}
+use Rattle.flow.proofs.calls.Serving.{send-taken, send-cases}
+use Rattle.flow.proofs.steps.Turns.{turn-eight, open-turn, confirm-turn, receive-turn}
+use Rattle.exports.specs.declared.serving.FtdSender.{FtdSender}
+use Rattle.exports.specs.declared.receiving.FtdReceiver.{FtdReceiver}
+use Rattle.exports.specs.Numbers.{flag, datedFlag, dateOf, dateFor, paired}
+use Rattle.exports.specs.Serving.{daySeriesFor, placeFor, senderFor, servedNumbers, senderNumbers}
+use Rattle.exports.specs.Serving.{dayOpenedNumbers, publishedNumbers, loggedInNumbers, sentNumbers}
+use Rattle.exports.specs.Receiving.{keptFor, liveFor, receiverFor, keptNumbers, receiverNumbers}
+use Rattle.exports.specs.Receiving.{confirmedWith, receivedWith, endOpenedNumbers, confirmedNumbers}
+use Rattle.exports.specs.Receiving.{receivedNumbers}
+use Rattle.exports.specs.Laws.{EndLaws, SenderIs, ReceiverIs}
+use Rattle.exports.proofs.Filled.{all-eight}
+
+-- Two lists put together, and one of them got back.
+module _ {A B C : Type 0} (put : A → B → C) where
+  first-back : (f : C → A) → ((x : A) (y : B) → f (put x y) ≡ x) → (l : List A) (m : List B) → length l ≡ length m
+      → map f (paired put l m) ≡ l
+  first-back f back [] m e = refl
+  first-back f back (x ∷ l) [] e = absurd (omega arith)
+  first-back f back (x ∷ l) (y ∷ m) e = rw (back x y, first-back f back l m (omega arith)) refl
+
+  second-back : (f : C → B) → ((x : A) (y : B) → f (put x y) ≡ y) → (l : List A) (m : List B) → length l ≡ length m
+      → map f (paired put l m) ≡ m
+  second-back f back [] [] e = refl
+  second-back f back [] (y ∷ m) e = absurd (omega arith)
+  second-back f back (x ∷ l) [] e = absurd (omega arith)
+  second-back f back (x ∷ l) (y ∷ m) e = rw (back x y, second-back f back l m (omega arith)) refl
+
+-- A trade date and a Bool as numbers, and back.
+date-back : (d : TradeDate) → dateFor (datedFlag d) (dateOf d) ≡ d
+unfolding dateFor
+date-back None = refl
+date-back (At d) = refl
+
+flag-back : (b : Bool) → not (eqb (flag b) 0) ≡ b
+flag-back false = refl
+flag-back true = refl
+
+-- A series as numbers, and back.
+place-back : (d : DaySeries) (p : Place) → placeFor (servedNumbers d p) ≡ p
+place-back d p = rw (flag-back (p .login)) refl
+
+kept-back : (k : KeptSeries) (l : LiveSeries) → keptFor (keptNumbers k l) ≡ k
+kept-back k l = rw (date-back (k .date)) refl
+
+live-back : (k : KeptSeries) (l : LiveSeries) → liveFor (keptNumbers k l) ≡ l
+live-back k l = rw (flag-back (l .login), flag-back (l .chain)) refl
+
+sender-back : (e : Sender) → length (e .day .series) ≡ 8 → length (e .seat .places) ≡ 8
+    → senderFor (senderNumbers e) ≡ e
+unfolding senderFor senderNumbers
+sender-back e a b =
+    let same = a ∙ sym b in
+    rw (
+      date-back (e .day .date),
+      first-back servedNumbers daySeriesFor (λ d p. refl) (e .day .series) (e .seat .places) same,
+      second-back servedNumbers placeFor place-back (e .day .series) (e .seat .places) same,
+    ) refl
+
+receiver-back : (e : Receiver) → length (e .kept .series) ≡ 8 → length (e .live .series) ≡ 8
+    → receiverFor (receiverNumbers e) ≡ e
+unfolding receiverFor receiverNumbers
+receiver-back e a b =
+    let same = a ∙ sym b in
+    rw (
+      first-back keptNumbers keptFor kept-back (e .kept .series) (e .live .series) same,
+      second-back keptNumbers liveFor live-back (e .kept .series) (e .live .series) same,
+    ) refl
+
+-- ─── The serving end, call by call ───
+
+sender-eight : (e : Sender) → SenderEight e → length (senderNumbers e .series) ≡ 8
+unfolding senderNumbers
+sender-eight e z = all-eight servedNumbers (e .day .series) (e .seat .places) (z .series) (z .places)
+
+sender-is : (e : Sender) → SenderEight e → SenderIs (senderNumbers e) e
+sender-is e z = (sender-back e (z .series) (z .places), sender-eight e z)
+
+said-eight : (n : FtdSender) → length (n .series) ≡ 8 → SenderEight (senderFor n)
+unfolding senderFor
+said-eight n h =
+    record { series = length-map (n .series) daySeriesFor ∙ h; places = length-map (n .series) placeFor ∙ h }
+
+module _ (e : Sender) (z : SenderEight e) where
+  opened-is : (date : ℕ) (ss : List ℕ) (r : Left Sender Opened) → OpenDone e date ss r
+      → SenderIs (dayOpenedNumbers r .end) (r .end)
+  opened-is date ss r (open-refused q) = sender-is e z
+  opened-is date ss r (open-taken q h) = sender-is (openedSender date ss) (opened-eight date ss q)
+
+  published-is : (s tid : ℕ) (content log : List ℕ) (r : Wrote Sender Published) → PublishDone e s tid content log r
+      → SenderIs (publishedNumbers r .end) (r .end)
+  published-is s tid content log r (publish-refused q) = sender-is e z
+  published-is s tid content log r (publish-taken t) =
+      sender-is (withEntry e s (16 + length content)) (eight-entry e s (t .served) z (16 + length content))
+
+  next-is : (s : ℕ) → isServed e s ≡ true → (next : ℕ)
+      → SenderIs (senderNumbers (withNext e s next)) (withNext e s next)
+  next-is s o next = sender-is (withNext e s next) (eight-next e s o z next)
+
+  logged-in-is : (s : ℕ) (p content out : List ℕ) (r : Wrote Sender LoggedIn) → LoginDone e s p content out r
+      → SenderIs (loggedInNumbers r .end) (r .end)
+  logged-in-is s p content out r (login-refused q) = sender-is e z
+  logged-in-is s p content out r (login-taken h x c a b g t) = next-is s (t .served) _
+
+  sent-is : (s : ℕ) (log out : List ℕ) (r : Wrote Sender Sent) → SendDone e s log out r
+      → SenderIs (sentNumbers r .end) (r .end)
+  sent-is s log out r (send-unknown q) = sender-is e z
+  sent-is s log out r (send-outside q h) = sender-is e z
+  sent-is s log out r (send-drained q h) = sender-is e z
+  sent-is s log out r (send-damaged q h g) = sender-is e z
+  sent-is s log out r (send-small x q h g i) = sender-is e z
+  sent-is s log out r (send-taken x q h g i) = next-is s (q .served) _
+
+-- Numbers that are an end: what a call makes of the end that they say, it makes of that end.
+module _ (n : FtdSender) (e : Sender) (h : SenderIs n e) where
+  eight-of : SenderEight e
+  eight-of = rw (h .0) at (said-eight n (h .1))
+
+  open-day : (date : ℕ) (ss : List ℕ)
+      → SenderIs (dayOpenedNumbers (openDayOf (senderFor n) date ss) .end) (openDayOf e date ss .end)
+  open-day date ss = rw (h .0) (opened-is e eight-of date ss (openDayOf e date ss) (open-cases e date ss))
+
+  publish : (s tid : ℕ) (content log : List ℕ)
+      → SenderIs (publishedNumbers (publishOf (senderFor n) s tid content log) .end)
+      (publishOf e s tid content log .end)
+  publish s tid content log =
+      rw (h .0)
+      (published-is e eight-of s tid content log (publishOf e s tid content log) (publish-cases e s tid content log))
+
+  login : (s : ℕ) (p content out : List ℕ)
+      → SenderIs (loggedInNumbers (loginOf (senderFor n) s p content out) .end) (loginOf e s p content out .end)
+  login s p content out =
+      rw (h .0) (logged-in-is e eight-of s p content out (loginOf e s p content out) (login-cases e s p content out))
+
+  send : (s : ℕ) (log out : List ℕ)
+      → SenderIs (sentNumbers (sendOf (senderFor n) s log out) .end) (sendOf e s log out .end)
+  send s log out = rw (h .0) (sent-is e eight-of s log out (sendOf e s log out) (send-cases e s log out))
+
+-- ─── The receiving end, call by call ───
+
+receiver-eight : (e : Receiver) → ReceiverEight e → length (receiverNumbers e .series) ≡ 8
+unfolding receiverNumbers
+receiver-eight e z = all-eight keptNumbers (e .kept .series) (e .live .series) (z .kept) (z .live)
+
+receiver-is : (e : Receiver) → ReceiverEight e → ReceiverIs (receiverNumbers e) e
+receiver-is e z = (receiver-back e (z .kept) (z .live), receiver-eight e z)
+
+end-eight : (n : FtdReceiver) → length (n .series) ≡ 8 → ReceiverEight (receiverFor n)
+unfolding receiverFor
+end-eight n h = record { kept = length-map (n .series) keptFor ∙ h; live = length-map (n .series) liveFor ∙ h }
+
+-- An answer stands beside the end.
+confirmed-end : (n : FtdReceiver) (a : Confirmed) → confirmedWith n a .end ≡ n
+confirmed-end n (Last k) = refl
+confirmed-end n (NotConfirmed r) = refl
+
+received-end : (n : FtdReceiver) (a : Received) → receivedWith n a .end ≡ n
+received-end n Idle = refl
+received-end n (Duplicate k) = refl
+received-end n (Partial k) = refl
+received-end n (Complete last tid origin content) = refl
+received-end n (NotTaken r) = refl
+
+module _ (n : FtdReceiver) (e : Receiver) (h : ReceiverIs n e) where
+  eight-at : ReceiverEight e
+  eight-at = rw (h .0) at (end-eight n (h .1))
+
+  open-end : (ss : List ℕ) → ReceiverIs (endOpenedNumbers (openEndOf (receiverFor n) ss) .end) (openEndOf e ss .end)
+  open-end ss =
+      rw (h .0)
+      (receiver-is (openEndOf e ss .end)
+      (turn-eight None false e eight-at (openEndOf e ss .end) [] [] (open-turn None false e ss)))
+
+  connect : ReceiverIs (receiverNumbers (connectOf (receiverFor n))) (connectOf e)
+  connect = rw (h .0) (receiver-is (connectOf e) (connect-eight e eight-at))
+
+  confirm : (s : ℕ) (p : List ℕ)
+      → ReceiverIs (confirmedNumbers (confirmLoginOf (receiverFor n) s p) .end) (confirmLoginOf e s p .end)
+  confirm s p =
+      let r = confirmLoginOf e s p in
+      let d = datedOf p .date in
+      rw (h .0, confirmed-end (receiverNumbers (r .end)) (r .answer))
+      (receiver-is (r .end)
+      (turn-eight d false e eight-at (r .end) _ _ (confirm-turn d false e s p (upto-same d))))
+
+  receive : (p buffer : List ℕ)
+      → ReceiverIs (receivedNumbers (receiveOf (receiverFor n) p buffer) .end) (receiveOf e p buffer .end)
+  receive p buffer =
+      let r = receiveOf e p buffer in
+      rw (h .0, received-end (receiverNumbers (r .end)) (r .answer))
+      (receiver-is (r .end) (turn-eight None false e eight-at (r .end) _ _ (receive-turn None false e p buffer)))
+
+pub end-laws : EndLaws
+end-laws =
+    record {
+      sender-back = sender-back;
+      receiver-back = receiver-back;
+      fresh-sender = sender-is freshSender fresh-eight;
+      open-day = open-day;
+      publish = publish;
+      login = login;
+      send = send;
+      fresh-receiver = receiver-is freshReceiver fresh-end-eight;
+      open-end = open-end;
+      connect = connect;
+      confirm = confirm;
+      receive = receive;
+    }
