@@ -23,10 +23,11 @@ fi
 rt check ftdlist | tail -1
 rt staticlib exports | tail -1
 
-# The header is C, and says what the Rust side says.
-if command -v cc >/dev/null 2>&1; then
-    cc -std=c99 -Wall -Wextra -Werror -o target/header tests/include/header.c target/staticlib/libexports.a -Itests/include
-    target/header
+# The header, the library and the example driver from C and C++.
+if command -v make >/dev/null 2>&1; then
+    make --no-print-directory --silent check-c LIB=target/staticlib/libexports.a
+else
+    echo "tests from C: not run, there is no command make"
 fi
 
 (cd tests/reader && cargo test --offline --quiet)

@@ -1,0 +1,25 @@
+# The library for C and C++, the example driver and their tests. What is proved and tried in all: .ci/run.
+#   make lib        proves and builds the library: target/lib/libftd.a (needs the Rattle kit, rt)
+#   make example    builds the example driver with it: target/example/driver
+#   make check-c    builds the header's test and the example with each compiler that is there, and runs them
+# LIB=.. names another library, which is then taken as it is.
+
+LIB = target/lib/libftd.a
+CFLAGS = -std=c99 -O2 -Wall -Wextra -pedantic
+
+.PHONY: lib example check-c
+
+lib:
+	rt staticlib exports
+	mkdir -p target/lib
+	cp target/staticlib/libexports.a target/lib/libftd.a
+
+target/lib/libftd.a: $(shell find crates/ftd crates/flow crates/exports -name '*.rt' -o -name '*.antt')
+	$(MAKE) lib
+
+example: $(LIB)
+	mkdir -p target/example
+	$(CC) $(CFLAGS) -Iinclude examples/driver.c $(LIB) -o target/example/driver
+
+check-c: $(LIB)
+	sh tests/c/run.sh $(LIB)

@@ -1,0 +1,482 @@
+/* An example driver: a serving and a receiving end, each in a process of its own, over a line that breaks.
+ *
+ * The serving process publishes messages of two series, answers logins and sends. The first line breaks within a
+ * message of five packets; both sides go on with the second line, and the message is sent anew. The receiving process
+ * prints what it is handed. Where there are two socket pairs here a driver has its sockets; the rest can be taken over.
+ *
+ *     make example && target/example/driver
+ */
+#define _POSIX_C_SOURCE 200809L
+#include "ftd.h"
+#include <errno.h>
+#include <stdio.h>
+#include <stdlib.h>
+#include <string.h>
+#include <sys/socket.h>
+#include <sys/types.h>
+#include <sys/wait.h>
+#include <unistd.h>
+
+enum {
+    PRIVATE = 1, /* the series that the two sides have agreed on */
+    BROADCAST = 2,
+    SERIES = 2,
+    LINES = 2,
+    TRADE_DATE = 20041231,
+    LOGIN = 0x0016,    /* TID of login packets and their answers */
+    BULLETIN = 0x2003, /* TID and FID of a message of the standard: MarketBulletin, BulletinField */
+    BULLETIN_FIELD = 0x0001,
+    OTHER = 0x7777, /* TID and FID of a message that the standard doesn't have: its bytes are free */
+    OTHER_FIELD = 0x7001,
+    MOST_PACKET = 4 + 255 + 65535, /* bytes of a packet, as its first four can say */
+    LOG_SIZE = 1 << 20             /* bytes for the day's messages: content and FTD_LOG_HEAD of each */
+};
+
+static const uint16_t open_series[SERIES] = {PRIVATE, BROADCAST};
+
+/* ---- Refusals ---- */
+
+static const char *refusal_name(uint8_t refusal) {
+    static const char *const names[] = {
+        "none",           "long extension", "broken tag",    "body length", "version",     "chain letter",
+        "content length", "field run",      "field length",  "item",        "make-up",     "opening",
+        "not one packet", "unknown series", "not logged in", "other day",   "out of line", "broken chain",
+        "too small",      "wrong start",    "damaged log",   "day full"};
+    return refusal < sizeof names / sizeof names[0] ? names[refusal] : "not plain";
+}
+
+static void report(const char *call, uint8_t refusal) {
+    fprintf(stderr, "%s: refused, %u (%s)\n", call, refusal, refusal_name(refusal));
+}
+
+/* For calls that are refused only where this program is wrong. */
+static void must(const char *call, uint8_t refusal) {
+    if (refusal != 0) {
+        report(call, refusal);
+        exit(1);
+    }
+}
+
+/* ---- The line ---- */
+
+struct line {
+    int socket;
+    size_t left; /* so many bytes can still be written until it breaks; only here to show a break */
+};
+
+/* Reads so many bytes; 0: the line is broken. */
+static int read_bytes(struct line *line, uint8_t *bytes, size_t count) {
+    while (count > 0) {
+        ssize_t n = recv(line->socket, bytes, count, MSG_WAITALL);
+        if (n < 0 && errno == EINTR)
+            continue;
+        if (n <= 0)
+            return 0;
+        bytes += n;
+        count -= (size_t)n;
+    }
+    return 1;
+}
+
+/* Reads one packet: its first four bytes, then as many as they say. Gives its length; 0: the line is broken. */
+static size_t read_packet(struct line *line, uint8_t packet[MOST_PACKET]) {
+    size_t size;
+
+    if (!read_bytes(line, packet, 4))
+        return 0;
+    size = ftd_said_length(packet, 4);
+    return read_bytes(line, packet + 4, size - 4) ? size : 0;
+}
+
+/* Writes so many bytes; 0: the line is broken. */
+static int write_bytes(struct line *line, const uint8_t *bytes, size_t count) {
+    size_t rest = count < line->left ? count : line->left;
+    int whole = rest == count;
+
+    line->left -= rest;
+    while (rest > 0) {
+        ssize_t n = send(line->socket, bytes, rest, MSG_NOSIGNAL);
+        if (n < 0 && errno == EINTR)
+            continue;
+        if (n <= 0)
+            return 0;
+        bytes += n;
+        rest -= (size_t)n;
+    }
+    return whole;
+}
+
+/* ---- Contents: data fields, and fields of items ---- */
+
+struct content {
+    uint8_t bytes[FTD_MOST_CONTENT];
+    size_t used;
+};
+
+static void add_field(struct content *content, uint32_t fid, const uint8_t *bytes, size_t count) {
+    struct ftd_written written =
+        ftd_write_field(fid, bytes, count, content->bytes + content->used, sizeof content->bytes - content->used);
+    must("ftd_write_field", written.refusal);
+    content->used += written.bytes;
+}
+
+/* A field of the standard: its items are written one behind the other, from the first on. */
+struct items {
+    uint32_t fid;
+    size_t count; /* written so far */
+    uint8_t bytes[FTD_FIELD_CONTENT];
+    size_t used;
+};
+
+static void start_items(struct items *items, uint32_t fid) {
+    items->fid = fid;
+    items->count = 0;
+    items->used = 0;
+}
+
+static void add_item(struct items *items, struct ftd_item value, const char *text) {
+    struct ftd_written written = ftd_write_item(items->fid, items->count, value, (const uint8_t *)text, strlen(text),
+                                                items->bytes + items->used, sizeof items->bytes - items->used);
+    must("ftd_write_item", written.refusal);
+    items->used += written.bytes;
+    items->count++;
+}
+
+static void add_text(struct items *items, const char *text) {
+    struct ftd_item value;
+
+    memset(&value, 0, sizeof value);
+    value.kind = FTD_TEXT;
+    add_item(items, value, text);
+}
+
+/* FTD_CHAR or FTD_NUMBER. */
+static void add_value(struct items *items, uint8_t kind, uint64_t number) {
+    struct ftd_item value;
+
+    memset(&value, 0, sizeof value);
+    value.kind = kind;
+    value.value = number;
+    add_item(items, value, "");
+}
+
+/* The field is all of the content. */
+static void end_items(const struct items *items, struct content *content) {
+    content->used = 0;
+    add_field(content, items->fid, items->bytes, items->used);
+}
+
+/* What a member sends to log in. The items of each field: Appendix D, crates/ftd/specs/Table.antt. */
+static void request_content(struct content *content, uint16_t series) {
+    struct items items;
+
+    start_items(&items, 0x0023);                            /* ReqUserLoginField */
+    add_value(&items, FTD_CHAR, series == PRIVATE ? 1 : 2); /* DataFlowFlag */
+    add_text(&items, "0042");                               /* ParticipantId */
+    add_text(&items, "seat1");                              /* UserId */
+    add_text(&items, "");                                   /* Password */
+    add_text(&items, "1");                                  /* ConnectionReference */
+    add_text(&items, "example");                            /* ServerAppName */
+    add_text(&items, "1.0");                                /* ProtocolVersion */
+    add_value(&items, FTD_NUMBER, 30);                      /* TimeOut */
+    add_text(&items, "10.0.0.42");                          /* IpAddr */
+    end_items(&items, content);
+}
+
+/* What an exchange answers to a login. */
+static void answer_content(struct content *content, uint16_t series) {
+    struct items items;
+
+    start_items(&items, 0x0027);                            /* RspUserLoginField */
+    add_value(&items, FTD_CHAR, series == PRIVATE ? 1 : 2); /* DataFlowFlag */
+    add_text(&items, "0042");                               /* ParticipantId */
+    add_text(&items, "seat1");                              /* UserId */
+    add_text(&items, "");                                   /* Password */
+    add_text(&items, "2004-12-31 09:00:00");                /* ExchangeDateTime */
+    add_value(&items, FTD_NUMBER, 0);                       /* TimeSpan */
+    add_text(&items, "10.0.0.1");                           /* IpAddr */
+    add_text(&items, "0");                                  /* MaxOrderLocalId */
+    end_items(&items, content);
+}
+
+static void bulletin_content(struct content *content, const char *text) {
+    struct items items;
+
+    start_items(&items, BULLETIN_FIELD);
+    add_text(&items, "001");        /* NewsType */
+    add_value(&items, FTD_CHAR, 0); /* NewsUrgency */
+    add_text(&items, "09:15:00");   /* SendTime */
+    add_text(&items, text);         /* Abstract */
+    add_text(&items, "exchange");   /* ComeFrom */
+    add_text(&items, "");           /* MarketId */
+    add_text(&items, "");           /* Content */
+    add_text(&items, "");           /* URLLink */
+    end_items(&items, content);
+}
+
+/* So many fields of the same length; any bytes will do, as the FID is unknown. */
+static void other_content(struct content *content, size_t fields, size_t length) {
+    static uint8_t bytes[FTD_FIELD_CONTENT];
+    size_t i, j;
+
+    content->used = 0;
+    for (i = 0; i < fields; i++) {
+        for (j = 0; j < length; j++)
+            bytes[j] = (uint8_t)(7 * i + j);
+        add_field(content, OTHER_FIELD, bytes, length);
+    }
+}
+
+/* ---- Buffers; each process has its own ---- */
+
+static struct content content;                    /* what is given to a call */
+static uint8_t packet[MOST_PACKET];               /* what was read from the line */
+static uint8_t output[FTD_MOST_OUTPUT];           /* what is written to the line */
+static uint8_t day_log[LOG_SIZE];                 /* serving: the log */
+static uint8_t buffer[SERIES * FTD_MOST_CONTENT]; /* receiving: the reassembly buffer */
+
+/* ---- The serving side ---- */
+
+static void publish(struct ftd_sender *end, uint16_t series, uint32_t tid) {
+    struct ftd_published published =
+        ftd_publish(*end, series, tid, content.bytes, content.used, day_log, sizeof day_log);
+
+    must("ftd_publish", published.refusal);
+    *end = published.end;
+}
+
+/* Takes a login packet from the line, logs its series in and writes the answer; 0: the line is to be closed. */
+static int serve_login(struct ftd_sender *end, struct line *line) {
+    struct ftd_packet read;
+    struct ftd_resume start;
+    struct ftd_logged_in login;
+    size_t size;
+
+    do {
+        size = read_packet(line, packet);
+        if (size == 0)
+            return 0;
+        read = ftd_read(packet, size);
+    } while (read.answer == FTD_LINK || read.answer == FTD_SKIPPED);
+    start = ftd_find_resume(packet + read.content.start, read.content.len);
+    answer_content(&content, start.series);
+    login = ftd_login(*end, start.series, packet, size, content.bytes, content.used, output, sizeof output);
+    *end = login.end;
+    if (login.refusal != 0) {
+        report("ftd_login", login.refusal);
+        return 0;
+    }
+    return write_bytes(line, output, login.bytes);
+}
+
+/* Sends all that is left of a series; 0: the line is broken. */
+static int serve_messages(struct ftd_sender *end, struct line *line, uint16_t series) {
+    for (;;) {
+        struct ftd_sent sent = ftd_send(*end, series, day_log, sizeof day_log, output, sizeof output);
+
+        must("ftd_send", sent.refusal);
+        *end = sent.end;
+        if (sent.answer == FTD_SEND_NONE)
+            return 1;
+        if (!write_bytes(line, output, sent.bytes))
+            return 0;
+    }
+}
+
+/* All that is done on a line, until it breaks or nothing is left. */
+static void serve_line(struct ftd_sender *end, struct line *line) {
+    static const uint8_t keep_alive[] = {4, 0}; /* the tag of a heartbeat */
+    static const uint8_t body[] = {1, 2, 3};
+    struct ftd_written heartbeat, unknown;
+    size_t i;
+
+    for (i = 0; i < SERIES; i++)
+        if (!serve_login(end, line))
+            return;
+    heartbeat = ftd_write_plain(0, keep_alive, sizeof keep_alive, NULL, 0, output, sizeof output);
+    must("ftd_write_plain", heartbeat.refusal);
+    if (!write_bytes(line, output, heartbeat.bytes))
+        return;
+    unknown = ftd_write_plain(9, NULL, 0, body, sizeof body, output, sizeof output); /* a type that isn't known yet */
+    must("ftd_write_plain", unknown.refusal);
+    if (!write_bytes(line, output, unknown.bytes))
+        return;
+    for (i = 0; i < SERIES; i++)
+        if (!serve_messages(end, line, open_series[i]))
+            return;
+}
+
+static void serve(struct line lines[LINES]) {
+    struct ftd_sender_opened opened = ftd_sender_open(ftd_sender_fresh(), TRADE_DATE, open_series, SERIES);
+    struct ftd_sender end = opened.end;
+
+    must("ftd_sender_open", opened.refusal);
+    other_content(&content, 1, 20); /* one packet */
+    publish(&end, PRIVATE, OTHER);
+    other_content(&content, 5, 4000); /* five */
+    publish(&end, PRIVATE, OTHER);
+    bulletin_content(&content, "Margins as of today: 7 percent");
+    publish(&end, BROADCAST, BULLETIN);
+
+    serve_line(&end, &lines[0]);
+    close(lines[0].socket);
+
+    other_content(&content, 0, 0); /* published while there is no line; a message may have no field */
+    publish(&end, PRIVATE, OTHER);
+
+    serve_line(&end, &lines[1]);
+    close(lines[1].socket);
+}
+
+/* ---- The receiving side ---- */
+
+/* A sum that shows a difference in any byte (FNV-1a). */
+static unsigned sum_of(const uint8_t *bytes, size_t count) {
+    uint32_t sum = 2166136261u;
+    size_t i;
+
+    for (i = 0; i < count; i++)
+        sum = (sum ^ bytes[i]) * 16777619u;
+    return (unsigned)sum;
+}
+
+/* A message that is handed on: here it is printed, field by field. */
+static void hand_on(unsigned series, uint32_t number, uint32_t tid, const uint8_t *bytes, size_t count) {
+    struct ftd_step field;
+    size_t at;
+
+    printf("message %u of series %u: TID %04X, %zu bytes, sum %08X\n", (unsigned)number, series, (unsigned)tid, count,
+           sum_of(bytes, count));
+    for (at = 0; (field = ftd_field_at(bytes, count, at)).found; at += 6 + field.len) {
+        const uint8_t *value = bytes + at + 6;
+
+        printf("  field %04X: %zu bytes, sum %08X\n", (unsigned)field.fid, field.len, sum_of(value, field.len));
+        if (field.fid == BULLETIN_FIELD) {
+            struct ftd_item text = ftd_read_item(field.fid, 3, value, field.len); /* Abstract */
+
+            if (text.kind == FTD_TEXT)
+                printf("    \"%.*s\"\n", (int)text.len, (const char *)value + text.start);
+        }
+    }
+}
+
+/* Takes a packet of the line; 0: the line is to be closed. */
+static int take_packet(struct ftd_receiver *end, size_t size) {
+    struct ftd_received received = ftd_receive(*end, packet, size, buffer, sizeof buffer);
+    const uint8_t *from = received.origin == FTD_IN_BUFFER ? buffer : packet;
+    unsigned series = ftd_read(packet, size).series;
+
+    *end = received.end; /* also where it is refused */
+    switch (received.answer) {
+    case FTD_RECEIVE_IDLE:
+        printf("a packet of type %u that bears no message\n", packet[0]);
+        return 1;
+    case FTD_RECEIVE_AGAIN:
+        printf("a message of series %u again\n", series);
+        return 1;
+    case FTD_RECEIVE_HELD:
+        printf("a part of message %u of series %u\n", (unsigned)received.last + 1, series);
+        return 1;
+    case FTD_RECEIVE_MESSAGE:
+        hand_on(series, received.last, received.tid, from + received.content.start, received.content.len);
+        return 1;
+    default:
+        report("ftd_receive", received.refusal);
+        return 0;
+    }
+}
+
+/* Logs a series in. Other packets may come before the answer. 0: the line is to be closed. */
+static int log_in(struct ftd_receiver *end, struct line *line, uint16_t series) {
+    struct ftd_written request;
+    struct ftd_confirmed confirmed;
+    size_t size;
+
+    request_content(&content, series);
+    request = ftd_request_login(*end, series, content.bytes, content.used, output, sizeof output);
+    must("ftd_request_login", request.refusal);
+    if (!write_bytes(line, output, request.bytes))
+        return 0;
+    for (;;) {
+        size = read_packet(line, packet);
+        if (size == 0)
+            return 0;
+        if (ftd_read(packet, size).tid == LOGIN)
+            break;
+        if (!take_packet(end, size))
+            return 0;
+    }
+    confirmed = ftd_confirm_login(*end, series, packet, size);
+    *end = confirmed.end;
+    if (confirmed.refusal != 0) {
+        report("ftd_confirm_login", confirmed.refusal);
+        return 0;
+    }
+    printf("logged in to series %u, last number %u\n", series, (unsigned)confirmed.last);
+    return 1;
+}
+
+/* All that is done on a line, until it breaks. */
+static void receive_line(struct ftd_receiver *end, struct line *line) {
+    size_t i, size;
+
+    *end = ftd_connect(*end);
+    for (i = 0; i < SERIES; i++)
+        if (!log_in(end, line, open_series[i]))
+            return;
+    while ((size = read_packet(line, packet)) != 0)
+        if (!take_packet(end, size))
+            return;
+}
+
+static void receive(struct line lines[LINES]) {
+    struct ftd_receiver_opened opened = ftd_receiver_open(ftd_receiver_fresh(), open_series, SERIES);
+    struct ftd_receiver end = opened.end;
+    size_t i;
+
+    must("ftd_receiver_open", opened.refusal);
+    for (i = 0; i < LINES; i++) {
+        printf("line %zu\n", i + 1);
+        receive_line(&end, &lines[i]);
+        close(lines[i].socket);
+        printf("line %zu is closed\n", i + 1);
+    }
+}
+
+/* ---- Both ---- */
+
+int main(void) {
+    static const size_t breaks_after[LINES] = {10000, SIZE_MAX}; /* bytes that the serving side can write */
+    struct line serving[LINES], receiving[LINES];
+    int sockets[2], status;
+    pid_t server;
+    size_t i;
+
+    for (i = 0; i < LINES; i++) {
+        if (socketpair(AF_UNIX, SOCK_STREAM, 0, sockets) != 0) {
+            perror("socketpair");
+            return 1;
+        }
+        serving[i].socket = sockets[0];
+        serving[i].left = breaks_after[i];
+        receiving[i].socket = sockets[1];
+        receiving[i].left = SIZE_MAX;
+    }
+    server = fork();
+    if (server < 0) {
+        perror("fork");
+        return 1;
+    }
+    for (i = 0; i < LINES; i++)
+        close(server == 0 ? receiving[i].socket : serving[i].socket);
+    if (server == 0) {
+        serve(serving);
+        return 0;
+    }
+    receive(receiving);
+    if (waitpid(server, &status, 0) != server || !WIFEXITED(status) || WEXITSTATUS(status) != 0) {
+        fprintf(stderr, "the serving side failed\n");
+        return 1;
+    }
+    return 0;
+}

@@ -1,0 +1,493 @@
+/* The FTD flow repeater (JR/T 0016-2004) for C and C++: packets, data fields and items, and the two ends of a flow.
+ *
+ * The library is libftd.a, for x86-64 Linux; README.md has the lines that build and link it. Of other libraries it
+ * needs memcpy and memset alone. It keeps no state, takes no memory from the heap and at most 5000 bytes of stack,
+ * makes no system call and always returns: each call has an answer for any bytes and numbers, and is proved to give the
+ * answer, the state and every byte of every buffer that its definition says (crates/exports/specs, crates/flow/specs,
+ * crates/ftd/specs). As calls share nothing, threads need no lock. examples/driver.c is a driver of both ends, to be
+ * read along with this header.
+ *
+ * THE TERMS
+ * A flow is a list of messages, numbered from 1 in each series and day. A series is a number from 1 up that both sides
+ * know; a day is known by its trade date, any number of four bytes that is higher than that of the day before.
+ * A message has a TID, which says what it is, and a content: data fields one behind the other, each with FID (4 bytes,
+ * which field it is), length (2 bytes) and that many bytes. The bytes of a field that the standard knows are its items,
+ * of fixed widths. All numbers on the line have their high byte first.
+ * On the line there are packets: type (1 byte), length of the extension (1), length of the body (2), then extension and
+ * body. A message is one packet (chain letter S) or a chain of them (F, C as often as needed, L), all with one number.
+ * Up is from member to exchange, down from exchange to member; the messages of flows and login answers are down, login
+ * packets are up.
+ *
+ * THE TWO ENDS
+ * The serving end keeps what is published in a log and sends it; it serves one receiving end. The receiving end hands
+ * each message on once and in order, wherever lines break and whatever they bring again, as long as a line brings the
+ * packets of a message in their order and none without those before it, as TCP does. On each new line:
+ *
+ *     receiving end                                    serving end
+ *     ftd_connect
+ *     for each series:
+ *       ftd_request_login  ---- login packet ------>   ftd_login
+ *       ftd_confirm_login  <--- login answer -------
+ *     ftd_receive          <--- message packets ----   ftd_send until FTD_SEND_NONE, and again when more is published
+ *
+ * When the line breaks, or a packet on it is refused, close it, open another and start over. The login packet says
+ * which number is wanted next, and the serving end goes on there; a message of which only some packets came is sent
+ * anew. The serving end doesn't know of lines: send nothing on a new one before ftd_login was called for the series.
+ *
+ * RULES OF ALL CALLS
+ * Bytes are lent as a pointer and a count. A call reads and writes only within what it is lent, and keeps no pointer.
+ * Where the count is 0 the pointer may be null. What a call writes to (output, log, buffer) must not overlap what it
+ * reads.
+ * A state (struct ftd_sender, struct ftd_receiver) is given and answered by value: the caller keeps `end` of the answer
+ * from then on, also of a refusal. It is plain data with no pointer; it may be copied, compared member by member and
+ * laid away. Any values of its members are a state.
+ * `refusal` is 0, or a number of enum ftd_refusal: then the call did nothing, state and buffers are as they were (one
+ * exception is said at ftd_receive). Where more than one refusal applies, the answer is the one that stands first in
+ * the call's list below. What an answer doesn't have is 0: of a refusal all but `refusal`, `answer` and `end`.
+ */
+#ifndef FTD_H
+#define FTD_H
+
+#include <stddef.h>
+#include <stdint.h>
+
+/* ---- Numbers by name ---- */
+
+/* The refusal table. */
+enum ftd_refusal {
+    FTD_LONG_EXTENSION = 1,  /* a packet's extension has more than 127 bytes */
+    FTD_BROKEN_TAG = 2,      /* tags don't end with the extension, a known tag has a wrong length, tag 5 stands twice */
+    FTD_BODY_LENGTH = 3,     /* a packet of type 1 has a body of 1 to 15 or of more than 4096 bytes */
+    FTD_VERSION = 4,         /* a message packet's version isn't 1 */
+    FTD_CHAIN_LETTER = 5,    /* a message packet's chain letter isn't S, F, C or L */
+    FTD_CONTENT_LENGTH = 6,  /* a message packet's content length isn't that of its body less 16 */
+    FTD_FIELD_RUN = 7,       /* the content isn't whole data fields, or not as many as the packet says; content given to
+                                a call: also a field of more than 4074 bytes, or too many bytes in all */
+    FTD_FIELD_LENGTH = 8,    /* a data field with a known FID has another length than its items together */
+    FTD_ITEM = 9,            /* an item is no value of its type */
+    FTD_COMPOSITION = 10,    /* make-up: a data field occurs too seldom or too often for its message; in a login also:
+                                another TID than 0x0016, not one packet (S), a start field too many */
+    FTD_OPENING = 11,        /* not 1 to 8 differing series from 1 up, a trade date that isn't above the present one, a
+                                receiving end that is open already */
+    FTD_NOT_ONE_PACKET = 12, /* not exactly the bytes of one packet; in a login also: no message packet */
+    FTD_UNKNOWN_SERIES = 13, /* the series isn't open; ftd_login also: the start field is of another series */
+    FTD_NOT_LOGGED_IN = 14,  /* no login of the series */
+    FTD_OTHER_DAY = 15,      /* ftd_receive: another trade date than the day's; ftd_confirm_login: a lower one or none;
+                                ftd_login: a higher one */
+    FTD_OUT_OF_LINE = 16,    /* ftd_receive: number 0, above last + 1 or above 1000000; in a login: series and number of
+                                the packet aren't 0 */
+    FTD_BROKEN_CHAIN = 17,   /* C or L without its chain */
+    FTD_TOO_SMALL = 18,      /* the output, the log or the reassembly buffer has too few bytes, or a chain too many */
+    FTD_WRONG_START = 19,    /* the login wants number 0, or one above those published and the next */
+    FTD_DAMAGED_LOG = 20,    /* the log isn't as the last call left it */
+    FTD_DAY_FULL = 21,       /* 1000000 messages are published in the series */
+    FTD_NOT_PLAIN = 255      /* ftd_write_plain alone: neither a link packet nor a skipped one; not in the table */
+};
+
+/* The direction of a message. */
+enum ftd_direction {
+    FTD_UP = 0,  /* sent by the member */
+    FTD_DOWN = 1 /* sent by the exchange */
+};
+
+/* Limits. A packet takes at most 4 + 255 + 65535 bytes on the line (65794), a right message packet 4 + 127 + 4096. */
+enum ftd_limit {
+    FTD_MOST_SERIES = 8,         /* series open at an end */
+    FTD_MOST_MESSAGES = 1000000, /* messages of a series and day */
+    FTD_MOST_EXTENSION = 127,    /* bytes of a packet's extension */
+    FTD_FIELD_CONTENT = 4074,    /* bytes of a data field, without FID and length */
+    FTD_PACKET_CONTENT = 4080,   /* content bytes of a packet, so also of the answer that is given to ftd_login */
+    FTD_REQUEST_CONTENT = 4068,  /* content bytes given to ftd_request_login, which puts 12 behind them */
+    FTD_MOST_CONTENT = 32768,    /* content bytes of a message; bytes of the reassembly buffer for each series */
+    FTD_MOST_PACKETS = 17,       /* packets of a message */
+    FTD_MOST_OUTPUT = 33210,     /* bytes of all packets of a message: an output that is always large enough */
+    FTD_LOG_HEAD = 16            /* bytes that a message takes in the log besides its content */
+};
+
+/* A part of lent bytes. */
+struct ftd_span {
+    size_t start; /* where it starts: bytes[start] is its first byte */
+    size_t len;   /* how many bytes it has */
+};
+
+/* What a writer wrote. */
+struct ftd_written {
+    size_t bytes;    /* how many bytes stand at the start of the output; what stood behind them is still there */
+    uint8_t refusal; /* 0, or why nothing was written */
+};
+
+/* ---- Packets ---- */
+
+/* What some bytes are. */
+enum ftd_answer {
+    FTD_SHORT = 0,   /* the front of a packet: bytes are missing */
+    FTD_LINK = 1,    /* a link packet: type 0 or 1 with no body, as a heartbeat */
+    FTD_SKIPPED = 2, /* a packet of type 2 or higher, or of type 0 with a body: to be passed over */
+    FTD_MESSAGE = 3, /* a message packet: type 1 with a body */
+    FTD_REFUSED = 4  /* wrong bytes: see refusal */
+};
+
+/* A packet that was read; places count from its first byte. The words in front say which answers have the member. */
+struct ftd_packet {
+    size_t size;               /* link, skipped, message: bytes of the whole packet; the next one starts behind them */
+    struct ftd_span extension; /* link, skipped, message: its extension */
+    struct ftd_span content;   /* message: its content; skipped: its body */
+    uint32_t tid;              /* message: TID */
+    uint32_t number;           /* message: its number in the series; 0 in a login */
+    uint32_t date;             /* link, message: the trade date (tag 5 of the extension), where dated is 1 */
+    uint16_t series;           /* message: series; 0 in a login */
+    uint16_t fields;           /* message: how many data fields the packet has */
+    uint8_t answer;            /* enum ftd_answer */
+    uint8_t refusal;           /* refused: 1 to 7 */
+    uint8_t kind;              /* link, skipped, message: the type */
+    uint8_t chain;             /* message: the letter 'S', 'F', 'C' or 'L' */
+    uint8_t dated;             /* link, message: 1 where there is a trade date */
+};
+
+/* A trade date. */
+struct ftd_date {
+    uint32_t date;
+    uint8_t dated; /* 1: there is one */
+};
+
+/* What all packets of a message bear. */
+struct ftd_message {
+    uint32_t tid;
+    uint32_t number;
+    uint32_t date; /* written as tag 5, the only tag, unless dated is 0 */
+    uint16_t series;
+    uint8_t dated; /* 0: no trade date, and no extension */
+};
+
+/* What a message takes on the line. */
+struct ftd_size {
+    size_t packets;
+    size_t bytes;    /* of all packets together */
+    uint8_t refusal; /* 0, or FTD_FIELD_RUN */
+};
+
+/* ---- Data fields and items ---- */
+
+/* A data field. */
+struct ftd_field {
+    size_t start; /* where its bytes start, without FID and length */
+    size_t len;   /* how many they are */
+    uint32_t fid;
+    uint8_t found; /* 0: there is none */
+};
+
+/* A data field at a place that the caller knows. */
+struct ftd_step {
+    size_t len; /* how many bytes it has, without FID and length */
+    uint32_t fid;
+    uint8_t found; /* 0: there is none */
+};
+
+/* The kinds of an item's value. Text is any bytes from 0x20 up but 0x7F, as the market's character set has them. */
+enum ftd_kind {
+    FTD_NO_ITEM = 0,  /* no item with that number, or its bytes aren't all there */
+    FTD_NO_VALUE = 1, /* its bytes are no value of its type */
+    FTD_CHAR = 2,     /* value: 0 to 255 */
+    FTD_WORD = 3,     /* value: 0 to 65535 */
+    FTD_INT = 4,      /* value: 0 to 4294967295 */
+    FTD_TEXT = 5,     /* a String: start, len */
+    FTD_NUMBER = 6,   /* value, negative */
+    FTD_FLOAT = 7,    /* value, negative; value counts units of the item's last decimal place: 12.50 is 1250 */
+    FTD_DAY = 8,      /* a Date: year, month, day */
+    FTD_UNUSED = 9    /* a Date of spaces */
+};
+
+/* An item's value. A member that the kind doesn't name is 0 when read, and not looked at when written. */
+struct ftd_item {
+    size_t start;     /* where the text starts in the field's bytes; when written, not looked at */
+    size_t len;       /* how many bytes it has without trailing spaces; when written, not looked at */
+    uint64_t value;   /* without the sign */
+    uint16_t year;    /* 0 to 9999 */
+    uint8_t month;    /* 1 to 12 */
+    uint8_t day;      /* 1 to 31, in each month */
+    uint8_t kind;     /* enum ftd_kind; when written, any other number is FTD_NO_VALUE */
+    uint8_t negative; /* 1: below zero; when written, any number but 0 */
+};
+
+/* The start field of a content (FID 4): the series and the next number that a login wants. */
+enum ftd_start {
+    FTD_NO_START = 0,     /* it has none */
+    FTD_START = 1,        /* it has one */
+    FTD_BAD_START = 2,    /* it has one, of another length than six bytes */
+    FTD_SEVERAL_START = 3 /* it has more than one */
+};
+
+struct ftd_resume {
+    uint32_t number; /* the next number wanted */
+    uint16_t series;
+    uint8_t answer; /* enum ftd_start; series and number are 0 where it isn't FTD_START */
+};
+
+/* The mode of a message (Appendix A). */
+enum ftd_mode {
+    FTD_UNKNOWN = 0, /* no message of the standard */
+    FTD_PRIVATE = 1,
+    FTD_BROADCAST = 2,
+    FTD_MANAGEMENT = 3, /* of flows: login and the like */
+    FTD_DIALOG = 4
+};
+
+/* ---- The serving end: state and answers ---- */
+
+/* A series that is served. */
+struct ftd_served {
+    uint64_t next;      /* the number that is sent next, where logged in */
+    uint32_t published; /* how many messages were published, so the last one's number */
+    uint16_t series;
+    uint8_t login; /* not 0: logged in */
+};
+
+struct ftd_sender {
+    size_t used;                               /* bytes of the log in use, from its start */
+    struct ftd_served series[FTD_MOST_SERIES]; /* the first `count` are open, in the opening's order */
+    size_t count;
+    uint32_t date; /* the day's trade date, unless dated is 0 */
+    uint8_t dated;
+};
+
+struct ftd_sender_opened {
+    struct ftd_sender end;
+    uint8_t refusal;
+};
+
+struct ftd_published {
+    struct ftd_sender end;
+    uint32_t number; /* the message's number */
+    uint8_t refusal;
+};
+
+struct ftd_logged_in {
+    struct ftd_sender end;
+    size_t bytes; /* how many were written: the login answer, one packet */
+    uint8_t refusal;
+};
+
+enum ftd_send_answer {
+    FTD_SEND_NONE = 0,    /* all that is published has been sent; nothing was written */
+    FTD_SEND_MESSAGE = 1, /* a message's packets were written */
+    FTD_SEND_REFUSED = 2  /* see refusal */
+};
+
+struct ftd_sent {
+    struct ftd_sender end;
+    size_t bytes;    /* message: how many were written, all packets together */
+    uint32_t number; /* message: its number */
+    uint8_t answer;  /* enum ftd_send_answer */
+    uint8_t refusal;
+};
+
+/* ---- The receiving end: state and answers ---- */
+
+/* What is kept of a series. Trade date and last number outlast the line; the rest is of this line. */
+struct ftd_kept {
+    size_t held;   /* content bytes of the open chain that the reassembly buffer holds */
+    uint32_t date; /* the day's trade date, unless dated is 0: no login was confirmed yet */
+    uint32_t last; /* the number of the last message that was handed on in the day, 0 at first */
+    uint32_t tid;  /* of the open chain */
+    uint16_t series;
+    uint8_t dated;
+    uint8_t login; /* not 0: logged in */
+    uint8_t chain; /* not 0: a chain is open */
+};
+
+struct ftd_receiver {
+    struct ftd_kept series[FTD_MOST_SERIES]; /* the first `count` are open, in the opening's order */
+    size_t count;                            /* 0: not opened yet */
+};
+
+struct ftd_receiver_opened {
+    struct ftd_receiver end;
+    uint8_t refusal;
+};
+
+struct ftd_confirmed {
+    struct ftd_receiver end;
+    uint32_t last; /* the series' last number: 0 on a new day */
+    uint8_t refusal;
+};
+
+enum ftd_receive_answer {
+    FTD_RECEIVE_IDLE = 0,    /* a link packet or a skipped one: nothing to do */
+    FTD_RECEIVE_AGAIN = 1,   /* a packet of a message that was handed on before: nothing to do */
+    FTD_RECEIVE_HELD = 2,    /* a packet of a chain, not its last: held in the reassembly buffer */
+    FTD_RECEIVE_MESSAGE = 3, /* a message is handed on */
+    FTD_RECEIVE_REFUSED = 4  /* see refusal */
+};
+
+enum ftd_origin {
+    FTD_IN_PACKET = 0, /* the content lies in the packet that was given */
+    FTD_IN_BUFFER = 1  /* the content lies in the reassembly buffer */
+};
+
+struct ftd_received {
+    struct ftd_receiver end;
+    struct ftd_span content; /* message: where its content lies, from the first byte of the packet or of the buffer */
+    uint32_t last;           /* again, held, message: the series' last number; of a message its own */
+    uint32_t tid;            /* message: TID */
+    uint8_t answer;          /* enum ftd_receive_answer */
+    uint8_t origin;          /* message: enum ftd_origin, which of the two holds the content */
+    uint8_t refusal;
+};
+
+#ifdef __cplusplus
+extern "C" {
+#endif
+
+/* ---- Packets ---- */
+
+/* Reads the packet at the front of the bytes. Bytes behind it aren't looked at, so a run of packets is read by going on
+ * by `size`. In a message packet the content is checked to be whole data fields (7), items aren't looked at.
+ * Refusals: 1, 3, 2, 4, 5, 6, 7. */
+struct ftd_packet ftd_read(const uint8_t *bytes, size_t count);
+
+/* How many bytes the packet at the front of the bytes takes in all, as its first four say: 4 to 65794; 0 where count is
+ * below 4. So a packet is read from a line in two steps: 4 bytes, then ftd_said_length(bytes, 4) - 4 more, if any.
+ * Nothing else is looked at. */
+size_t ftd_said_length(const uint8_t *bytes, size_t count);
+
+/* Of the bytes of a packet's extension: the first trade date (tag 5), where it has four bytes; and 1 where there is the
+ * keep-alive tag (tag 4), else 0. Tags are walked from the front as far as they are whole. */
+struct ftd_date ftd_trade_date(const uint8_t *extension, size_t count);
+uint8_t ftd_keep_alive(const uint8_t *extension, size_t count);
+
+/* How many packets a message with this content takes, and how many bytes in all. Refusal: 7 (not whole data fields of
+ * at most 4074 bytes, or more than FTD_MOST_CONTENT in all). */
+struct ftd_size ftd_message_size(struct ftd_message message, const uint8_t *content, size_t count);
+
+/* Writes all packets of the message, one behind the other, to the start of the output. Refusals: 7 (as above), 18. */
+struct ftd_written ftd_write_message(struct ftd_message message, const uint8_t *content, size_t count,
+                                     uint8_t *output, size_t room);
+
+/* Writes a link packet (type `kind` 0 or 1, no body) or a skipped one (type 0 with a body, any other type) to the start
+ * of the output: type, lengths, the extension's bytes, the body's. `count` is the body's.
+ * Refusals: 1, 3, FTD_NOT_PLAIN (type 1 with a body of 16 to 4096, another type with one of more than 65535), 2 (not of
+ * a skipped packet), 18. */
+struct ftd_written ftd_write_plain(uint8_t kind, const uint8_t *extension, size_t extension_len,
+                                   const uint8_t *body, size_t count, uint8_t *output, size_t room);
+
+/* ---- Data fields and items ---- */
+
+/* Data field i, counted from 0, of the message packet at the front of the bytes; its start counts from the packet's
+ * first byte. None from the packet's field count on, and none where the bytes are no message packet. Each call reads
+ * the packet anew; to walk all fields use ftd_field_at. */
+struct ftd_field ftd_find_field(const uint8_t *bytes, size_t count, size_t i);
+
+/* The data field at place `at` of a content (of a packet or of a whole message): its bytes start at `at` + 6, the next
+ * field at `at` + 6 + len. None where no whole field stands there, as at the content's end. All fields:
+ *     for (at = 0; (step = ftd_field_at(content, count, at)).found; at += 6 + step.len) */
+struct ftd_step ftd_field_at(const uint8_t *content, size_t count, size_t at);
+
+/* Writes a data field, FID, length and bytes, to the start of the output. The items aren't checked.
+ * Refusals: 7 (more than 4074 bytes), 18. */
+struct ftd_written ftd_write_field(uint32_t fid, const uint8_t *bytes, size_t count, uint8_t *output, size_t room);
+
+/* The content check for a message: 0, or the first refusal of 7, 8, 9, 10. direction: enum ftd_direction, any number
+ * but 0 is down. limit: the most bytes that the content may have (7): FTD_MOST_CONTENT for a message,
+ * FTD_PACKET_CONTENT for a packet, FTD_REQUEST_CONTENT for a login packet that still has to take a start field.
+ * Of a TID that the standard doesn't have in that direction the make-up (10) isn't checked, of such a FID neither 8 nor
+ * 9. */
+uint8_t ftd_check(uint32_t tid, uint8_t direction, const uint8_t *content, size_t count, size_t limit);
+
+/* Item i, counted from 0, of a field with that FID, in the field's bytes (without FID and length). Bytes behind the
+ * item may be missing. Which items a field has, of which types and widths: Appendix D, crates/ftd/specs/Table.antt. */
+struct ftd_item ftd_read_item(uint32_t fid, size_t i, const uint8_t *field, size_t count);
+
+/* Writes a value as item i of a field with that FID to the start of the output: as many bytes as the item has, a text
+ * with spaces behind it, a number with zeros in front. The text of FTD_TEXT is lent beside the value; of other kinds it
+ * isn't looked at. Items written one behind the other from 0 on are the field's bytes.
+ * Refusals: 9 (no such item, a kind that isn't the item's, or a value that it can't have: too long, not in its
+ * enumeration, a text with a trailing space), 18. */
+struct ftd_written ftd_write_item(uint32_t fid, size_t i, struct ftd_item value, const uint8_t *text, size_t count,
+                                  uint8_t *output, size_t room);
+
+/* The mode of the message with that TID: enum ftd_mode. */
+uint8_t ftd_mode_of(uint32_t tid);
+
+/* The start field (FID 4) of a content, looked for as far as its fields are whole. A serving side learns here which
+ * series a login packet is for. */
+struct ftd_resume ftd_find_resume(const uint8_t *content, size_t count);
+
+/* Writes the start field, 12 bytes with FID and length, to the start of the output. Refusal: 18.
+ * (ftd_request_login does so by itself.) */
+struct ftd_written ftd_write_resume(uint16_t series, uint32_t number, uint8_t *output, size_t room);
+
+/* ---- The serving end ---- */
+
+/* An end with no series, no day and no login. */
+struct ftd_sender ftd_sender_fresh(void);
+
+/* Opening of a day: a trade date above the present one, if any, and 1 to 8 differing series from 1 up, in any order. It
+ * empties log and logins (the log's bytes stay, and are overwritten). `count` is how many series are lent.
+ * Refusal: 11. */
+struct ftd_sender_opened ftd_sender_open(struct ftd_sender end, uint32_t date, const uint16_t *series, size_t count);
+
+/* Publish: the message gets the next number of its series, and goes into the log behind the used part, FTD_LOG_HEAD
+ * bytes more than its content. All series share one log; every call is lent the same bytes, as the last call left them
+ * (the log may be moved or lengthened in between). The content is checked as one that is sent down; the fields that a
+ * message needs: Appendix E, crates/ftd/specs/Composition.antt.
+ * Refusals: 7, 8, 9, 10, 13, 20, 18, 21. */
+struct ftd_published ftd_publish(struct ftd_sender end, uint16_t series, uint32_t tid,
+                                 const uint8_t *content, size_t count, uint8_t *log, size_t log_len);
+
+/* Login: takes the login packet of a receiving end (ftd_request_login) for a series (ftd_find_resume tells which), and
+ * writes the answer, one packet with the given content, to the output. The content is an RspUserLoginField (FID
+ * 0x0027), with an ErrorField (0x0005) or unlisted ones if wanted; FTD_PACKET_CONTENT bytes at most. The output needs
+ * 26 bytes more than the content.
+ * Then ftd_send goes on at the number that the packet's start field asks for: at 1 where it has none, or where the
+ * packet's trade date is below the day's. A series that is logged in may log in again.
+ * Refusals: 12, 1, 2, 4, 5, 6, 7, 8, 9, 10, 13, 15, 16, 18, 19; 7 to 10 are of the packet and of the content. */
+struct ftd_logged_in ftd_login(struct ftd_sender end, uint16_t series, const uint8_t *packet, size_t packet_len,
+                               const uint8_t *content, size_t count, uint8_t *output, size_t room);
+
+/* Send: writes all packets of the series' next message to the output, one behind the other, and steps on. An output of
+ * FTD_MOST_OUTPUT bytes is always enough. The log is read from its start up to the message, so that one far behind
+ * takes longer.
+ * Refusals: 13, 14, then FTD_SEND_NONE where nothing is left, 20, 18. */
+struct ftd_sent ftd_send(struct ftd_sender end, uint16_t series, const uint8_t *log, size_t log_len,
+                         uint8_t *output, size_t room);
+
+/* ---- The receiving end ---- */
+
+/* An end with no series. */
+struct ftd_receiver ftd_receiver_fresh(void);
+
+/* Opening: 1 to 8 differing series from 1 up, in any order, once for the end's life; days come with the login answers.
+ * `count` is how many series are lent. Refusal: 11. */
+struct ftd_receiver_opened ftd_receiver_open(struct ftd_receiver end, const uint16_t *series, size_t count);
+
+/* Connect: a new line. Login and open chain of all series are cleared; trade dates and last numbers stay. */
+struct ftd_receiver ftd_connect(struct ftd_receiver end);
+
+/* Ask: writes the login packet of a series to the output: the given content and, behind it, the start field for the
+ * number after the last. The content is a ReqUserLoginField (FID 0x0023), with unlisted fields if wanted, and no start
+ * field; FTD_REQUEST_CONTENT bytes at most. The output needs at most 38 bytes more than the content. The end stays as
+ * it is, and isn't answered.
+ * Refusals: 7, 8, 9, 10, 13, 18. */
+struct ftd_written ftd_request_login(struct ftd_receiver end, uint16_t series, const uint8_t *content, size_t count,
+                                     uint8_t *output, size_t room);
+
+/* Answer: takes the serving end's answer to the login packet of that series: the message packet with TID 0x0016 (it
+ * doesn't say which series it is for; answers come in the order of the login packets). A higher trade date than the
+ * kept one starts a new day, with last number 0; an equal one goes on behind the last.
+ * Refusals: 12, 1, 2, 4, 5, 6, 7, 8, 9, 10, 13, 15, 16. */
+struct ftd_confirmed ftd_confirm_login(struct ftd_receiver end, uint16_t series,
+                                       const uint8_t *packet, size_t packet_len);
+
+/* Receive: takes one packet, any but a login answer (of which it says 13). The reassembly buffer has FTD_MOST_CONTENT
+ * bytes for each series, in the opening's order; every call is lent the same one, as the last call left it.
+ * A message that is handed on has its number in `last`; its series is that of the packet (ftd_read). Its content stays
+ * where it is until the caller overwrites the packet, or until the next call with the buffer.
+ * Refusals: 12, 1, 3, 2, 4, 5, 6, 7, 13, 14, 15, 16, 17, 18. From 15 on the series' open chain is dropped, in `end`. */
+struct ftd_received ftd_receive(struct ftd_receiver end, const uint8_t *packet, size_t packet_len,
+                                uint8_t *buffer, size_t buffer_len);
+
+#ifdef __cplusplus
+}
+#endif
+
+#endif

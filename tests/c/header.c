@@ -1,0 +1,494 @@
+/* The header's use from C and C++: sizes of its structs, calls of each function with the answer that they have to give,
+ * each refusal by its name, a null pointer with count 0 for each slice that is lent, and states of any values. */
+#include "ftd.h"
+#include <stdio.h>
+#include <string.h>
+
+static int failed;
+
+static void expect(int right, const char *what, int line) {
+    if (!right) {
+        printf("header.c:%d: not so: %s\n", line, what);
+        failed = 1;
+    }
+}
+
+#define EXPECT(right) expect(right, #right, __LINE__)
+
+/* A message packet: TID 0x2004, S, series 1, number 2, one field with FID 0x4000 and two bytes, behind a trade date. */
+static const uint8_t dated[34] = {1, 6, 0, 24, 5, 4, 0, 0, 0, 9, 1, 0,    0, 0x20, 4, 'S', 0,
+                                  1, 0, 0, 0,  2, 0, 1, 0, 8, 0, 0, 0x40, 0, 0,    2, 7,   8};
+static const uint8_t *const dated_content = dated + 26;
+static const uint8_t heart[6] = {0, 2, 0, 0, 4, 0};
+static const uint8_t skipped[7] = {7, 1, 0, 2, 9, 8, 8};
+
+/* ---- Sizes ---- */
+
+static void sizes(void) {
+    EXPECT(sizeof(struct ftd_span) == 16);
+    EXPECT(sizeof(struct ftd_written) == 16);
+    EXPECT(sizeof(struct ftd_packet) == 64);
+    EXPECT(sizeof(struct ftd_date) == 8);
+    EXPECT(sizeof(struct ftd_message) == 16);
+    EXPECT(sizeof(struct ftd_size) == 24);
+    EXPECT(sizeof(struct ftd_field) == 24);
+    EXPECT(sizeof(struct ftd_step) == 16);
+    EXPECT(sizeof(struct ftd_item) == 32);
+    EXPECT(sizeof(struct ftd_resume) == 8);
+    EXPECT(sizeof(struct ftd_served) == 16);
+    EXPECT(sizeof(struct ftd_sender) == 152);
+    EXPECT(sizeof(struct ftd_sender_opened) == 160);
+    EXPECT(sizeof(struct ftd_published) == 160);
+    EXPECT(sizeof(struct ftd_logged_in) == 168);
+    EXPECT(sizeof(struct ftd_sent) == 168);
+    EXPECT(sizeof(struct ftd_kept) == 32);
+    EXPECT(sizeof(struct ftd_receiver) == 264);
+    EXPECT(sizeof(struct ftd_receiver_opened) == 272);
+    EXPECT(sizeof(struct ftd_confirmed) == 272);
+    EXPECT(sizeof(struct ftd_received) == 296);
+}
+
+/* ---- Packets ---- */
+
+static void packets_read(void) {
+    struct ftd_packet p = ftd_read(dated, sizeof dated);
+    struct ftd_packet link = ftd_read(heart, sizeof heart);
+    struct ftd_packet other = ftd_read(skipped, sizeof skipped);
+    struct ftd_date date = ftd_trade_date(dated + 4, 6);
+
+    EXPECT(p.answer == FTD_MESSAGE && p.refusal == 0 && p.kind == 1 && p.size == sizeof dated);
+    EXPECT(p.extension.start == 4 && p.extension.len == 6 && p.content.start == 26 && p.content.len == 8);
+    EXPECT(p.tid == 0x2004 && p.chain == 'S' && p.series == 1 && p.number == 2 && p.fields == 1);
+    EXPECT(p.dated == 1 && p.date == 9);
+    EXPECT(link.answer == FTD_LINK && link.kind == 0 && link.size == 6 && link.extension.len == 2 && link.dated == 0);
+    EXPECT(other.answer == FTD_SKIPPED && other.kind == 7 && other.size == 7 && other.content.start == 5 &&
+           other.content.len == 2);
+    EXPECT(ftd_read(dated, 33).answer == FTD_SHORT && ftd_read(dated, 33).size == 0);
+    EXPECT(ftd_said_length(dated, 4) == 34 && ftd_said_length(dated, 3) == 0);
+    EXPECT(date.dated == 1 && date.date == 9 && ftd_trade_date(heart + 4, 2).dated == 0);
+    EXPECT(ftd_keep_alive(heart + 4, 2) == 1 && ftd_keep_alive(dated + 4, 6) == 0);
+}
+
+/* The packet with another byte at a place, as ftd_read refuses it. */
+static uint8_t refused_with(size_t at, uint8_t byte) {
+    uint8_t bytes[sizeof dated];
+    struct ftd_packet p;
+
+    memcpy(bytes, dated, sizeof dated);
+    bytes[at] = byte;
+    p = ftd_read(bytes, sizeof bytes);
+    EXPECT(p.answer == FTD_REFUSED && p.size == 0 && p.tid == 0 && p.dated == 0);
+    return p.refusal;
+}
+
+static void packets_refused(void) {
+    EXPECT(refused_with(1, 128) == FTD_LONG_EXTENSION);
+    EXPECT(refused_with(5, 3) == FTD_BROKEN_TAG);
+    EXPECT(refused_with(3, 15) == FTD_BODY_LENGTH);
+    EXPECT(refused_with(10, 2) == FTD_VERSION);
+    EXPECT(refused_with(15, 's') == FTD_CHAIN_LETTER);
+    EXPECT(refused_with(25, 9) == FTD_CONTENT_LENGTH);
+    EXPECT(refused_with(23, 2) == FTD_FIELD_RUN);
+}
+
+static void packets_written(void) {
+    const struct ftd_message message = {0x2004, 2, 9, 1, 1};
+    uint8_t out[64];
+    struct ftd_size size = ftd_message_size(message, dated_content, 8);
+    struct ftd_written written;
+
+    memset(out, 0xA5, sizeof out);
+    written = ftd_write_message(message, dated_content, 8, out, 33);
+    EXPECT(written.refusal == FTD_TOO_SMALL && written.bytes == 0 && out[0] == 0xA5);
+    written = ftd_write_message(message, dated_content, 8, out, sizeof out);
+    EXPECT(written.refusal == 0 && written.bytes == sizeof dated && memcmp(out, dated, sizeof dated) == 0);
+    EXPECT(out[sizeof dated] == 0xA5);
+    EXPECT(size.refusal == 0 && size.packets == 1 && size.bytes == sizeof dated);
+    EXPECT(ftd_message_size(message, dated_content, 7).refusal == FTD_FIELD_RUN);
+    EXPECT(ftd_write_message(message, dated_content, 7, out, sizeof out).refusal == FTD_FIELD_RUN);
+    EXPECT(ftd_write_plain(0, heart + 4, 2, NULL, 0, out, 6).bytes == 6 && memcmp(out, heart, 6) == 0);
+    EXPECT(ftd_write_plain(7, skipped + 4, 1, skipped + 5, 2, out, 7).bytes == 7 && memcmp(out, skipped, 7) == 0);
+    EXPECT(ftd_write_plain(7, skipped + 4, 1, skipped + 5, 2, out, 6).refusal == FTD_TOO_SMALL);
+    EXPECT(ftd_write_plain(0, skipped + 4, 1, NULL, 0, out, sizeof out).refusal == FTD_BROKEN_TAG);
+    EXPECT(ftd_write_plain(1, NULL, 0, dated, 15, out, sizeof out).refusal == FTD_BODY_LENGTH);
+    EXPECT(ftd_write_plain(1, NULL, 0, dated, 16, out, sizeof out).refusal == FTD_NOT_PLAIN);
+}
+
+/* ---- Data fields and items ---- */
+
+static void fields(void) {
+    uint8_t out[16];
+    struct ftd_field field = ftd_find_field(dated, sizeof dated, 0);
+    struct ftd_step step = ftd_field_at(dated_content, 8, 0);
+
+    EXPECT(field.found == 1 && field.fid == 0x4000 && field.start == 32 && field.len == 2);
+    EXPECT(ftd_find_field(dated, sizeof dated, 1).found == 0 && ftd_find_field(heart, 6, 0).found == 0);
+    EXPECT(step.found == 1 && step.fid == 0x4000 && step.len == 2);
+    EXPECT(ftd_field_at(dated_content, 8, 1).found == 0 && ftd_field_at(dated_content, 8, 8).found == 0);
+    EXPECT(ftd_field_at(dated_content, 8, SIZE_MAX).found == 0);
+    EXPECT(ftd_write_field(0x4000, dated + 32, 2, out, 8).bytes == 8 && memcmp(out, dated_content, 8) == 0);
+    EXPECT(ftd_write_field(0x4000, dated + 32, 2, out, 7).refusal == FTD_TOO_SMALL);
+}
+
+static void contents_checked(void) {
+    static const uint8_t narrow[] = {0, 0, 0, 4, 0, 1, 0};
+    static const uint8_t wrong[] = {0, 0, 0, 0x2D, 0, 44, 0x7F, 0, 0, 0, 0, 0, 0, 0, 0, 0, 0, 0, 0, 0, 0, 0, 0, 0, 0,
+                                    0, 0, 0, 0,    0, 0,  0,    0, 0, 0, 0, 0, 0, 0, 0, 0, 0, 0, 0, 0, 0, 0, 0, 0, 0};
+
+    EXPECT(sizeof wrong == 50);
+    EXPECT(ftd_check(0x2004, FTD_DOWN, dated_content, 8, FTD_PACKET_CONTENT) == 0);
+    EXPECT(ftd_check(0x2004, FTD_DOWN, dated_content, 8, 7) == FTD_FIELD_RUN);
+    EXPECT(ftd_check(0x7777, FTD_DOWN, narrow, sizeof narrow, FTD_PACKET_CONTENT) == FTD_FIELD_LENGTH);
+    EXPECT(ftd_check(0x7777, FTD_DOWN, wrong, sizeof wrong, FTD_PACKET_CONTENT) == FTD_ITEM);
+    EXPECT(ftd_check(0x2003, FTD_DOWN, dated_content, 8, FTD_PACKET_CONTENT) == FTD_COMPOSITION);
+    EXPECT(ftd_check(0x2003, FTD_UP, dated_content, 8, FTD_PACKET_CONTENT) == 0);
+    EXPECT(ftd_mode_of(0x1003) == FTD_PRIVATE && ftd_mode_of(0x2001) == FTD_BROADCAST);
+    EXPECT(ftd_mode_of(0x16) == FTD_MANAGEMENT && ftd_mode_of(1) == FTD_DIALOG && ftd_mode_of(0x1004) == FTD_UNKNOWN);
+}
+
+static void items(void) {
+    /* The first items of a DepositField (FID 3): ParticipantId, ParticipantType, TradeDate, InitMargin. */
+    static const char deposit[] = "MEMBER  \00120041231-0000000012.50";
+    const uint8_t *field = (const uint8_t *)deposit;
+    const struct ftd_item margin = {0, 0, 1250, 0, 0, 0, FTD_FLOAT, 1};
+    const struct ftd_item text = {0, 0, 0, 0, 0, 0, FTD_TEXT, 0};
+    const struct ftd_item unused = {0, 0, 0, 0, 0, 0, FTD_UNUSED, 0};
+    struct ftd_item name = ftd_read_item(3, 0, field, 31), type = ftd_read_item(3, 1, field, 31);
+    struct ftd_item date = ftd_read_item(3, 2, field, 31), units = ftd_read_item(3, 3, field, 31);
+    uint8_t out[16];
+
+    EXPECT(name.kind == FTD_TEXT && name.start == 0 && name.len == 6);
+    EXPECT(type.kind == FTD_CHAR && type.value == 1);
+    EXPECT(date.kind == FTD_DAY && date.year == 2004 && date.month == 12 && date.day == 31);
+    EXPECT(units.kind == FTD_FLOAT && units.negative == 1 && units.value == 1250);
+    EXPECT(ftd_read_item(3, 3, field, 30).kind == FTD_NO_ITEM);
+    EXPECT(ftd_read_item(3, 3, field + 1, 31).kind == FTD_NO_VALUE);
+    EXPECT(ftd_write_item(3, 3, margin, NULL, 0, out, 14).bytes == 14 && memcmp(out, field + 17, 14) == 0);
+    EXPECT(ftd_write_item(3, 0, text, field, 6, out, 16).bytes == 8 && memcmp(out, field, 8) == 0);
+    EXPECT(ftd_write_item(3, 2, unused, NULL, 0, out, 8).bytes == 8 && memcmp(out, "        ", 8) == 0);
+    EXPECT(ftd_write_item(3, 0, text, field, 7, out, 16).refusal == FTD_ITEM);
+    EXPECT(ftd_write_item(3, 3, margin, NULL, 0, out, 13).refusal == FTD_TOO_SMALL);
+}
+
+static void start_fields(void) {
+    static const uint8_t field[] = {0, 0, 0, 4, 0, 6, 1, 2, 0, 0, 0, 3};
+    static const uint8_t wrong[] = {0, 0, 0, 4, 0, 0};
+    uint8_t two[24];
+    struct ftd_resume start = ftd_find_resume(field, sizeof field);
+
+    EXPECT(start.answer == FTD_START && start.series == 0x0102 && start.number == 3);
+    EXPECT(ftd_find_resume(field, 11).answer == FTD_NO_START && ftd_find_resume(wrong, 6).answer == FTD_BAD_START);
+    EXPECT(ftd_write_resume(0x0102, 3, two, 12).bytes == 12 && memcmp(two, field, 12) == 0);
+    EXPECT(ftd_write_resume(0x0102, 3, two, 11).refusal == FTD_TOO_SMALL);
+    memcpy(two + 12, field, 12);
+    EXPECT(ftd_find_resume(two, 24).answer == FTD_SEVERAL_START);
+}
+
+/* ---- The two ends ---- */
+
+static const uint16_t series[2] = {7, 3};
+static uint8_t request[126], answer[137], large[3 * 4006];
+static uint8_t day_log[2 * FTD_MOST_CONTENT], buffer[2 * FTD_MOST_CONTENT];
+static uint8_t login[256], output[FTD_MOST_OUTPUT];
+static size_t login_bytes;
+
+/* Contents: ReqUserLoginField and RspUserLoginField, of spaces but for a Char and a Number; three fields of 4,000 bytes
+ * with an unknown FID, which take three packets. */
+static void make_contents(void) {
+    size_t i;
+
+    memset(request, ' ', sizeof request);
+    memcpy(request, "\0\0\0\x23\0\x78\1", 7);
+    memcpy(request + 6 + 97, "030", 3);
+    memset(answer, ' ', sizeof answer);
+    memcpy(answer, "\0\0\0\x27\0\x83\1", 7);
+    memcpy(answer + 6 + 84, "-08", 3);
+    for (i = 0; i < 3; i++) {
+        memset(large + i * 4006, (int)('a' + i), 4006);
+        memcpy(large + i * 4006, "\0\0\x70\1\x0F\xA0", 6);
+    }
+    EXPECT(ftd_check(0x16, FTD_UP, request, sizeof request, FTD_REQUEST_CONTENT) == 0);
+    EXPECT(ftd_check(0x16, FTD_DOWN, answer, sizeof answer, FTD_PACKET_CONTENT) == 0);
+}
+
+/* Both series opened at trade date 100; in series 3 a short message and one of three packets. */
+static struct ftd_sender serving(void) {
+    struct ftd_sender fresh = ftd_sender_fresh();
+    struct ftd_sender_opened opened = ftd_sender_open(fresh, 100, series, 2);
+    struct ftd_published first, second;
+
+    EXPECT(fresh.count == 0 && fresh.dated == 0 && fresh.used == 0);
+    EXPECT(opened.refusal == 0 && opened.end.count == 2 && opened.end.dated == 1 && opened.end.date == 100);
+    EXPECT(opened.end.series[0].series == 7 && opened.end.series[1].series == 3 && opened.end.series[1].login == 0);
+    EXPECT(ftd_sender_open(opened.end, 100, series, 2).refusal == FTD_OPENING);
+    EXPECT(ftd_publish(opened.end, 5, 0x7777, large, 4006, day_log, sizeof day_log).refusal == FTD_UNKNOWN_SERIES);
+    first = ftd_publish(opened.end, 3, 0x7777, large, 4006, day_log, sizeof day_log);
+    EXPECT(first.refusal == 0 && first.number == 1 && first.end.used == 4006 + FTD_LOG_HEAD);
+    EXPECT(memcmp(day_log, "\0\3\0\0\0\0\x77\x77\0\0\0\1\0\0\x0F\xA6", FTD_LOG_HEAD) == 0);
+    EXPECT(memcmp(day_log + FTD_LOG_HEAD, large, 4006) == 0);
+    second = ftd_publish(first.end, 3, 0x7778, large, sizeof large, day_log, sizeof day_log);
+    EXPECT(second.refusal == 0 && second.number == 2 && second.end.series[1].published == 2);
+    EXPECT(ftd_publish(second.end, 3, 0x2003, large, 4006, day_log, sizeof day_log).refusal == FTD_COMPOSITION);
+    return second.end;
+}
+
+static struct ftd_receiver receiving(void) {
+    struct ftd_receiver fresh = ftd_receiver_fresh();
+    struct ftd_receiver_opened opened = ftd_receiver_open(fresh, series, 2);
+
+    EXPECT(fresh.count == 0 && opened.refusal == 0 && opened.end.count == 2 && opened.end.series[1].series == 3);
+    EXPECT(opened.end.series[1].dated == 0 && opened.end.series[1].last == 0 && opened.end.series[1].login == 0);
+    EXPECT(ftd_receiver_open(opened.end, series, 2).refusal == FTD_OPENING);
+    return opened.end;
+}
+
+/* Series 3 is logged in at both ends. */
+static void log_in(struct ftd_sender *sender, struct ftd_receiver *receiver) {
+    struct ftd_written asked = ftd_request_login(*receiver, 3, request, sizeof request, login, sizeof login);
+    struct ftd_logged_in in;
+    struct ftd_confirmed confirmed;
+
+    EXPECT(asked.refusal == 0 && ftd_find_resume(login + asked.bytes - 12, 12).series == 3);
+    login_bytes = asked.bytes;
+    in = ftd_login(*sender, 3, login, asked.bytes, answer, sizeof answer, output, sizeof output);
+    EXPECT(in.refusal == 0 && in.bytes == 26 + sizeof answer && in.end.series[1].login == 1);
+    EXPECT(ftd_read(output, in.bytes).tid == 0x16 && ftd_read(output, in.bytes).date == 100);
+    confirmed = ftd_confirm_login(*receiver, 3, output, in.bytes);
+    EXPECT(confirmed.refusal == 0 && confirmed.end.series[1].login == 1 && confirmed.end.series[1].date == 100);
+    EXPECT(confirmed.last == receiver->series[1].last);
+    *sender = in.end;
+    *receiver = confirmed.end;
+}
+
+enum { PACKET = 26 + 4006 }; /* bytes of a packet with one of the fields */
+
+/* The first message, in one packet. */
+static void first_message(struct ftd_sender *sender, struct ftd_receiver *receiver) {
+    struct ftd_sent sent = ftd_send(*sender, 3, day_log, sizeof day_log, output, sizeof output);
+    struct ftd_received got = ftd_receive(*receiver, output, sent.bytes, buffer, sizeof buffer);
+
+    EXPECT(sent.answer == FTD_SEND_MESSAGE && sent.number == 1 && sent.bytes == PACKET);
+    EXPECT(got.answer == FTD_RECEIVE_MESSAGE && got.origin == FTD_IN_PACKET && got.last == 1 && got.tid == 0x7777);
+    EXPECT(got.content.start == 26 && got.content.len == 4006 && memcmp(output + 26, large, 4006) == 0);
+    EXPECT(ftd_receive(got.end, output, sent.bytes, buffer, sizeof buffer).answer == FTD_RECEIVE_AGAIN);
+    EXPECT(ftd_receive(got.end, heart, sizeof heart, buffer, sizeof buffer).answer == FTD_RECEIVE_IDLE);
+    *sender = sent.end;
+    *receiver = got.end;
+}
+
+/* So many packets of the second message; what the last of them is answered. */
+static struct ftd_received second_message(struct ftd_sender *sender, struct ftd_receiver *receiver, size_t packets) {
+    struct ftd_sent sent = ftd_send(*sender, 3, day_log, sizeof day_log, output, sizeof output);
+    struct ftd_received got;
+    size_t i;
+
+    EXPECT(sent.answer == FTD_SEND_MESSAGE && sent.number == 2 && sent.bytes == 3 * PACKET);
+    memset(&got, 0, sizeof got);
+    for (i = 0; i < packets; i++) {
+        got = ftd_receive(*receiver, output + i * PACKET, PACKET, buffer, sizeof buffer);
+        EXPECT(i == 2 || (got.answer == FTD_RECEIVE_HELD && got.last == 1));
+        *receiver = got.end;
+    }
+    *sender = sent.end;
+    return got;
+}
+
+/* Of the second message two of three packets come before the line breaks; then all. */
+static void flow(void) {
+    struct ftd_sender sender = serving();
+    struct ftd_receiver receiver = receiving();
+    struct ftd_received got;
+
+    log_in(&sender, &receiver);
+    first_message(&sender, &receiver);
+    second_message(&sender, &receiver, 2);
+    EXPECT(receiver.series[1].chain == 1 && receiver.series[1].held == 2 * 4006 && receiver.series[1].tid == 0x7778);
+    receiver = ftd_connect(receiver);
+    EXPECT(receiver.series[1].chain == 0 && receiver.series[1].login == 0 && receiver.series[1].last == 1);
+    log_in(&sender, &receiver);
+    got = second_message(&sender, &receiver, 3);
+    EXPECT(got.answer == FTD_RECEIVE_MESSAGE && got.origin == FTD_IN_BUFFER && got.last == 2 && got.tid == 0x7778);
+    EXPECT(got.content.start == FTD_MOST_CONTENT && got.content.len == sizeof large);
+    EXPECT(memcmp(buffer + got.content.start, large, sizeof large) == 0);
+    EXPECT(receiver.series[1].last == 2 && receiver.series[1].chain == 0 && receiver.series[1].login == 1);
+    EXPECT(ftd_send(sender, 3, day_log, sizeof day_log, output, sizeof output).answer == FTD_SEND_NONE);
+}
+
+static void refusals_of_serving(void) {
+    struct ftd_sender sender = serving(), full;
+    struct ftd_receiver receiver = receiving();
+    struct ftd_sent sent;
+    struct ftd_logged_in in;
+
+    sent = ftd_send(sender, 3, day_log, sizeof day_log, output, sizeof output);
+    EXPECT(sent.answer == FTD_SEND_REFUSED && sent.refusal == FTD_NOT_LOGGED_IN && sent.bytes == 0);
+    EXPECT(ftd_send(sender, 9, day_log, sizeof day_log, output, sizeof output).refusal == FTD_UNKNOWN_SERIES);
+    log_in(&sender, &receiver);
+    EXPECT(ftd_send(sender, 3, day_log, sizeof day_log, output, 26 + 4005).refusal == FTD_TOO_SMALL);
+    EXPECT(ftd_send(sender, 3, day_log, sender.used - 1, output, sizeof output).refusal == FTD_DAMAGED_LOG);
+    EXPECT(ftd_publish(sender, 3, 0x7777, large, 4006, day_log, sender.used).refusal == FTD_TOO_SMALL);
+    EXPECT(ftd_publish(sender, 3, 0x7777, large, 4005, day_log, sizeof day_log).refusal == FTD_FIELD_RUN);
+    full = sender;
+    full.series[1].published = FTD_MOST_MESSAGES;
+    EXPECT(ftd_publish(full, 3, 0x7777, large, 4006, day_log, sizeof day_log).refusal == FTD_DAY_FULL);
+    in = ftd_login(sender, 3, login, login_bytes - 1, answer, sizeof answer, output, sizeof output);
+    EXPECT(in.refusal == FTD_NOT_ONE_PACKET && in.bytes == 0);
+    EXPECT(in.end.series[1].next == sender.series[1].next && in.end.used == sender.used);
+    EXPECT(ftd_login(sender, 7, login, login_bytes, answer, sizeof answer, output, sizeof output).refusal ==
+           FTD_UNKNOWN_SERIES);
+    EXPECT(ftd_login(sender, 3, login, login_bytes, request, sizeof request, output, sizeof output).refusal ==
+           FTD_COMPOSITION);
+    login[login_bytes - 1] = 4; /* the next number wanted: two are published */
+    EXPECT(ftd_login(sender, 3, login, login_bytes, answer, sizeof answer, output, sizeof output).refusal ==
+           FTD_WRONG_START);
+    receiver.series[1].date = 101;
+    login_bytes = ftd_request_login(receiver, 3, request, sizeof request, login, sizeof login).bytes;
+    EXPECT(ftd_login(sender, 3, login, login_bytes, answer, sizeof answer, output, sizeof output).refusal ==
+           FTD_OTHER_DAY);
+}
+
+static size_t buffer_len = sizeof buffer; /* as it is lent in what follows */
+
+/* What ftd_receive says of a packet of series 3 with this chain letter, number and trade date. */
+static uint8_t received(struct ftd_receiver end, char chain, uint8_t number, uint8_t date) {
+    uint8_t bytes[34];
+    struct ftd_received got;
+
+    memcpy(bytes, dated, sizeof bytes);
+    bytes[9] = date;
+    bytes[15] = (uint8_t)chain;
+    bytes[17] = 3;
+    bytes[21] = number;
+    got = ftd_receive(end, bytes, sizeof bytes, buffer_len == 0 ? NULL : buffer, buffer_len);
+    EXPECT((got.answer == FTD_RECEIVE_REFUSED) == (got.refusal != 0));
+    EXPECT(got.refusal < FTD_OTHER_DAY || got.end.series[1].chain == 0);
+    return got.refusal;
+}
+
+static void refusals_of_receiving(void) {
+    struct ftd_sender sender = serving();
+    struct ftd_receiver receiver = receiving(), later;
+
+    EXPECT(received(receiver, 'S', 1, 100) == FTD_NOT_LOGGED_IN);
+    EXPECT(ftd_receive(receiver, dated, sizeof dated, buffer, sizeof buffer).refusal == FTD_UNKNOWN_SERIES);
+    EXPECT(ftd_request_login(receiver, 9, request, sizeof request, login, sizeof login).refusal == FTD_UNKNOWN_SERIES);
+    EXPECT(ftd_request_login(receiver, 3, answer, sizeof answer, login, sizeof login).refusal == FTD_COMPOSITION);
+    EXPECT(ftd_request_login(receiver, 3, request, sizeof request, login, 10).refusal == FTD_TOO_SMALL);
+    log_in(&sender, &receiver);
+    receiver.series[1].chain = 1;
+    EXPECT(received(receiver, 'S', 1, 100) == 0 && received(receiver, 'F', 1, 100) == 0);
+    EXPECT(received(receiver, 'S', 1, 99) == FTD_OTHER_DAY);
+    EXPECT(received(receiver, 'S', 2, 100) == FTD_OUT_OF_LINE && received(receiver, 'S', 0, 100) == FTD_OUT_OF_LINE);
+    EXPECT(received(receiver, 'C', 1, 100) == FTD_BROKEN_CHAIN); /* the open chain has TID 0 */
+    receiver.series[1].tid = 0x2004;
+    receiver.series[1].held = FTD_MOST_CONTENT - 8;
+    EXPECT(received(receiver, 'L', 1, 100) == 0);
+    receiver.series[1].held++;
+    EXPECT(received(receiver, 'L', 1, 100) == FTD_TOO_SMALL);
+    buffer_len--;
+    EXPECT(received(receiver, 'F', 1, 100) == FTD_TOO_SMALL);
+    buffer_len = 0;
+    EXPECT(received(receiver, 'F', 1, 100) == FTD_TOO_SMALL && received(receiver, 'S', 1, 100) == 0);
+    EXPECT(ftd_receive(receiver, dated, 33, buffer, sizeof buffer).refusal == FTD_NOT_ONE_PACKET);
+    EXPECT(ftd_confirm_login(receiver, 3, dated, sizeof dated).refusal == FTD_COMPOSITION);
+    later = receiver;
+    later.series[1].date = 101;
+    EXPECT(ftd_confirm_login(later, 3, output, 26 + sizeof answer).refusal == FTD_OTHER_DAY);
+    EXPECT(ftd_confirm_login(receiver, 3, output, 26 + sizeof answer).refusal == 0);
+    output[17] = 1; /* the header's series */
+    output[16] = 1;
+    EXPECT(ftd_confirm_login(receiver, 3, output, 26 + sizeof answer).refusal == FTD_OUT_OF_LINE);
+}
+
+/* ---- Null pointers, and states of any values ---- */
+
+static void nulls_below(void) {
+    const struct ftd_message message = {0x7777, 1, 0, 1, 0};
+    const struct ftd_item text = {0, 0, 0, 0, 0, 0, FTD_TEXT, 0};
+    uint8_t out[32];
+
+    EXPECT(ftd_read(NULL, 0).answer == FTD_SHORT && ftd_said_length(NULL, 0) == 0);
+    EXPECT(ftd_trade_date(NULL, 0).dated == 0 && ftd_keep_alive(NULL, 0) == 0);
+    EXPECT(ftd_message_size(message, NULL, 0).bytes == 20);
+    EXPECT(ftd_write_message(message, NULL, 0, out, sizeof out).bytes == 20);
+    EXPECT(ftd_write_message(message, NULL, 0, NULL, 0).refusal == FTD_TOO_SMALL);
+    EXPECT(ftd_write_plain(0, NULL, 0, NULL, 0, out, sizeof out).bytes == 4 && memcmp(out, "\0\0\0", 4) == 0);
+    EXPECT(ftd_write_plain(0, NULL, 0, NULL, 0, NULL, 0).refusal == FTD_TOO_SMALL);
+    EXPECT(ftd_find_field(NULL, 0, 0).found == 0 && ftd_field_at(NULL, 0, 0).found == 0);
+    EXPECT(ftd_write_field(1, NULL, 0, out, sizeof out).bytes == 6);
+    EXPECT(ftd_write_field(1, NULL, 0, NULL, 0).refusal == FTD_TOO_SMALL);
+    EXPECT(ftd_check(0x7777, FTD_DOWN, NULL, 0, FTD_MOST_CONTENT) == 0);
+    EXPECT(ftd_read_item(3, 0, NULL, 0).kind == FTD_NO_ITEM);
+    EXPECT(ftd_write_item(3, 0, text, NULL, 0, out, sizeof out).bytes == 8 && memcmp(out, "        ", 8) == 0);
+    EXPECT(ftd_write_item(3, 0, text, NULL, 0, NULL, 0).refusal == FTD_TOO_SMALL);
+    EXPECT(ftd_find_resume(NULL, 0).answer == FTD_NO_START && ftd_write_resume(1, 1, NULL, 0).refusal == FTD_TOO_SMALL);
+}
+
+static void nulls_at_the_ends(void) {
+    struct ftd_sender sender = serving();
+    struct ftd_receiver receiver = receiving();
+    struct ftd_published empty;
+
+    EXPECT(ftd_sender_open(sender, 101, NULL, 0).refusal == FTD_OPENING);
+    EXPECT(ftd_receiver_open(ftd_receiver_fresh(), NULL, 0).refusal == FTD_OPENING);
+    empty = ftd_publish(sender, 7, 0x7777, NULL, 0, day_log, sizeof day_log);
+    EXPECT(empty.refusal == 0 && empty.number == 1 && empty.end.used == sender.used + FTD_LOG_HEAD);
+    EXPECT(ftd_publish(ftd_sender_open(sender, 101, series, 1).end, 7, 0x7777, NULL, 0, NULL, 0).refusal ==
+           FTD_TOO_SMALL);
+    EXPECT(ftd_request_login(receiver, 3, NULL, 0, login, sizeof login).refusal == FTD_COMPOSITION);
+    EXPECT(ftd_request_login(receiver, 3, request, sizeof request, NULL, 0).refusal == FTD_TOO_SMALL);
+    EXPECT(ftd_receive(receiver, NULL, 0, NULL, 0).refusal == FTD_NOT_ONE_PACKET);
+    EXPECT(ftd_confirm_login(receiver, 3, NULL, 0).refusal == FTD_NOT_ONE_PACKET);
+    log_in(&sender, &receiver);
+    EXPECT(ftd_login(sender, 3, NULL, 0, answer, sizeof answer, output, sizeof output).refusal == FTD_NOT_ONE_PACKET);
+    EXPECT(ftd_login(sender, 3, login, login_bytes, NULL, 0, output, sizeof output).refusal == FTD_COMPOSITION);
+    EXPECT(ftd_login(sender, 3, login, login_bytes, answer, sizeof answer, NULL, 0).refusal == FTD_TOO_SMALL);
+    EXPECT(ftd_send(sender, 3, NULL, 0, output, sizeof output).refusal == FTD_DAMAGED_LOG);
+    EXPECT(ftd_send(sender, 3, day_log, sizeof day_log, NULL, 0).refusal == FTD_TOO_SMALL);
+    sender.series[1].next = 3;
+    EXPECT(ftd_send(sender, 3, NULL, 0, NULL, 0).answer == FTD_SEND_NONE);
+    EXPECT(ftd_receive(receiver, heart, sizeof heart, NULL, 0).answer == FTD_RECEIVE_IDLE);
+}
+
+/* No call goes wrong on a state that none has made: all bytes are 255, so that each count and place is too high. */
+static void any_state(void) {
+    struct ftd_sender sender;
+    struct ftd_receiver receiver;
+    uint8_t bytes[34];
+
+    memset(&sender, 255, sizeof sender);
+    memset(&receiver, 255, sizeof receiver);
+    memcpy(bytes, dated, sizeof bytes);
+    bytes[15] = 'C';
+    bytes[16] = bytes[17] = 255;
+    EXPECT(ftd_publish(sender, 65535, 0x7777, NULL, 0, day_log, sizeof day_log).refusal == FTD_DAMAGED_LOG);
+    EXPECT(ftd_send(sender, 65535, day_log, sizeof day_log, output, sizeof output).answer == FTD_SEND_NONE);
+    EXPECT(ftd_login(sender, 65535, login, login_bytes, answer, sizeof answer, output, sizeof output).refusal ==
+           FTD_UNKNOWN_SERIES);
+    EXPECT(ftd_sender_open(sender, 5, series, 2).refusal == FTD_OPENING);
+    EXPECT(ftd_receiver_open(receiver, series, 2).refusal == FTD_OPENING);
+    EXPECT(ftd_receive(receiver, bytes, sizeof bytes, buffer, sizeof buffer).refusal == FTD_OTHER_DAY);
+    EXPECT(ftd_request_login(receiver, 65535, request, sizeof request, login, sizeof login).refusal == 0);
+    EXPECT(ftd_connect(receiver).series[7].login == 0 && ftd_connect(receiver).series[7].last == UINT32_MAX);
+}
+
+int main(void) {
+    sizes();
+    packets_read();
+    packets_refused();
+    packets_written();
+    fields();
+    contents_checked();
+    items();
+    start_fields();
+    make_contents();
+    flow();
+    refusals_of_serving();
+    refusals_of_receiving();
+    nulls_below();
+    nulls_at_the_ends();
+    any_state();
+    if (!failed)
+        printf("header: ok\n");
+    return failed;
+}

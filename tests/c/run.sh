@@ -1,0 +1,34 @@
+#!/bin/sh
+# Builds the header's test and the example driver with each compiler that is there, warnings being errors, and runs
+# both: the test has to find nothing, the driver to print examples/driver.out.
+#   tests/c/run.sh LIBRARY
+set -eu
+cd "$(dirname "$0")/../.."
+library=$1
+work=target/c
+mkdir -p "$work"
+
+# The compiler and its options make programs that run; without the sanitizers' libraries, say, they don't.
+there() { # COMPILER OPTION..
+    echo 'int main(void) { return 0; }' >"$work/empty.c"
+    command -v "$1" >/dev/null 2>&1 && "$@" "$work/empty.c" -o "$work/empty" 2>/dev/null && "$work/empty"
+}
+
+try() { # COMPILER OPTION..
+    if ! there "$@"; then
+        echo "$*: not there, left out"
+        return
+    fi
+    "$@" -Wall -Wextra -pedantic -Werror -Iinclude tests/c/header.c -x none "$library" -o "$work/header"
+    "$work/header" >"$work/header.out" || { cat "$work/header.out"; exit 1; }
+    "$@" -Wall -Wextra -pedantic -Werror -Iinclude examples/driver.c -x none "$library" -o "$work/driver"
+    "$work/driver" >"$work/driver.out"
+    diff examples/driver.out "$work/driver.out"
+    echo "$*: ok"
+}
+
+try gcc -std=c99 -O0
+try gcc -std=c99 -O2
+try gcc -std=c99 -O1 -g -fsanitize=address,undefined -fno-sanitize-recover=all
+try g++ -std=c++11 -O2 -x c++
+try clang -std=c99 -O2
