@@ -17,11 +17,12 @@ fn print_line(
     line: &[u8],
     have: usize,
     log: &mut [u8],
+    chain: &mut [u8],
     bytes: &mut [u8],
     out: &mut [u8],
     text: &mut [u8],
 ) -> Player {
-    let r = player.play(line, have, log, bytes, out, text);
+    let r = player.play(line, have, log, chain, bytes, out, text);
     let n = r.len;
     io::write_all(STDOUT_FILENO, &text[..n]);
     r.player
@@ -34,6 +35,7 @@ fn print_piece(
     input: &[u8],
     line: &mut [u8],
     log: &mut [u8],
+    chain: &mut [u8],
     bytes: &mut [u8],
     out: &mut [u8],
     text: &mut [u8],
@@ -49,7 +51,7 @@ fn print_piece(
         if t.whole {
             let p = now.player;
             now = Reached {
-                player: print_line(p, line, t.have, log, bytes, out, text),
+                player: print_line(p, line, t.have, log, chain, bytes, out, text),
                 have: 0,
             };
         } else {
@@ -63,9 +65,10 @@ fn main() {
     let mut input = [0u8; 65536];
     let mut line = [0u8; 140000];
     let mut log = [0u8; 1048576];
+    let mut chain = [0u8; 262144];
     let mut bytes = [0u8; 140000];
     let mut out = [0u8; 65536];
-    let mut text = [0u8; 131136];
+    let mut text = [0u8; 524352];
     let mut now = Reached {
         player: Player::fresh(),
         have: 0,
@@ -84,6 +87,7 @@ fn main() {
                 &input[..n],
                 &mut line,
                 &mut log,
+                &mut chain,
                 &mut bytes,
                 &mut out,
                 &mut text,
@@ -94,6 +98,15 @@ fn main() {
     let p = now.player;
     let have = now.have;
     if have > 0 {
-        print_line(p, &line, have, &mut log, &mut bytes, &mut out, &mut text);
+        print_line(
+            p,
+            &line,
+            have,
+            &mut log,
+            &mut chain,
+            &mut bytes,
+            &mut out,
+            &mut text,
+        );
     }
 }

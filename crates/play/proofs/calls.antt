@@ -1,3 +1,3 @@
 -- The laws of calls.
 pub mod Rows
-pub mod Inside
+pub mod Limits

@@ -1,2 +1,4 @@
 -- The laws of words.
 pub mod Turns
+pub mod Arguments
+pub mod Parts

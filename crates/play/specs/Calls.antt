@@ -1,137 +1,117 @@
 -- The call that a script's line says: its words, parted by one space each.
-use Prim.Native.Nat.{ℕ, _+_, _-_, _≤_}
+use Prim.Native.Nat.{ℕ, _≤_}
 use mathlib.Core.List.{List, [], _∷_}
 use mathlib.Core.Bool.{Bool, cond}
-use lib.ListN.{length, take, drop}
-use lib.Dec.{ltb, eqb}
+use lib.ListN.{take}
+use lib.Dec.{ltb}
 use Rattle.play.specs.declared.calls.Verb.{Verb}
 use Rattle.play.specs.declared.calls.Verb.the-variants.{Unknown}
-use Rattle.play.specs.declared.calls.Verb.the-variants.{Buffers as NamesBuffers, Opening as NamesOpening}
+use Rattle.play.specs.declared.calls.Verb.the-variants.{Buffers as NamesBuffers, OpenDay as NamesOpenDay}
 use Rattle.play.specs.declared.calls.Verb.the-variants.{Publish as NamesPublish, Login as NamesLogin}
-use Rattle.play.specs.declared.calls.Verb.the-variants.{Send as NamesSend}
+use Rattle.play.specs.declared.calls.Verb.the-variants.{Send as NamesSend, OpenEnd as NamesOpenEnd}
+use Rattle.play.specs.declared.calls.Verb.the-variants.{Connect as NamesConnect, Ask as NamesAsk}
+use Rattle.play.specs.declared.calls.Verb.the-variants.{Answer as NamesAnswer, Receive as NamesReceive}
+use Rattle.play.specs.declared.calls.Verb.the-variants.{State as NamesState}
 use Rattle.play.specs.declared.calls.Call.{Call}
-use Rattle.play.specs.declared.calls.Call.the-variants.{Bad, Buffers, Opening, Publish, Login, Send}
-use Rattle.play.specs.declared.player.Series.{Series}
-use Rattle.play.specs.declared.player.Series.the-variants.{Wrong, Count}
-use Rattle.play.specs.Words.{endOf, numberIn, tidIn, saysBytes, sameWord}
+use Rattle.play.specs.declared.calls.Call.the-variants.{Bad, Buffers, OpenDay, Publish, Login, Send, OpenEnd}
+use Rattle.play.specs.declared.calls.Call.the-variants.{Connect, Ask, Answer, Receive, State}
+use Rattle.play.specs.Words.{endOf, numberIn, tidIn, sameWord, argument, hasForm, mostNamed, seriesCount}
 
 -- ─── The first word ───
 
--- `buffers`, `sopen`, `publish`, `login`, `send`.
+-- `ropen`, `connect`, `ask`, `answer`, `receive`, `state`.
+unfoldable pub endVerbOf : List ℕ → Verb
+endVerbOf word =
+    cond (sameWord word (114 ∷ 111 ∷ 112 ∷ 101 ∷ 110 ∷ [])) NamesOpenEnd
+    (cond (sameWord word (99 ∷ 111 ∷ 110 ∷ 110 ∷ 101 ∷ 99 ∷ 116 ∷ [])) NamesConnect
+    (cond (sameWord word (97 ∷ 115 ∷ 107 ∷ [])) NamesAsk
+    (cond (sameWord word (97 ∷ 110 ∷ 115 ∷ 119 ∷ 101 ∷ 114 ∷ [])) NamesAnswer
+    (cond (sameWord word (114 ∷ 101 ∷ 99 ∷ 101 ∷ 105 ∷ 118 ∷ 101 ∷ [])) NamesReceive
+    (cond (sameWord word (115 ∷ 116 ∷ 97 ∷ 116 ∷ 101 ∷ [])) NamesState Unknown)))))
+
+-- `buffers`, `sopen`, `publish`, `login`, `send`, or one of those.
 unfoldable pub verbOf : List ℕ → Verb
 verbOf word =
     cond (sameWord word (98 ∷ 117 ∷ 102 ∷ 102 ∷ 101 ∷ 114 ∷ 115 ∷ [])) NamesBuffers
-    (cond (sameWord word (115 ∷ 111 ∷ 112 ∷ 101 ∷ 110 ∷ [])) NamesOpening
+    (cond (sameWord word (115 ∷ 111 ∷ 112 ∷ 101 ∷ 110 ∷ [])) NamesOpenDay
     (cond (sameWord word (112 ∷ 117 ∷ 98 ∷ 108 ∷ 105 ∷ 115 ∷ 104 ∷ [])) NamesPublish
     (cond (sameWord word (108 ∷ 111 ∷ 103 ∷ 105 ∷ 110 ∷ [])) NamesLogin
-    (cond (sameWord word (115 ∷ 101 ∷ 110 ∷ 100 ∷ [])) NamesSend Unknown))))
+    (cond (sameWord word (115 ∷ 101 ∷ 110 ∷ 100 ∷ [])) NamesSend (endVerbOf word)))))
 
--- ─── Numbers within their limits ───
+-- ─── The arguments: whether they have their form, and numbers within their limits ───
 
 -- A log of at most 1,048,576 bytes, a chain buffer of at most 262,144.
-unfoldable pub buffersWith : ℕ → ℕ → Call
-buffersWith log chain = cond (ltb 1048576 log) Bad (cond (ltb 262144 chain) Bad (Buffers log chain))
+unfoldable pub buffersWith : Bool → ℕ → ℕ → Call
+buffersWith right log chain =
+    cond right (cond (ltb 1048576 log) Bad (cond (ltb 262144 chain) Bad (Buffers log chain))) Bad
 
-unfoldable pub openingWith : ℕ → ℕ → Call
-openingWith date series = cond (ltb 4294967295 date) Bad (Opening date series)
+-- A trade date of four bytes, and so many series.
+unfoldable pub openDayWith : ℕ → ℕ → Call
+openDayWith date count = cond (ltb 4294967295 date) Bad (cond (ltb mostNamed count) Bad (OpenDay date count))
 
-unfoldable pub publishWith : ℕ → ℕ → Bool → ℕ → Call
-publishWith series tid whole content =
-    cond (ltb 65535 series) Bad
-    (cond (ltb 4294967295 tid) Bad (cond whole (Publish series tid content) Bad))
+unfoldable pub publishWith : Bool → ℕ → ℕ → Call
+publishWith right series tid =
+    cond right (cond (ltb 65535 series) Bad (cond (ltb 4294967295 tid) Bad (Publish series tid))) Bad
 
--- An output of at most 65,536 bytes.
-unfoldable pub loginCallWith : ℕ → ℕ → Bool → Bool → ℕ → ℕ → Call
-loginCallWith series room whole filled packet content =
-    cond (ltb 65535 series) Bad
-    (cond (ltb 65536 room) Bad (cond whole (cond filled (Login series room packet content) Bad) Bad))
+-- An output of at most 65,536 bytes, here and below.
+unfoldable pub loginCallWith : Bool → ℕ → ℕ → Call
+loginCallWith right series room =
+    cond right (cond (ltb 65535 series) Bad (cond (ltb 65536 room) Bad (Login series room))) Bad
 
-unfoldable pub sendWith : ℕ → ℕ → Call
-sendWith series room = cond (ltb 65535 series) Bad (cond (ltb 65536 room) Bad (Send series room))
+unfoldable pub sendWith : Bool → ℕ → ℕ → Call
+sendWith right series room =
+    cond right (cond (ltb 65535 series) Bad (cond (ltb 65536 room) Bad (Send series room))) Bad
 
--- ─── The words behind the first one, from a place on ───
+unfoldable pub openEndWith : ℕ → Call
+openEndWith count = cond (ltb mostNamed count) Bad (OpenEnd count)
 
--- The word from place a to place b.
-abbrev pub wordIn : List ℕ → ℕ → ℕ → List ℕ
-wordIn line a b = take (b - a) (drop a line)
+unfoldable pub askWith : Bool → ℕ → ℕ → Call
+askWith right series room =
+    cond right (cond (ltb 65535 series) Bad (cond (ltb 65536 room) Bad (Ask series room))) Bad
 
--- The line ends with a word, or goes on behind it.
-unfoldable pub goingOn : List ℕ → ℕ → Call → Call
-goingOn line e call = cond (eqb e (length line)) Bad call
+unfoldable pub answerWith : Bool → ℕ → Call
+answerWith right series = cond right (cond (ltb 65535 series) Bad (Answer series)) Bad
 
-unfoldable pub ending : List ℕ → ℕ → Call → Call
-ending line e call = cond (ltb e (length line)) Bad call
-
-unfoldable pub buffersCall : List ℕ → ℕ → Call
-buffersCall line at =
-    let a = endOf line at in
-    let b = endOf line (a + 1) in
-    goingOn line a
-    (ending line b (buffersWith (numberIn 10 (wordIn line at a)) (numberIn 10 (wordIn line (a + 1) b))))
-
-unfoldable pub openingCall : List ℕ → ℕ → Call
-openingCall line at =
-    let a = endOf line at in
-    openingWith (numberIn 10 (wordIn line at a)) a
-
-unfoldable pub publishCall : List ℕ → ℕ → Call
-publishCall line at =
-    let a = endOf line at in
-    let b = endOf line (a + 1) in
-    let c = endOf line (b + 1) in
-    goingOn line a
-    (goingOn line b
-    (ending line c
-    (publishWith (numberIn 10 (wordIn line at a)) (tidIn (wordIn line (a + 1) b)) (saysBytes (wordIn line (b + 1) c))
-    (b + 1))))
-
-unfoldable pub loginCall : List ℕ → ℕ → Call
-loginCall line at =
-    let a = endOf line at in
-    let b = endOf line (a + 1) in
-    let c = endOf line (b + 1) in
-    let d = endOf line (c + 1) in
-    goingOn line a
-    (goingOn line b
-    (goingOn line c
-    (ending line d
-    (loginCallWith (numberIn 10 (wordIn line at a)) (numberIn 10 (wordIn line (a + 1) b))
-    (saysBytes (wordIn line (b + 1) c)) (saysBytes (wordIn line (c + 1) d)) (b + 1) (c + 1)))))
-
-unfoldable pub sendCall : List ℕ → ℕ → Call
-sendCall line at =
-    let a = endOf line at in
-    let b = endOf line (a + 1) in
-    goingOn line a
-    (ending line b (sendWith (numberIn 10 (wordIn line at a)) (numberIn 10 (wordIn line (a + 1) b))))
+-- A call without numbers.
+unfoldable pub plainCall : Bool → Call → Call
+plainCall right call = cond right call Bad
 
 -- ─── The line ───
 
-abbrev pub namedCall : List ℕ → ℕ → Verb → Call
-namedCall line at Unknown = Bad
-namedCall line at NamesBuffers = buffersCall line at
-namedCall line at NamesOpening = openingCall line at
-namedCall line at NamesPublish = publishCall line at
-namedCall line at NamesLogin = loginCall line at
-namedCall line at NamesSend = sendCall line at
+-- Number i of a line.
+abbrev pub numberAt : List ℕ → ℕ → ℕ
+numberAt line i = numberIn 10 (argument line i)
+
+abbrev pub namedCall : List ℕ → Verb → Call
+namedCall line Unknown = Bad
+namedCall line NamesBuffers = buffersWith (hasForm line 2 0) (numberAt line 0) (numberAt line 1)
+namedCall line NamesOpenDay = openDayWith (numberAt line 0) (seriesCount line 1)
+namedCall line NamesPublish = publishWith (hasForm line 2 1) (numberAt line 0) (tidIn (argument line 1))
+namedCall line NamesLogin = loginCallWith (hasForm line 2 2) (numberAt line 0) (numberAt line 1)
+namedCall line NamesSend = sendWith (hasForm line 2 0) (numberAt line 0) (numberAt line 1)
+namedCall line NamesOpenEnd = openEndWith (seriesCount line 0)
+namedCall line NamesConnect = plainCall (hasForm line 0 0) Connect
+namedCall line NamesAsk = askWith (hasForm line 2 1) (numberAt line 0) (numberAt line 1)
+namedCall line NamesAnswer = answerWith (hasForm line 1 1) (numberAt line 0)
+namedCall line NamesReceive = plainCall (hasForm line 0 1) Receive
+namedCall line NamesState = plainCall (hasForm line 0 0) State
 
 unfoldable pub callOf : List ℕ → Call
-callOf line =
-    let e = endOf line 0 in
-    goingOn line e (namedCall line (e + 1) (verbOf (take e line)))
+callOf line = namedCall line (verbOf (take (endOf line 0) line))
 
 -- ─── What a call keeps to ───
 
--- The places of a call lie in its line, of n bytes, and an output is within its limit.
-abbrev pub Placed : ℕ → Call → Type 0
-Placed n Bad = Unit {0}
-Placed n (Buffers log chain) = Unit {0}
-Placed n (Opening date series) = series ≤ n
-Placed n (Publish series tid content) = content ≤ n
-Placed n (Login series room packet content) = (room ≤ 65536) × (packet ≤ n) × (content ≤ n)
-Placed n (Send series room) = room ≤ 65536
-
--- As many series as their list holds, or fewer.
-abbrev pub Counted : ℕ → Series → Type 0
-Counted n Wrong = Unit {0}
-Counted n (Count k) = k ≤ n
+-- An output and the series of an opening are within their limits.
+abbrev pub Limited : Call → Type 0
+Limited Bad = Unit {0}
+Limited (Buffers log chain) = Unit {0}
+Limited (OpenDay date count) = count ≤ mostNamed
+Limited (Publish series tid) = Unit {0}
+Limited (Login series room) = room ≤ 65536
+Limited (Send series room) = room ≤ 65536
+Limited (OpenEnd count) = count ≤ mostNamed
+Limited Connect = Unit {0}
+Limited (Ask series room) = room ≤ 65536
+Limited (Answer series) = Unit {0}
+Limited Receive = Unit {0}
+Limited State = Unit {0}

@@ -1,4 +1,5 @@
 pub mod Words
 pub mod Calls
 pub mod Lines
+pub mod State
 pub mod Played

@@ -1,7 +1,9 @@
 -- The lines that the player prints.
 use Prim.Native.Nat.{ℕ}
 use mathlib.Core.List.{List, [], _∷_, _++_}
+use mathlib.Core.Bool.{cond}
 use lib.ListN.{length, take}
+use lib.Dec.{eqb}
 use Rattle.ftd.specs.Refusal.{numberOf}
 use Rattle.ftd.specs.declared.refusal.Refusal.{Refusal}
 use Rattle.flow.specs.declared.sender.Opened.{Opened}
@@ -17,12 +19,26 @@ use Rattle.flow.specs.declared.sender.Sent.{Sent}
 use Rattle.flow.specs.declared.sender.Sent.the-variants.{Drained}
 use Rattle.flow.specs.declared.sender.Sent.the-variants.{Wrote as MessageSent}
 use Rattle.flow.specs.declared.sender.Sent.the-variants.{Refused as NotSent}
-use Rattle.listing.specs.Text.{decimalOf, hexOf, newline, refused}
+use Rattle.flow.specs.declared.receiver.Requested.{Requested}
+use Rattle.flow.specs.declared.receiver.Requested.the-variants.{Wrote as Asked}
+use Rattle.flow.specs.declared.receiver.Requested.the-variants.{Refused as NotAsked}
+use Rattle.flow.specs.declared.receiver.Confirmed.{Confirmed}
+use Rattle.flow.specs.declared.receiver.Confirmed.the-variants.{Last}
+use Rattle.flow.specs.declared.receiver.Confirmed.the-variants.{Refused as NotConfirmed}
+use Rattle.flow.specs.declared.receiver.Received.{Received}
+use Rattle.flow.specs.declared.receiver.Received.the-variants.{Idle, Duplicate, Partial, Complete}
+use Rattle.flow.specs.declared.receiver.Received.the-variants.{Refused as NotTaken}
+use Rattle.flow.specs.Answers.{contentIn}
+use Rattle.listing.specs.Text.{decimalOf, hexOf, hex8Of, newline, refused}
 
 -- Bytes as pairs of upper-case hexadecimal digits.
 unfoldable pub hexBytes : List ℕ → List ℕ
 hexBytes [] = []
 hexBytes (x ∷ l) = hexOf 2 x ++ hexBytes l
+
+-- The same, or `-` where there is none.
+unfoldable pub contentText : List ℕ → List ℕ
+contentText bytes = cond (eqb (length bytes) 0) (45 ∷ []) (hexBytes bytes)
 
 abbrev pub gap : List ℕ
 gap = 32 ∷ []
@@ -34,7 +50,7 @@ unfoldable pub numbered : List ℕ → ℕ → List ℕ
 numbered word n = word ++ gap ++ decimalOf n
 
 unfoldable pub bytesLine : List ℕ → List ℕ → List ℕ
-bytesLine word bytes = wordLine (numbered word (length bytes) ++ gap ++ hexBytes bytes)
+bytesLine word bytes = wordLine (numbered word (length bytes) ++ gap ++ contentText bytes)
 
 -- ─── Answers ───
 
@@ -52,6 +68,27 @@ sent = 115 ∷ 101 ∷ 110 ∷ 116 ∷ []
 
 abbrev pub none : List ℕ
 none = 110 ∷ 111 ∷ 110 ∷ 101 ∷ []
+
+abbrev pub connected : List ℕ
+connected = 99 ∷ 111 ∷ 110 ∷ 110 ∷ 101 ∷ 99 ∷ 116 ∷ 101 ∷ 100 ∷ []
+
+abbrev pub asked : List ℕ
+asked = 97 ∷ 115 ∷ 107 ∷ 101 ∷ 100 ∷ []
+
+abbrev pub answered : List ℕ
+answered = 97 ∷ 110 ∷ 115 ∷ 119 ∷ 101 ∷ 114 ∷ 101 ∷ 100 ∷ []
+
+abbrev pub idle : List ℕ
+idle = 105 ∷ 100 ∷ 108 ∷ 101 ∷ []
+
+abbrev pub again : List ℕ
+again = 97 ∷ 103 ∷ 97 ∷ 105 ∷ 110 ∷ []
+
+abbrev pub held : List ℕ
+held = 104 ∷ 101 ∷ 108 ∷ 100 ∷ []
+
+abbrev pub message : List ℕ
+message = 109 ∷ 101 ∷ 115 ∷ 115 ∷ 97 ∷ 103 ∷ 101 ∷ []
 
 unfoldable pub refusedLine : Refusal → List ℕ
 refusedLine r = wordLine (numbered refused (numberOf r))
@@ -76,3 +113,29 @@ abbrev pub sentLine : List ℕ → Sent → List ℕ
 sentLine out Drained = wordLine none
 sentLine out (MessageSent k n) = bytesLine sent (take n out)
 sentLine out (NotSent r) = refusedLine r
+
+-- `asked`, how many bytes were written, and these bytes of the output.
+abbrev pub requestedLine : List ℕ → Requested → List ℕ
+requestedLine out (Asked n) = bytesLine asked (take n out)
+requestedLine out (NotAsked r) = refusedLine r
+
+-- `answered` and the series' last number.
+abbrev pub confirmedLine : Confirmed → List ℕ
+confirmedLine (Last k) = wordLine (numbered answered k)
+confirmedLine (NotConfirmed r) = refusedLine r
+
+-- `message`, the number, which is the series' last now, TID and content.
+unfoldable pub messageStart : ℕ → ℕ → List ℕ
+messageStart last tid = numbered message last ++ gap ++ hex8Of tid ++ gap
+
+unfoldable pub messageLine : ℕ → ℕ → List ℕ → List ℕ
+messageLine last tid content = wordLine (messageStart last tid ++ contentText content)
+
+-- `idle`; `again` or `held` and the series' last number; a message, with its content as it lies in the packet p or in
+-- the reassembly buffer.
+abbrev pub receivedLine : List ℕ → List ℕ → Received → List ℕ
+receivedLine p buffer Idle = wordLine idle
+receivedLine p buffer (Duplicate k) = wordLine (numbered again k)
+receivedLine p buffer (Partial k) = wordLine (numbered held k)
+receivedLine p buffer (Complete last tid origin at) = messageLine last tid (contentIn p buffer origin at)
+receivedLine p buffer (NotTaken r) = refusedLine r

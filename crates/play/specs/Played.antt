@@ -1,38 +1,99 @@
--- What the player is after a call, and the line that it prints.
-use Prim.Native.Nat.{ℕ, _≤_}
+-- What the player is after a line, what it prints, and every byte of its log and its chain buffer.
+use Prim.Native.Nat.{ℕ, _+_, _-_, _*_, _≤_}
 use mathlib.Core.Path.{_≡_}
-use mathlib.Core.List.{List, [], _∷_}
-use mathlib.Core.Bool.{false}
-use lib.ListN.{length, replicate}
+use mathlib.Core.List.{List, [], _∷_, _++_}
+use mathlib.Core.Bool.{Bool, true, false, cond, _||_}
+use lib.ListN.{length, take, drop, replicate}
+use lib.Dec.{ltb}
 use Rattle.flow.specs.declared.sender.Sender.{Sender}
-use Rattle.flow.specs.Ends.{freshSender}
+use Rattle.flow.specs.declared.receiver.Receiver.{Receiver}
+use Rattle.flow.specs.Ends.{freshSender, freshReceiver}
 use Rattle.flow.specs.Serving.{openDayOf, publishOf, loginOf, sendOf}
+use Rattle.flow.specs.Receiving.{openEndOf, connectOf, requestLoginOf, confirmLoginOf, receiveOf}
 use Rattle.listing.specs.Text.{WroteText}
 use Rattle.play.specs.declared.player.Player.{Player}
 use Rattle.play.specs.declared.player.Played.{Played}
+use Rattle.play.specs.declared.calls.Call.{Call}
+use Rattle.play.specs.declared.calls.Call.the-variants.{Bad, Buffers, OpenDay, Publish, Login, Send, OpenEnd}
+use Rattle.play.specs.declared.calls.Call.the-variants.{Connect, Ask, Answer, Receive, State}
+use Rattle.play.specs.Words.{argument, saidBytes, seriesFrom}
+use Rattle.play.specs.Calls.{callOf, Limited}
 use Rattle.play.specs.Lines.{wordLine, numbered, openedLine, publishedLine, loginAnswerLine, sentLine}
+use Rattle.play.specs.Lines.{connected, requestedLine, confirmedLine, receivedLine}
+use Rattle.play.specs.State.{stateLines}
 
--- No line was given, no buffer is laid out, and the serving end is fresh.
+-- ─── The player ───
+
+-- No line was given, no buffer is laid out, and the ends are fresh.
 abbrev pub freshPlayer : Player
-freshPlayer = record { lines = 0; ready = false; log = 0; chain = 0; sender = freshSender }
+freshPlayer =
+    record { lines = 0; ready = false; log = 0; chain = 0; sender = freshSender; receiver = freshReceiver }
 
--- The player with another serving end.
+-- The player with another serving end, with another receiving end.
 abbrev pub withSender : Player → Sender → Player
-withSender p e = record { lines = p .lines; ready = p .ready; log = p .log; chain = p .chain; sender = e }
+withSender p e =
+    record {
+      lines = p .lines;
+      ready = p .ready;
+      log = p .log;
+      chain = p .chain;
+      sender = e;
+      receiver = p .receiver;
+    }
 
--- `bad line` and the line's number.
+abbrev pub withReceiver : Player → Receiver → Player
+withReceiver p e =
+    record {
+      lines = p .lines;
+      ready = p .ready;
+      log = p .log;
+      chain = p .chain;
+      sender = p .sender;
+      receiver = e;
+    }
+
+-- The buffers are laid out, with these lengths.
+abbrev pub laidOut : Player → ℕ → ℕ → Player
+laidOut p log chain =
+    record {
+      lines = p .lines;
+      ready = true;
+      log = log;
+      chain = chain;
+      sender = p .sender;
+      receiver = p .receiver;
+    }
+
+-- A line more; behind 4,294,967,295 lines they are counted no further.
+unfoldable pub countedPlayer : Player → Player
+countedPlayer p =
+    cond (ltb (p .lines) 4294967295)
+    (record {
+      lines = p .lines + 1;
+      ready = p .ready;
+      log = p .log;
+      chain = p .chain;
+      sender = p .sender;
+      receiver = p .receiver;
+    })
+    p
+
+-- `bad line` and the line's number; `ok`.
 unfoldable pub badLine : ℕ → List ℕ
 badLine n = wordLine (numbered (98 ∷ 97 ∷ 100 ∷ 32 ∷ 108 ∷ 105 ∷ 110 ∷ 101 ∷ []) n)
 
--- The player is the one meant, and the text begins with the line meant; what stood behind it is still there.
+unfoldable pub okLine : List ℕ
+okLine = wordLine (111 ∷ 107 ∷ [])
+
+-- The player is the one meant, and the text begins with the lines meant; what stood behind them is still there.
 abbrev pub Shows : Player → List ℕ → Played → List ℕ → List ℕ → Type 0
-Shows player line r before after =
-    (r .player ≡ player) × WroteText before 0 line after (r .len) × (r .len ≤ length after)
+Shows player lines r before after =
+    (r .player ≡ player) × WroteText before 0 lines after (r .len) × (r .len ≤ length after)
 
--- ─── The calls ───
+-- ─── The calls, each in the buffers that it is lent ───
 
-abbrev pub ShowsOpening : Player → ℕ → List ℕ → Played → List ℕ → List ℕ → Type 0
-ShowsOpening p date series r before after =
+abbrev pub ShowsOpenDay : Player → ℕ → List ℕ → Played → List ℕ → List ℕ → Type 0
+ShowsOpenDay p date series r before after =
     let m = openDayOf (p .sender) date series in
     Shows (withSender p (m .end)) (openedLine (m .answer)) r before after
 
@@ -52,3 +113,183 @@ abbrev pub ShowsSend : Player → ℕ → List ℕ → ℕ → List ℕ → Play
 ShowsSend p s log n out r before after =
     let m = sendOf (p .sender) s log (replicate n 0) in
     Shows (withSender p (m .end)) (sentLine (m .bytes) (m .answer)) r before after × (out ≡ m .bytes)
+
+abbrev pub ShowsOpenEnd : Player → List ℕ → Played → List ℕ → List ℕ → Type 0
+ShowsOpenEnd p series r before after =
+    let m = openEndOf (p .receiver) series in
+    Shows (withReceiver p (m .end)) (openedLine (m .answer)) r before after
+
+abbrev pub ShowsConnect : Player → Played → List ℕ → List ℕ → Type 0
+ShowsConnect p r before after =
+    Shows (withReceiver p (connectOf (p .receiver))) (wordLine connected) r before after
+
+-- The end stays.
+abbrev pub ShowsAsk : Player → ℕ → List ℕ → ℕ → List ℕ → Played → List ℕ → List ℕ → Type 0
+ShowsAsk p s content n out r before after =
+    let m = requestLoginOf (p .receiver) s content (replicate n 0) in
+    Shows p (requestedLine (m .bytes) (m .answer)) r before after × (out ≡ m .bytes)
+
+abbrev pub ShowsAnswer : Player → ℕ → List ℕ → Played → List ℕ → List ℕ → Type 0
+ShowsAnswer p s packet r before after =
+    let m = confirmLoginOf (p .receiver) s packet in
+    Shows (withReceiver p (m .end)) (confirmedLine (m .answer)) r before after
+
+-- The chain buffer becomes `buffer′`; the content of a message is read off the packet or off that.
+abbrev pub ShowsReceive : Player → List ℕ → List ℕ → List ℕ → Played → List ℕ → List ℕ → Type 0
+ShowsReceive p packet buffer buffer′ r before after =
+    let m = receiveOf (p .receiver) packet buffer in
+    Shows (withReceiver p (m .end)) (receivedLine packet (m .bytes) (m .answer)) r before after
+    × (buffer′ ≡ m .bytes)
+
+abbrev pub ShowsState : Player → Played → List ℕ → List ℕ → Type 0
+ShowsState p r before after = Shows p (stateLines (p .sender) (p .receiver)) r before after
+
+-- ─── The calls, as a line makes them ───
+
+-- What a line leaves: the player, what is printed, and all bytes of log and chain buffer.
+pub record Turn : Type 0 where
+  pub player : Player
+  pub said : List ℕ
+  pub log : List ℕ
+  pub chain : List ℕ
+
+abbrev pub turn : Player → List ℕ → List ℕ → List ℕ → Turn
+turn p said log chain = record { player = p; said = said; log = log; chain = chain }
+
+abbrev pub badTurn : Player → List ℕ → List ℕ → Turn
+badTurn p log chain = turn p (badLine (p .lines)) log chain
+
+-- The part of a buffer that is laid out has become other bytes.
+abbrev pub within : ℕ → List ℕ → List ℕ → List ℕ
+within size bytes buffer = bytes ++ drop size buffer
+
+-- The buffers are laid out, all zero, where they have so many bytes.
+unfoldable pub layoutTurn : Player → ℕ → ℕ → List ℕ → List ℕ → Turn
+layoutTurn p size part log chain =
+    cond (ltb (length log) size) (badTurn p log chain)
+    (cond (ltb (length chain) part) (badTurn p log chain)
+    (turn (laidOut p size part) okLine (within size (replicate size 0) log) (within part (replicate part 0) chain)))
+
+abbrev pub publishTurn : Player → ℕ → ℕ → List ℕ → List ℕ → List ℕ → Turn
+publishTurn p s tid content log chain =
+    let m = publishOf (p .sender) s tid content (take (p .log) log) in
+    turn (withSender p (m .end)) (publishedLine (m .answer)) (within (p .log) (m .bytes) log) chain
+
+abbrev pub loginTurn : Player → ℕ → List ℕ → List ℕ → ℕ → List ℕ → List ℕ → Turn
+loginTurn p s packet content room log chain =
+    let m = loginOf (p .sender) s packet content (replicate room 0) in
+    turn (withSender p (m .end)) (loginAnswerLine (m .bytes) (m .answer)) log chain
+
+abbrev pub sendTurn : Player → ℕ → ℕ → List ℕ → List ℕ → Turn
+sendTurn p s room log chain =
+    let m = sendOf (p .sender) s (take (p .log) log) (replicate room 0) in
+    turn (withSender p (m .end)) (sentLine (m .bytes) (m .answer)) log chain
+
+abbrev pub askTurn : Player → ℕ → List ℕ → ℕ → List ℕ → List ℕ → Turn
+askTurn p s content room log chain =
+    let m = requestLoginOf (p .receiver) s content (replicate room 0) in
+    turn p (requestedLine (m .bytes) (m .answer)) log chain
+
+abbrev pub receiveTurn : Player → List ℕ → List ℕ → List ℕ → Turn
+receiveTurn p packet log chain =
+    let m = receiveOf (p .receiver) packet (take (p .chain) chain) in
+    turn (withReceiver p (m .end)) (receivedLine packet (m .bytes) (m .answer)) log
+    (within (p .chain) (m .bytes) chain)
+
+-- A call in buffers that are laid out: the words that say bytes are the line's.
+abbrev pub readyTurn : Player → List ℕ → List ℕ → List ℕ → Call → Turn
+readyTurn p line log chain Bad = badTurn p log chain
+readyTurn p line log chain (Buffers size part) = badTurn p log chain
+readyTurn p line log chain (OpenDay date count) =
+    let m = openDayOf (p .sender) date (seriesFrom line 1 count) in
+    turn (withSender p (m .end)) (openedLine (m .answer)) log chain
+readyTurn p line log chain (Publish s tid) = publishTurn p s tid (saidBytes (argument line 2)) log chain
+readyTurn p line log chain (Login s room) =
+    loginTurn p s (saidBytes (argument line 2)) (saidBytes (argument line 3)) room log chain
+readyTurn p line log chain (Send s room) = sendTurn p s room log chain
+readyTurn p line log chain (OpenEnd count) =
+    let m = openEndOf (p .receiver) (seriesFrom line 0 count) in
+    turn (withReceiver p (m .end)) (openedLine (m .answer)) log chain
+readyTurn p line log chain Connect =
+    turn (withReceiver p (connectOf (p .receiver))) (wordLine connected) log chain
+readyTurn p line log chain (Ask s room) = askTurn p s (saidBytes (argument line 2)) room log chain
+readyTurn p line log chain (Answer s) =
+    let m = confirmLoginOf (p .receiver) s (saidBytes (argument line 1)) in
+    turn (withReceiver p (m .end)) (confirmedLine (m .answer)) log chain
+readyTurn p line log chain Receive = receiveTurn p (saidBytes (argument line 0)) log chain
+readyTurn p line log chain State = turn p (stateLines (p .sender) (p .receiver)) log chain
+
+-- Before that, `buffers` is the only call.
+abbrev pub startTurn : Player → List ℕ → List ℕ → Call → Turn
+startTurn p log chain (Buffers size part) = layoutTurn p size part log chain
+startTurn p log chain Bad = badTurn p log chain
+startTurn p log chain (OpenDay date count) = badTurn p log chain
+startTurn p log chain (Publish s tid) = badTurn p log chain
+startTurn p log chain (Login s room) = badTurn p log chain
+startTurn p log chain (Send s room) = badTurn p log chain
+startTurn p log chain (OpenEnd count) = badTurn p log chain
+startTurn p log chain Connect = badTurn p log chain
+startTurn p log chain (Ask s room) = badTurn p log chain
+startTurn p log chain (Answer s) = badTurn p log chain
+startTurn p log chain Receive = badTurn p log chain
+startTurn p log chain State = badTurn p log chain
+
+unfoldable pub callTurn : Player → List ℕ → List ℕ → List ℕ → Call → Turn
+callTurn p line log chain call =
+    cond (p .ready) (readyTurn p line log chain call) (startTurn p log chain call)
+
+-- A buffer is too small for what a line of n bytes may need.
+unfoldable pub lacksRoom : Player → ℕ → ℕ → ℕ → ℕ → ℕ → ℕ → Bool
+lacksRoom p n log chain bytes out text =
+    cond (ltb text 524352) true
+    (cond (ltb out 65536) true
+    (cond (ltb bytes n) true
+    (cond (ltb (text - 64) n) true
+    (cond (ltb 262144 (p .chain)) true
+    (cond (ltb log (p .log)) true (ltb chain (p .chain)))))))
+
+-- The buffers are large enough for a call: the lengths are those of the line, the log, the chain buffer and the others.
+abbrev pub Fits : Player → Call → ℕ → ℕ → ℕ → ℕ → ℕ → ℕ → Type 0
+Fits p call n log chain bytes out text =
+    Limited call × (n ≤ bytes) × (65536 ≤ out) × (64 + n ≤ text) × (64 + 2 * p .chain ≤ text) × (131136 ≤ text)
+    × (p .log ≤ log) × (p .chain ≤ chain)
+
+-- The line that the first `len` bytes of a buffer are; one longer than the buffer is no call. The last three are the
+-- lengths of the other buffers; where one is too small, nothing is done.
+unfoldable pub playTurn : Player → List ℕ → ℕ → List ℕ → List ℕ → ℕ → ℕ → ℕ → Turn
+playTurn p line len log chain bytes out text =
+    cond (lacksRoom p (length line) (length log) (length chain) bytes out text) (turn p [] log chain)
+    (cond (ltb (length line) len) (badTurn (countedPlayer p) log chain)
+    (callTurn (countedPlayer p) (take len line) log chain (callOf (take len line))))
+
+-- Player and text, and every byte of log and chain buffer.
+abbrev pub Plays : Turn → Played → List ℕ → List ℕ → List ℕ → List ℕ → Type 0
+Plays t r before after log chain =
+    Shows (t .player) (t .said) r before after × (log ≡ t .log) × (chain ≡ t .chain)
+
+-- ─── The same of the buffers that a call is lent ───
+
+abbrev pub PlaysPublish : Player → ℕ → ℕ → List ℕ → List ℕ → List ℕ → Played → List ℕ → List ℕ → Type 0
+PlaysPublish p s tid content log log′ r before after =
+    let t = publishTurn p s tid content log [] in
+    Shows (t .player) (t .said) r before after × (log′ ≡ t .log)
+
+abbrev pub PlaysLogin : Player → ℕ → List ℕ → List ℕ → ℕ → Played → List ℕ → List ℕ → Type 0
+PlaysLogin p s packet content room r before after =
+    let t = loginTurn p s packet content room [] [] in
+    Shows (t .player) (t .said) r before after
+
+abbrev pub PlaysSend : Player → ℕ → List ℕ → ℕ → Played → List ℕ → List ℕ → Type 0
+PlaysSend p s log room r before after =
+    let t = sendTurn p s room log [] in
+    Shows (t .player) (t .said) r before after
+
+abbrev pub PlaysAsk : Player → ℕ → List ℕ → ℕ → Played → List ℕ → List ℕ → Type 0
+PlaysAsk p s content room r before after =
+    let t = askTurn p s content room [] [] in
+    Shows (t .player) (t .said) r before after
+
+abbrev pub PlaysReceive : Player → List ℕ → List ℕ → List ℕ → Played → List ℕ → List ℕ → Type 0
+PlaysReceive p packet chain chain′ r before after =
+    let t = receiveTurn p packet [] chain in
+    Shows (t .player) (t .said) r before after × (chain′ ≡ t .chain)

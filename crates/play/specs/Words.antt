@@ -1,8 +1,8 @@
 -- The words of a script's line: what a word says as a number, as a TID, as bytes.
-use Prim.Native.Nat.{ℕ, suc, _+_, _-_, _*_, _%_}
-use mathlib.Core.List.{List, [], _∷_}
+use Prim.Native.Nat.{ℕ, zero, suc, _+_, _-_, _*_, _%_}
+use mathlib.Core.List.{List, [], _∷_, _++_}
 use mathlib.Core.Bool.{Bool, true, false, cond}
-use lib.ListN.{length, getD, drop}
+use lib.ListN.{length, getD, take, drop}
 use lib.Dec.{ltb, leb, eqb}
 
 -- ─── Where a word ends ───
@@ -76,3 +76,58 @@ sameWord [] [] = true
 sameWord [] (y ∷ m) = false
 sameWord (x ∷ l) [] = false
 sameWord (x ∷ l) (y ∷ m) = cond (eqb x y) (sameWord l m) false
+
+-- ─── The words behind the first one: a line's arguments, counted from 0 ───
+
+-- Where the word ends that follows the one that ends at a place; behind the line where none follows.
+unfoldable pub nextEnd : List ℕ → ℕ → ℕ
+nextEnd line e = cond (ltb e (length line)) (endOf line (e + 1)) (length line + 1)
+
+-- Where word i of a line ends; the first one is word 0, and argument i is the word behind word i.
+unfoldable pub endAt : List ℕ → ℕ → ℕ
+endAt line zero = endOf line 0
+endAt line (suc i) = nextEnd line (endAt line i)
+
+unfoldable pub argument : List ℕ → ℕ → List ℕ
+argument line i =
+    let a = endAt line i + 1 in
+    take (upToSpace (drop a line)) (drop a line)
+
+-- Just so many.
+unfoldable pub hasArguments : List ℕ → ℕ → Bool
+hasArguments line n = eqb (endAt line n) (length line)
+
+-- The k arguments from i on say bytes.
+unfoldable pub allBytes : List ℕ → ℕ → ℕ → Bool
+allBytes line i zero = true
+allBytes line i (suc k) = cond (saysBytes (argument line i)) (allBytes line (i + 1) k) false
+
+-- So many numbers, and behind them so many words that say bytes.
+unfoldable pub hasForm : List ℕ → ℕ → ℕ → Bool
+hasForm line numbers bytes = cond (hasArguments line (numbers + bytes)) (allBytes line numbers bytes) false
+
+-- ─── The series of an opening: the arguments from one on ───
+
+-- At most 64.
+abbrev pub mostNamed : ℕ
+mostNamed = 64
+
+-- How many there are behind n of them, looking at so many more; one more than the most where they are too many or one
+-- is no series.
+unfoldable pub seriesBehind : List ℕ → ℕ → ℕ → ℕ → ℕ
+seriesBehind line i n zero = mostNamed + 1
+seriesBehind line i n (suc more) =
+    cond (hasArguments line (i + n)) n
+    (cond (ltb 65535 (numberIn 10 (argument line (i + n)))) (mostNamed + 1) (seriesBehind line i (n + 1) more))
+
+unfoldable pub seriesCount : List ℕ → ℕ → ℕ
+seriesCount line i = seriesBehind line i 0 (mostNamed + 1)
+
+-- A series; where the argument says none, 0.
+unfoldable pub seriesAt : List ℕ → ℕ → ℕ
+seriesAt line i = let x = numberIn 10 (argument line i) in cond (ltb 65535 x) 0 x
+
+-- The n series from argument i on.
+unfoldable pub seriesFrom : List ℕ → ℕ → ℕ → List ℕ
+seriesFrom line i zero = []
+seriesFrom line i (suc n) = seriesFrom line i n ++ (seriesAt line (i + n) ∷ [])

@@ -1,54 +1,77 @@
-// What a script's line says: a call, with its numbers, and where its other words lie in the line.
+// What a script's line says: a call, with its numbers. The words that say bytes stay in the line.
 ghost use mathlib.Core.Path.{_≡_};
 ghost use Prim.Native.Nat.{_≤_};
-ghost use lib.ListN.{length};
-ghost use Rattle.play.specs.Calls.{verbOf, buffersWith, buffersCall, openingWith, openingCall, publishWith};
-ghost use Rattle.play.specs.Calls.{publishCall, loginCallWith, loginCall, sendWith, sendCall, callOf};
+ghost use Rattle.play.specs.Calls.{endVerbOf, verbOf, buffersWith, openDayWith, publishWith, loginCallWith, sendWith};
+ghost use Rattle.play.specs.Calls.{openEndWith, askWith, answerWith, plainCall, namedCall, numberAt, callOf};
+use crate::words::argument;
+use crate::words::has_form;
 use crate::words::is_word;
 use crate::words::read_number;
 use crate::words::read_tid;
-use crate::words::says_bytes;
+use crate::words::series_count;
 use crate::words::word_end;
 
 // The first word of a line.
 enum Verb {
     Unknown,
     Buffers,
-    Opening,
+    OpenDay,
     Publish,
     Login,
     Send,
+    OpenEnd,
+    Connect,
+    Ask,
+    Answer,
+    Receive,
+    State,
 }
 
-// A call. Places are those of the line: a word begins at its place and ends at the next space.
+// A call, with the numbers that its line says.
 pub enum Call {
     // No call.
     Bad,
     // The lengths of log and chain buffer.
-    Buffers {
-        log: usize,
-        chain: usize,
-    },
-    // Opening of the serving end; the series begin behind the place.
-    Opening {
-        date: u32,
-        series: usize,
-    },
-    Publish {
-        series: u16,
-        tid: u32,
-        content: usize,
-    },
-    Login {
-        series: u16,
-        room: usize,
-        packet: usize,
-        content: usize,
-    },
-    Send {
-        series: u16,
-        room: usize,
-    },
+    Buffers { log: usize, chain: usize },
+    // Opening of the serving end, with so many series.
+    OpenDay { date: u32, count: usize },
+    Publish { series: u16, tid: u32 },
+    // An output of so many bytes.
+    Login { series: u16, room: usize },
+    Send { series: u16, room: usize },
+    // Opening of the receiving end.
+    OpenEnd { count: usize },
+    Connect,
+    Ask { series: u16, room: usize },
+    Answer { series: u16 },
+    Receive,
+    // Both ends, for people.
+    State,
+}
+
+// Which call of the receiving end a line's first word names.
+fn end_verb_of(word: &[u8]) -> Verb
+    ensures { λ r. ⌜ r ≡ endVerbOf (now (word .entry)) ⌝ }
+{
+    if is_word(word, b"ropen") {
+        return Verb::OpenEnd;
+    }
+    if is_word(word, b"connect") {
+        return Verb::Connect;
+    }
+    if is_word(word, b"ask") {
+        return Verb::Ask;
+    }
+    if is_word(word, b"answer") {
+        return Verb::Answer;
+    }
+    if is_word(word, b"receive") {
+        return Verb::Receive;
+    }
+    if is_word(word, b"state") {
+        return Verb::State;
+    }
+    Verb::Unknown
 }
 
 // Which call a line's first word names.
@@ -59,7 +82,7 @@ fn verb_of(word: &[u8]) -> Verb
         return Verb::Buffers;
     }
     if is_word(word, b"sopen") {
-        return Verb::Opening;
+        return Verb::OpenDay;
     }
     if is_word(word, b"publish") {
         return Verb::Publish;
@@ -70,206 +93,186 @@ fn verb_of(word: &[u8]) -> Verb
     if is_word(word, b"send") {
         return Verb::Send;
     }
-    Verb::Unknown
+    end_verb_of(word)
 }
 
 // Lengths within the limits.
-fn buffers_with(log: u64, chain: u64) -> Call
-    ensures { λ r. ⌜ r ≡ buffersWith log chain ⌝ }
+fn buffers_with(right: bool, log: u64, chain: u64) -> Call
+    ensures { λ r. ⌜ r ≡ buffersWith right log chain ⌝ }
 {
-    if log > 1048576 {
-        return Call::Bad;
-    }
-    if chain > 262144 {
-        return Call::Bad;
-    }
-    Call::Buffers {
-        log: log as usize,
-        chain: chain as usize,
-    }
-}
-
-// `LOGLEN CHAINLEN`, from a place on.
-fn buffers_call(line: &[u8], at: usize) -> Call
-    requires { ⌜ at ≤ length (now line) ⌝ }
-    ensures { λ r. ⌜ r ≡ buffersCall (now (line .entry)) at ⌝ }
-{
-    let a = word_end(line, at);
-    if a == line.len() {
-        return Call::Bad;
-    }
-    let b = word_end(line, a + 1);
-    if b < line.len() {
-        return Call::Bad;
-    }
-    buffers_with(
-        read_number(&line[at..a], 10),
-        read_number(&line[a + 1..b], 10),
-    )
-}
-
-// A date within four bytes, and where the word ends.
-fn opening_with(date: u64, series: usize) -> Call
-    ensures { λ r. ⌜ r ≡ openingWith date series ⌝ }
-{
-    if date > 4294967295 {
-        return Call::Bad;
-    }
-    Call::Opening {
-        date: date as u32,
-        series: series,
-    }
-}
-
-// `DATE SERIES SERIES ..`, from a place on.
-fn opening_call(line: &[u8], at: usize) -> Call
-    requires { ⌜ at ≤ length (now line) ⌝ }
-    ensures { λ r. ⌜ r ≡ openingCall (now (line .entry)) at ⌝ }
-{
-    let a = word_end(line, at);
-    opening_with(read_number(&line[at..a], 10), a)
-}
-
-// Numbers within their widths, and whether the content is bytes.
-fn publish_with(series: u64, tid: u64, whole: bool, content: usize) -> Call
-    ensures { λ r. ⌜ r ≡ publishWith series tid whole content ⌝ }
-{
-    if series > 65535 {
-        return Call::Bad;
-    }
-    if tid > 4294967295 {
-        return Call::Bad;
-    }
-    if whole {
-        return Call::Publish {
-            series: series as u16,
-            tid: tid as u32,
-            content: content,
+    if right {
+        if log > 1048576 {
+            return Call::Bad;
+        }
+        if chain > 262144 {
+            return Call::Bad;
+        }
+        return Call::Buffers {
+            log: log as usize,
+            chain: chain as usize,
         };
     }
     Call::Bad
 }
 
-// `SERIES TID CONTENT`, from a place on.
-fn publish_call(line: &[u8], at: usize) -> Call
-    requires { ⌜ at ≤ length (now line) ⌝ }
-    ensures { λ r. ⌜ r ≡ publishCall (now (line .entry)) at ⌝ }
+// A date within four bytes, and so many series.
+fn open_day_with(date: u64, count: usize) -> Call
+    ensures { λ r. ⌜ r ≡ openDayWith date count ⌝ }
 {
-    let a = word_end(line, at);
-    if a == line.len() {
+    if date > 4294967295 {
         return Call::Bad;
     }
-    let b = word_end(line, a + 1);
-    if b == line.len() {
+    if count > 64 {
         return Call::Bad;
     }
-    let c = word_end(line, b + 1);
-    if c < line.len() {
-        return Call::Bad;
+    Call::OpenDay {
+        date: date as u32,
+        count: count,
     }
-    publish_with(
-        read_number(&line[at..a], 10),
-        read_tid(&line[a + 1..b]),
-        says_bytes(&line[b + 1..c]),
-        b + 1,
-    )
 }
 
-// Numbers within their widths and limits, and whether packet and content are bytes.
-fn login_with(
-    series: u64,
-    room: u64,
-    whole: bool,
-    filled: bool,
-    packet: usize,
-    content: usize,
-) -> Call
-    ensures { λ r. ⌜ r ≡ loginCallWith series room whole filled packet content ⌝ }
+// Numbers within their widths.
+fn publish_with(right: bool, series: u64, tid: u64) -> Call
+    ensures { λ r. ⌜ r ≡ publishWith right series tid ⌝ }
 {
-    if series > 65535 {
-        return Call::Bad;
-    }
-    if room > 65536 {
-        return Call::Bad;
-    }
-    if whole {
-        if filled {
-            return Call::Login {
-                series: series as u16,
-                room: room as usize,
-                packet: packet,
-                content: content,
-            };
+    if right {
+        if series > 65535 {
+            return Call::Bad;
         }
-        return Call::Bad;
+        if tid > 4294967295 {
+            return Call::Bad;
+        }
+        return Call::Publish {
+            series: series as u16,
+            tid: tid as u32,
+        };
     }
     Call::Bad
 }
 
-// `SERIES OUTLEN PACKET CONTENT`, from a place on.
-fn login_call(line: &[u8], at: usize) -> Call
-    requires { ⌜ at ≤ length (now line) ⌝ }
-    ensures { λ r. ⌜ r ≡ loginCall (now (line .entry)) at ⌝ }
+// Numbers within their width and limit.
+fn login_with(right: bool, series: u64, room: u64) -> Call
+    ensures { λ r. ⌜ r ≡ loginCallWith right series room ⌝ }
 {
-    let a = word_end(line, at);
-    if a == line.len() {
-        return Call::Bad;
+    if right {
+        if series > 65535 {
+            return Call::Bad;
+        }
+        if room > 65536 {
+            return Call::Bad;
+        }
+        return Call::Login {
+            series: series as u16,
+            room: room as usize,
+        };
     }
-    let b = word_end(line, a + 1);
-    if b == line.len() {
-        return Call::Bad;
-    }
-    let c = word_end(line, b + 1);
-    if c == line.len() {
-        return Call::Bad;
-    }
-    let d = word_end(line, c + 1);
-    if d < line.len() {
-        return Call::Bad;
-    }
-    login_with(
-        read_number(&line[at..a], 10),
-        read_number(&line[a + 1..b], 10),
-        says_bytes(&line[b + 1..c]),
-        says_bytes(&line[c + 1..d]),
-        b + 1,
-        c + 1,
-    )
+    Call::Bad
 }
 
 // Numbers within their width and limit.
-fn send_with(series: u64, room: u64) -> Call
-    ensures { λ r. ⌜ r ≡ sendWith series room ⌝ }
+fn send_with(right: bool, series: u64, room: u64) -> Call
+    ensures { λ r. ⌜ r ≡ sendWith right series room ⌝ }
 {
-    if series > 65535 {
-        return Call::Bad;
+    if right {
+        if series > 65535 {
+            return Call::Bad;
+        }
+        if room > 65536 {
+            return Call::Bad;
+        }
+        return Call::Send {
+            series: series as u16,
+            room: room as usize,
+        };
     }
-    if room > 65536 {
-        return Call::Bad;
-    }
-    Call::Send {
-        series: series as u16,
-        room: room as usize,
-    }
+    Call::Bad
 }
 
-// `SERIES OUTLEN`, from a place on.
-fn send_call(line: &[u8], at: usize) -> Call
-    requires { ⌜ at ≤ length (now line) ⌝ }
-    ensures { λ r. ⌜ r ≡ sendCall (now (line .entry)) at ⌝ }
+// So many series.
+fn open_end_with(count: usize) -> Call
+    ensures { λ r. ⌜ r ≡ openEndWith count ⌝ }
 {
-    let a = word_end(line, at);
-    if a == line.len() {
+    if count > 64 {
         return Call::Bad;
     }
-    let b = word_end(line, a + 1);
-    if b < line.len() {
-        return Call::Bad;
+    Call::OpenEnd { count: count }
+}
+
+// Numbers within their width and limit.
+fn ask_with(right: bool, series: u64, room: u64) -> Call
+    ensures { λ r. ⌜ r ≡ askWith right series room ⌝ }
+{
+    if right {
+        if series > 65535 {
+            return Call::Bad;
+        }
+        if room > 65536 {
+            return Call::Bad;
+        }
+        return Call::Ask {
+            series: series as u16,
+            room: room as usize,
+        };
     }
-    send_with(
-        read_number(&line[at..a], 10),
-        read_number(&line[a + 1..b], 10),
-    )
+    Call::Bad
+}
+
+// A series within its width.
+fn answer_with(right: bool, series: u64) -> Call
+    ensures { λ r. ⌜ r ≡ answerWith right series ⌝ }
+{
+    if right {
+        if series > 65535 {
+            return Call::Bad;
+        }
+        return Call::Answer {
+            series: series as u16,
+        };
+    }
+    Call::Bad
+}
+
+// A call without numbers.
+fn plain_call(right: bool, call: Call) -> Call
+    ensures { λ r. ⌜ r ≡ plainCall right call ⌝ }
+{
+    if right {
+        return call;
+    }
+    Call::Bad
+}
+
+// Number i of a line.
+fn number_at(line: &[u8], i: usize) -> u64
+    ensures { λ r. ⌜ r ≡ numberAt (now (line .entry)) i ⌝ }
+{
+    read_number(argument(line, i), 10)
+}
+
+// The call that a line with a verb says.
+fn named_call(line: &[u8], verb: Verb) -> Call
+    ensures { λ r. ⌜ r ≡ namedCall (now (line .entry)) verb ⌝ }
+{
+    match verb {
+        Verb::Unknown => Call::Bad,
+        Verb::Buffers => {
+            buffers_with(has_form(line, 2, 0), number_at(line, 0), number_at(line, 1))
+        }
+        Verb::OpenDay => open_day_with(number_at(line, 0), series_count(line, 1)),
+        Verb::Publish => publish_with(
+            has_form(line, 2, 1),
+            number_at(line, 0),
+            read_tid(argument(line, 1)),
+        ),
+        Verb::Login => login_with(has_form(line, 2, 2), number_at(line, 0), number_at(line, 1)),
+        Verb::Send => send_with(has_form(line, 2, 0), number_at(line, 0), number_at(line, 1)),
+        Verb::OpenEnd => open_end_with(series_count(line, 0)),
+        Verb::Connect => plain_call(has_form(line, 0, 0), Call::Connect),
+        Verb::Ask => ask_with(has_form(line, 2, 1), number_at(line, 0), number_at(line, 1)),
+        Verb::Answer => answer_with(has_form(line, 1, 1), number_at(line, 0)),
+        Verb::Receive => plain_call(has_form(line, 0, 1), Call::Receive),
+        Verb::State => plain_call(has_form(line, 0, 0), Call::State),
+    }
 }
 
 // The call that a line says.
@@ -277,15 +280,5 @@ pub fn call_of(line: &[u8]) -> Call
     ensures { λ r. ⌜ r ≡ callOf (now (line .entry)) ⌝ }
 {
     let e = word_end(line, 0);
-    if e == line.len() {
-        return Call::Bad;
-    }
-    match verb_of(&line[..e]) {
-        Verb::Unknown => Call::Bad,
-        Verb::Buffers => buffers_call(line, e + 1),
-        Verb::Opening => opening_call(line, e + 1),
-        Verb::Publish => publish_call(line, e + 1),
-        Verb::Login => login_call(line, e + 1),
-        Verb::Send => send_call(line, e + 1),
-    }
+    named_call(line, verb_of(&line[..e]))
 }

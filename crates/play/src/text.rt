@@ -3,8 +3,15 @@ ghost use mathlib.Core.Path.{_≡_};
 ghost use Prim.Native.Nat.{_+_, _*_, _<_, _≤_};
 ghost use lib.ListN.{length, take};
 ghost use Rattle.listing.specs.Text.{WroteText};
-ghost use Rattle.play.specs.Lines.{hexBytes, numbered, wordLine, bytesLine, refusedLine, openedLine};
-ghost use Rattle.play.specs.Lines.{publishedLine, loginAnswerLine, sentLine};
+ghost use Rattle.flow.specs.Answers.{contentIn};
+ghost use Rattle.ftd.specs.Bytes.{part};
+ghost use Rattle.play.specs.Lines.{hexBytes, contentText, numbered, wordLine, bytesLine, refusedLine, openedLine};
+ghost use Rattle.play.specs.Lines.{publishedLine, loginAnswerLine, sentLine, requestedLine, confirmedLine};
+ghost use Rattle.play.specs.Lines.{messageStart, messageLine, receivedLine};
+use flow::receiver::Confirmed;
+use flow::receiver::Origin;
+use flow::receiver::Received;
+use flow::receiver::Requested;
 use flow::sender::LoggedIn;
 use flow::sender::Opened;
 use flow::sender::Published;
@@ -12,6 +19,7 @@ use flow::sender::Sent;
 use ftd::bytes::size8;
 use ftd::bytes::size32;
 use ftd::bytes::wide32;
+use ftd::packet::Span;
 use ftd::refusal::Refusal;
 use ftd::refusal::number;
 use listing::put_byte;
@@ -44,12 +52,25 @@ pub(crate) fn word_line(out: &mut [u8], word: &[u8]) -> usize
     put_byte(out, n, 10)
 }
 
-// A word, a space and a number.
-fn put_numbered(out: &mut [u8], word: &[u8], x: usize) -> usize
-    requires { ⌜ (64 ≤ length (now out)) × (length (now word) ≤ 16) ⌝ }
-    ensures { λ r. ⌜ WroteText (now (out .entry)) 0 (numbered (now (word .entry)) x) (now (out .exit)) r × (r ≤ 40) ⌝ }
+// The same, or `-` where there is none.
+fn put_content(out: &mut [u8], at: usize, bytes: &[u8]) -> usize
+    requires { ⌜ at + 1 + 2 * length (now bytes) ≤ length (now out) ⌝ }
+    ensures { λ r. ⌜ WroteText (now (out .entry)) at (contentText (now (bytes .entry))) (now (out .exit)) r
+        × (r ≤ at + 1 + 2 * length (now (bytes .entry))) ⌝ }
 {
-    let n = put_word(out, 0, word);
+    if bytes.len() == 0 {
+        return put_byte(out, at, 45);
+    }
+    put_pairs(out, at, bytes)
+}
+
+// A word, a space and a number.
+pub(crate) fn put_numbered(out: &mut [u8], at: usize, word: &[u8], x: usize) -> usize
+    requires { ⌜ (at + 40 ≤ length (now out)) × (length (now word) ≤ 16) ⌝ }
+    ensures { λ r. ⌜ WroteText (now (out .entry)) at (numbered (now (word .entry)) x) (now (out .exit)) r
+        × (r ≤ at + 40) ⌝ }
+{
+    let n = put_word(out, at, word);
     let n = put_byte(out, n, 32);
     put_decimal(out, n, x)
 }
@@ -60,7 +81,7 @@ pub(crate) fn number_line(out: &mut [u8], word: &[u8], x: usize) -> usize
     ensures { λ r. ⌜ WroteText (now (out .entry)) 0 (wordLine (numbered (now (word .entry)) x)) (now (out .exit)) r
         × (r ≤ length (now (out .exit))) ⌝ }
 {
-    let n = put_numbered(out, word, x);
+    let n = put_numbered(out, 0, word, x);
     put_byte(out, n, 10)
 }
 
@@ -71,9 +92,9 @@ pub(crate) fn bytes_line(out: &mut [u8], word: &[u8], bytes: &[u8]) -> usize
         r
         × (r ≤ length (now (out .exit))) ⌝ }
 {
-    let n = put_numbered(out, word, bytes.len());
+    let n = put_numbered(out, 0, word, bytes.len());
     let n = put_byte(out, n, 32);
-    let n = put_pairs(out, n, bytes);
+    let n = put_content(out, n, bytes);
     put_byte(out, n, 10)
 }
 
@@ -144,5 +165,106 @@ pub(crate) fn sent_line(out: &mut [u8], answer: Sent, bytes: &[u8]) -> usize
         Sent::Drained => word_line(out, b"none"),
         Sent::Wrote { number: _, len: n } => front_line(out, b"sent", bytes, n),
         Sent::Refused(r) => refused_line(out, r),
+    }
+}
+
+// The line of Ask's answer, with the bytes that it wrote to an output.
+pub(crate) fn requested_line(out: &mut [u8], answer: Requested, bytes: &[u8]) -> usize
+    requires { ⌜ 64 + 2 * length (now bytes) ≤ length (now out) ⌝ }
+    ensures { λ r. ⌜ WroteText (now (out .entry)) 0 (requestedLine (now (bytes .entry)) answer) (now (out .exit)) r
+        × (r ≤ length (now (out .exit))) ⌝ }
+{
+    match answer {
+        Requested::Wrote(n) => front_line(out, b"asked", bytes, n),
+        Requested::Refused(r) => refused_line(out, r),
+    }
+}
+
+// The line of Answer's answer.
+pub(crate) fn confirmed_line(out: &mut [u8], answer: Confirmed) -> usize
+    requires { ⌜ 64 ≤ length (now out) ⌝ }
+    ensures { λ r. ⌜ WroteText (now (out .entry)) 0 (confirmedLine answer) (now (out .exit)) r
+        × (r ≤ length (now (out .exit))) ⌝ }
+{
+    match answer {
+        Confirmed::Last(k) => number_line(out, b"answered", size32(k)),
+        Confirmed::Refused(r) => refused_line(out, r),
+    }
+}
+
+// `message`, its number and its TID.
+fn put_message(out: &mut [u8], last: u32, tid: u32) -> usize
+    requires { ⌜ 64 ≤ length (now out) ⌝ }
+    ensures { λ r. ⌜ WroteText (now (out .entry)) 0 (messageStart last tid) (now (out .exit)) r × (r ≤ 50) ⌝ }
+{
+    let n = put_numbered(out, 0, b"message", size32(last));
+    let n = put_byte(out, n, 32);
+    let n = put_hex(out, n, tid, 8);
+    put_byte(out, n, 32)
+}
+
+// The line of a message that is handed on.
+fn message_line(out: &mut [u8], last: u32, tid: u32, content: &[u8]) -> usize
+    requires { ⌜ 64 + 2 * length (now content) ≤ length (now out) ⌝ }
+    ensures { λ r. ⌜ WroteText (now (out .entry)) 0 (messageLine last tid (now (content .entry))) (now (out .exit)) r
+        × (r ≤ length (now (out .exit))) ⌝ }
+{
+    let n = put_message(out, last, tid);
+    let n = put_content(out, n, content);
+    put_byte(out, n, 10)
+}
+
+// So many bytes from a place on, or those that there are.
+fn part_of(bytes: &[u8], start: usize, len: usize) -> &[u8]
+    ensures { λ r. ⌜ now r ≡ part (now (bytes .entry)) start len ⌝ }
+{
+    if bytes.len() < start {
+        return &bytes[..0];
+    }
+    if bytes.len() - start < len {
+        return &bytes[start..];
+    }
+    &bytes[start..start + len]
+}
+
+// The line of a message whose content lies in the packet or in the buffer.
+fn complete_line(
+    out: &mut [u8],
+    last: u32,
+    tid: u32,
+    origin: Origin,
+    content: Span,
+    packet: &[u8],
+    buffer: &[u8],
+) -> usize
+    requires { ⌜ (64 + 2 * length (now packet) ≤ length (now out)) × (64 + 2 * length (now buffer) ≤ length (now out)) ⌝ }
+    ensures { λ r. ⌜ WroteText (now (out .entry)) 0 (messageLine last tid (contentIn (now (packet .entry))
+        (now (buffer .entry)) origin content)) (now (out .exit)) r × (r ≤ length (now (out .exit))) ⌝ }
+{
+    let start = content.start;
+    let len = content.len;
+    match origin {
+        Origin::Packet => message_line(out, last, tid, part_of(packet, start, len)),
+        Origin::Buffer => message_line(out, last, tid, part_of(buffer, start, len)),
+    }
+}
+
+// The line of Receive's answer, to a packet, with the buffer as the call left it.
+pub(crate) fn received_line(out: &mut [u8], answer: Received, packet: &[u8], buffer: &[u8]) -> usize
+    requires { ⌜ (64 + 2 * length (now packet) ≤ length (now out)) × (64 + 2 * length (now buffer) ≤ length (now out)) ⌝ }
+    ensures { λ r. ⌜ WroteText (now (out .entry)) 0 (receivedLine (now (packet .entry)) (now (buffer .entry)) answer)
+        (now (out .exit)) r × (r ≤ length (now (out .exit))) ⌝ }
+{
+    match answer {
+        Received::Idle => word_line(out, b"idle"),
+        Received::Duplicate(k) => number_line(out, b"again", size32(k)),
+        Received::Partial(k) => number_line(out, b"held", size32(k)),
+        Received::Complete {
+            last,
+            tid,
+            origin,
+            content,
+        } => complete_line(out, last, tid, origin, content, packet, buffer),
+        Received::Refused(r) => refused_line(out, r),
     }
 }

@@ -1,9 +1,12 @@
 // The words of a script's line: where a word ends, and the number or the bytes that it says.
 ghost use mathlib.Core.Path.{_≡_};
-ghost use Prim.Native.Nat.{_+_, _*_, _/_, _<_, _≤_};
-ghost use lib.ListN.{length};
+ghost use Prim.Native.Nat.{_+_, _-_, _*_, _/_, _<_, _≤_};
+ghost use mathlib.Core.List.{_++_};
+ghost use lib.ListN.{length, take, drop};
 ghost use Rattle.ftd.specs.Bytes.{put};
 ghost use Rattle.play.specs.Words.{endOf, digitValue, numberIn, tidIn, allHex, saysBytes, pairOf, saidBytes, sameWord};
+ghost use Rattle.play.specs.Words.{nextEnd, endAt, argument as argumentOf, hasArguments, allBytes, hasForm};
+ghost use Rattle.play.specs.Words.{seriesCount, seriesAt, seriesFrom};
 
 // A number above all that four bytes hold stands for a word that says none.
 pub const NO_NUMBER: u64 = 4294967296;
@@ -149,6 +152,12 @@ pub(crate) fn put_bytes(out: &mut [u8], at: usize, word: &[u8]) -> usize
     n
 }
 
+// How many bytes two words said, one behind the other.
+pub struct Two {
+    pub first: usize,
+    pub second: usize,
+}
+
 // The word is the one given.
 pub(crate) fn is_word(word: &[u8], given: &[u8]) -> bool
     ensures { λ r. ⌜ r ≡ sameWord (now (word .entry)) (now (given .entry)) ⌝ }
@@ -164,4 +173,130 @@ pub(crate) fn is_word(word: &[u8], given: &[u8]) -> bool
         i += 1;
     }
     true
+}
+
+// Where the word ends that follows the one that ends at a place; behind the line where none follows.
+fn next_end(line: &[u8], e: usize) -> usize
+    ensures { λ r. ⌜ (r ≡ nextEnd (now (line .entry)) e) × (r ≤ length (now (line .entry)) + 1) ⌝ }
+{
+    if e < line.len() {
+        return word_end(line, e + 1);
+    }
+    line.len() + 1
+}
+
+// Where word i of a line ends.
+fn end_at(line: &[u8], i: usize) -> usize
+    ensures { λ r. ⌜ (r ≡ endAt (now (line .entry)) i) × (r ≤ length (now (line .entry)) + 1) ⌝ }
+{
+    let mut e = word_end(line, 0);
+    let mut k: usize = 0;
+    while k < i {
+        e = next_end(line, e);
+        k += 1;
+    }
+    e
+}
+
+// Argument i: the word behind word i; no bytes where there is none.
+pub(crate) fn argument(line: &[u8], i: usize) -> &[u8]
+    ensures { λ r. ⌜ now r ≡ argumentOf (now (line .entry)) i ⌝ }
+{
+    let a = end_at(line, i);
+    if a < line.len() {
+        let b = word_end(line, a + 1);
+        return &line[a + 1..b];
+    }
+    &line[..0]
+}
+
+// The bytes that two arguments say are put to the start of a buffer, one behind the other.
+pub(crate) fn put_two(out: &mut [u8], line: &[u8], i: usize, j: usize) -> Two
+    requires { ⌜ length (now line) ≤ length (now out) ⌝ }
+    ensures { λ r. ⌜ (r .first + r .second ≤ length (now (out .entry)))
+        × (take (r .first) (now (out .exit)) ≡ saidBytes (argumentOf (now (line .entry)) i))
+        × (take ((r .first + r .second) - r .first) (drop (r .first) (now (out .exit)))
+        ≡ saidBytes (argumentOf (now (line .entry)) j)) ⌝ }
+{
+    let n = put_bytes(out, 0, argument(line, i));
+    let m = put_bytes(out, n, argument(line, j));
+    Two {
+        first: n,
+        second: m,
+    }
+}
+
+// The line has just so many arguments.
+fn has_arguments(line: &[u8], n: usize) -> bool
+    ensures { λ r. ⌜ r ≡ hasArguments (now (line .entry)) n ⌝ }
+{
+    end_at(line, n) == line.len()
+}
+
+// The k arguments from i on say bytes.
+fn all_bytes(line: &[u8], i: usize, k: usize) -> bool
+    requires { ⌜ i + k ≤ 4 ⌝ }
+    ensures { λ r. ⌜ r ≡ allBytes (now (line .entry)) i k ⌝ }
+{
+    let mut j: usize = 0;
+    while j < k {
+        if says_bytes(argument(line, i + j)) {
+            j += 1;
+        } else {
+            return false;
+        }
+    }
+    true
+}
+
+// The line has so many numbers, and behind them so many words that say bytes.
+pub(crate) fn has_form(line: &[u8], numbers: usize, bytes: usize) -> bool
+    requires { ⌜ numbers + bytes ≤ 4 ⌝ }
+    ensures { λ r. ⌜ r ≡ hasForm (now (line .entry)) numbers bytes ⌝ }
+{
+    if has_arguments(line, numbers + bytes) {
+        return all_bytes(line, numbers, bytes);
+    }
+    false
+}
+
+// How many series the arguments from i on are; 65 where they are too many, or one is no series.
+pub(crate) fn series_count(line: &[u8], i: usize) -> usize
+    requires { ⌜ i ≤ 1 ⌝ }
+    ensures { λ r. ⌜ (r ≡ seriesCount (now (line .entry)) i) × (r ≤ 65) ⌝ }
+{
+    let mut n: usize = 0;
+    while n < 65 {
+        if has_arguments(line, i + n) {
+            return n;
+        }
+        if read_number(argument(line, i + n), 10) > 65535 {
+            return 65;
+        }
+        n += 1;
+    }
+    65
+}
+
+// The series that argument i says; 0 where it says none.
+fn series_at(line: &[u8], i: usize) -> u16
+    ensures { λ r. ⌜ r ≡ seriesAt (now (line .entry)) i ⌝ }
+{
+    let x = read_number(argument(line, i), 10);
+    if x > 65535 {
+        return 0;
+    }
+    x as u16
+}
+
+// The n series from argument i on are put into a list.
+pub(crate) fn read_series(line: &[u8], i: usize, n: usize, list: &mut [u16])
+    requires { ⌜ (i ≤ 1) × (n ≤ length (now list)) ⌝ }
+    ensures { λ _. ⌜ now (list .exit) ≡ seriesFrom (now (line .entry)) i n ++ drop n (now (list .entry)) ⌝ }
+{
+    let mut k: usize = 0;
+    while k < n {
+        list[k] = series_at(line, i + k);
+        k += 1;
+    }
 }

@@ -7,12 +7,12 @@ use Rattle.ftdplay.proofs.main.Statement.{statement}
 use Rattle.ftdplay.proofs.main.Tie as tie
 
 abbrev Inv-loop : tie.InvT-loop
-Inv-loop input₀ line₀ log₀ bytes₀ out₀ text₀ now₀ turns₀ input line log bytes out text now turns =
+Inv-loop input₀ line₀ log₀ chain₀ bytes₀ out₀ text₀ now₀ turns₀ input line log chain bytes out text now turns =
     (65536 ≡ length input) × (140000 ≡ length line) × (1048576 ≡ length log)
-    × (140000 ≡ length bytes) × (65536 ≡ length out) × (131136 ≡ length text)
+    × (262144 ≡ length chain) × (140000 ≡ length bytes) × (65536 ≡ length out) × (524352 ≡ length text)
 
 abbrev μ-loop : tie.MeasureT-loop
-μ-loop input₀ line₀ log₀ bytes₀ out₀ text₀ now₀ turns₀ input line log bytes out text now turns = turns
+μ-loop input₀ line₀ log₀ chain₀ bytes₀ out₀ text₀ now₀ turns₀ input line log chain bytes out text now turns = turns
 
 fresh-requires : tie.Need-fresh-requires Inv-loop μ-loop
 fresh-requires c κs = search needs
@@ -22,9 +22,10 @@ loop-holds c = (
   sym (length-replicate {A = ℕ} 65536 0),
   sym (length-replicate {A = ℕ} 140000 0),
   sym (length-replicate {A = ℕ} 1048576 0),
+  sym (length-replicate {A = ℕ} 262144 0),
   sym (length-replicate {A = ℕ} 140000 0),
   sym (length-replicate {A = ℕ} 65536 0),
-  sym (length-replicate {A = ℕ} 131136 0),
+  sym (length-replicate {A = ℕ} 524352 0),
 )
 
 slice-aggregate-read-full : tie.Need-slice-aggregate-read-full Inv-loop μ-loop
@@ -60,6 +61,9 @@ slice-aggregate-print-piece-5 c = search needs
 slice-aggregate-print-piece-6 : tie.Need-slice-aggregate-print-piece-6 Inv-loop μ-loop
 slice-aggregate-print-piece-6 c = search needs
 
+slice-aggregate-print-piece-7 : tie.Need-slice-aggregate-print-piece-7 Inv-loop μ-loop
+slice-aggregate-print-piece-7 c = search needs
+
 print-piece-requires : tie.Need-print-piece-requires Inv-loop μ-loop
 print-piece-requires c κs = search needs
 
@@ -86,6 +90,9 @@ slice-aggregate-print-line-4 c = search needs
 
 slice-aggregate-print-line-5 : tie.Need-slice-aggregate-print-line-5 Inv-loop μ-loop
 slice-aggregate-print-line-5 c = search needs
+
+slice-aggregate-print-line-6 : tie.Need-slice-aggregate-print-line-6 Inv-loop μ-loop
+slice-aggregate-print-line-6 c = search needs
 
 print-line-requires : tie.Need-print-line-requires Inv-loop μ-loop
 print-line-requires c κs = search needs
@@ -115,6 +122,7 @@ main-spec =
     slice-aggregate-print-piece-4
     slice-aggregate-print-piece-5
     slice-aggregate-print-piece-6
+    slice-aggregate-print-piece-7
     print-piece-requires
     sub-turns
     loop-less-2
@@ -124,6 +132,7 @@ main-spec =
     slice-aggregate-print-line-3
     slice-aggregate-print-line-4
     slice-aggregate-print-line-5
+    slice-aggregate-print-line-6
     print-line-requires
     returns
     returns-2)

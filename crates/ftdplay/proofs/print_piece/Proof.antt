@@ -1,6 +1,7 @@
 -- `print_piece` meets its contract. Assumes nothing.
 use Prim.Native.Nat.{_-_}
 use mathlib.Core.Path.{_≡_}
+use native.Mathlib.Omega.{arith}
 use borrow.Author.Needs.{needs}
 use lib.ListN.{length}
 use Rattle.ftdplay.proofs.Pieces.{less}
@@ -8,12 +9,12 @@ use Rattle.ftdplay.proofs.print_piece.Statement.{statement}
 use Rattle.ftdplay.proofs.print_piece.Tie as tie
 
 abbrev Inv-loop : tie.InvT-loop
-Inv-loop have input line₀ log₀ bytes₀ out₀ text₀ now₀ at₀ line log bytes out text now at =
-    (length line ≡ length line₀) × (length log ≡ length log₀)
+Inv-loop have input line₀ log₀ chain₀ bytes₀ out₀ text₀ now₀ at₀ line log chain bytes out text now at =
+    (length line ≡ length line₀) × (length log ≡ length log₀) × (length chain ≡ length chain₀)
     × (length bytes ≡ length bytes₀) × (length out ≡ length out₀) × (length text ≡ length text₀)
 
 abbrev μ-loop : tie.MeasureT-loop
-μ-loop have input line₀ log₀ bytes₀ out₀ text₀ now₀ at₀ line log bytes out text now at = length input - at
+μ-loop have input line₀ log₀ chain₀ bytes₀ out₀ text₀ now₀ at₀ line log chain bytes out text now at = length input - at
 
 loop-holds : tie.Need-loop-holds Inv-loop μ-loop
 loop-holds c = search needs
@@ -28,7 +29,16 @@ loop-less : tie.Need-loop-less Inv-loop μ-loop
 loop-less c = search (needs, less)
 
 loop-again : tie.Need-loop-again Inv-loop μ-loop
-loop-again c = search needs
+loop-again c =
+    let i = c .before .before .before .before .before .before .before .before .before .before .before .before .before .before .before .before .before .before .before .before .before .before .before .before .loop .inv in
+    let t = c .before .before .before .before .before .before .before .before .before .before .before .before .before .before .before .before .before .before .before .before .before .take-line in (
+      omega (arith, i .0, t .ensures .1),
+      omega (arith, i .1),
+      omega (arith, i .2),
+      omega (arith, i .3),
+      omega (arith, i .4),
+      omega (arith, i .5),
+    )
 
 loop-less-2 : tie.Need-loop-less-2 Inv-loop μ-loop
 loop-less-2 c = search (needs, less)
@@ -51,6 +61,9 @@ same-length-4 c = search needs
 same-length-5 : tie.Need-same-length-5 Inv-loop μ-loop
 same-length-5 c = search needs
 
+same-length-6 : tie.Need-same-length-6 Inv-loop μ-loop
+same-length-6 c = search needs
+
 returns : tie.Need-returns Inv-loop μ-loop
 returns c = search needs
 
@@ -72,4 +85,5 @@ print-piece-spec =
     same-length-3
     same-length-4
     same-length-5
+    same-length-6
     returns)

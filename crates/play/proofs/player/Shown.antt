@@ -1,67 +1,22 @@
--- The answer of a call as the definitions mean it, over plain variables. Assumes nothing.
+-- The player's lines as the definitions mean them, over plain variables. Assumes nothing.
 use Prim.Native.Nat.{ℕ}
 use mathlib.Core.Path.{_≡_}
 use mathlib.Core.Bool.{false}
 use mathlib.Core.List.{List, [], _∷_}
-use lib.ListN.{replicate}
 use Rattle.flow.specs.declared.sender.Sender.{Sender}
-use Rattle.flow.specs.declared.sender.Opened.{Opened}
-use Rattle.flow.specs.declared.sender.Published.{Published}
-use Rattle.flow.specs.declared.sender.LoggedIn.{LoggedIn}
-use Rattle.flow.specs.declared.sender.Sent.{Sent}
-use Rattle.flow.specs.Ends.{freshSender}
-use Rattle.flow.specs.Serving.{loginOf, sendOf}
+use Rattle.flow.specs.declared.receiver.Receiver.{Receiver}
+use Rattle.flow.specs.Ends.{freshSender, freshReceiver}
 use Rattle.listing.specs.Text.{WroteText}
 use Rattle.play.specs.declared.player.Player.{Player}
-use Rattle.play.specs.Lines.{openedLine, publishedLine, loginAnswerLine, sentLine, wordLine, numbered}
-use Rattle.play.specs.Played.{freshPlayer, withSender, badLine}
+use Rattle.play.specs.Lines.{wordLine, numbered}
+use Rattle.play.specs.Played.{freshPlayer, badLine}
 
-pub fresh-is : (e : Sender) → e ≡ freshSender
-    → _≡_ {A = Player} (record { lines = 0; ready = false; log = 0; chain = 0; sender = e }) freshPlayer
-fresh-is e q = rw q
+pub fresh-is : (e : Sender) (f : Receiver) → e ≡ freshSender → f ≡ freshReceiver
+    → _≡_ {A = Player} (record { lines = 0; ready = false; log = 0; chain = 0; sender = e; receiver = f }) freshPlayer
+fresh-is e f q p = rw (q, p)
 
-pub sender-is : (p pl : Player) (e m : Sender) → pl ≡ withSender p e → e ≡ m → pl ≡ withSender p m
-sender-is p pl e m q f = rw (← f) q
-
-module _ {l t : List ℕ} {to : ℕ} where
-  pub bad-is : (n : ℕ) → WroteText l 0 (wordLine (numbered (98 ∷ 97 ∷ 100 ∷ 32 ∷ 108 ∷ 105 ∷ 110 ∷ 101 ∷ []) n)) t to
-      → WroteText l 0 (badLine n) t to
-  unfolding badLine
-  bad-is n q = q
-
-  pub opened-is : (a m : Opened) → a ≡ m → WroteText l 0 (openedLine a) t to → WroteText l 0 (openedLine m) t to
-  opened-is a m e q = rw (← e) q
-
-  pub published-is : (a m : Published) → a ≡ m → WroteText l 0 (publishedLine a) t to
-      → WroteText l 0 (publishedLine m) t to
-  published-is a m e q = rw (← e) q
-
--- An output that was cleared.
-module _ (n : ℕ) (o : List ℕ) (z : o ≡ replicate n 0) where
-  module _ (x : Sender) (s : ℕ) (packet content : List ℕ) where
-    pub login-sender : (p pl : Player) (e : Sender) → pl ≡ withSender p e → e ≡ loginOf x s packet content o .end
-        → pl ≡ withSender p (loginOf x s packet content (replicate n 0) .end)
-    login-sender p pl e q f = rw (← z, ← f) q
-
-    pub login-shown : {l t : List ℕ} {to : ℕ} (a : LoggedIn) (b : List ℕ) → a ≡ loginOf x s packet content o .answer
-        → b ≡ loginOf x s packet content o .bytes → WroteText l 0 (loginAnswerLine b a) t to
-        → WroteText l 0 (loginAnswerLine (loginOf x s packet content (replicate n 0) .bytes)
-        (loginOf x s packet content (replicate n 0) .answer)) t to
-    login-shown a b f g q = rw (← z, ← f, ← g) q
-
-    pub login-bytes : (b : List ℕ) → b ≡ loginOf x s packet content o .bytes
-        → b ≡ loginOf x s packet content (replicate n 0) .bytes
-    login-bytes b g = rw (← z) g
-
-  module _ (x : Sender) (s : ℕ) (log : List ℕ) where
-    pub send-sender : (p pl : Player) (e : Sender) → pl ≡ withSender p e → e ≡ sendOf x s log o .end
-        → pl ≡ withSender p (sendOf x s log (replicate n 0) .end)
-    send-sender p pl e q f = rw (← z, ← f) q
-
-    pub send-shown : {l t : List ℕ} {to : ℕ} (a : Sent) (b : List ℕ) → a ≡ sendOf x s log o .answer
-        → b ≡ sendOf x s log o .bytes → WroteText l 0 (sentLine b a) t to
-        → WroteText l 0 (sentLine (sendOf x s log (replicate n 0) .bytes) (sendOf x s log (replicate n 0) .answer)) t to
-    send-shown a b f g q = rw (← z, ← f, ← g) q
-
-    pub send-bytes : (b : List ℕ) → b ≡ sendOf x s log o .bytes → b ≡ sendOf x s log (replicate n 0) .bytes
-    send-bytes b g = rw (← z) g
+pub bad-is : {l t : List ℕ} {to : ℕ} (n : ℕ)
+    → WroteText l 0 (wordLine (numbered (98 ∷ 97 ∷ 100 ∷ 32 ∷ 108 ∷ 105 ∷ 110 ∷ 101 ∷ []) n)) t to
+    → WroteText l 0 (badLine n) t to
+unfolding badLine
+bad-is n q = q

@@ -1,11 +1,13 @@
 -- The turns of the loop that writes bytes as pairs of digits, and the line of each answer, over plain variables.
 -- Assumes nothing.
-use Prim.Native.Nat.{ℕ, _+_, _*_, _<_, _≤_}
+use Prim.Native.Nat.{ℕ, zero, suc, _+_, _-_, _*_, _<_, _≤_}
 use mathlib.Core.Path.{_≡_, refl, sym}
 use mathlib.Core.List.{List, [], _∷_, _++_, append-nil, append-assoc}
 use native.Mathlib.Numerals.{add-one}
 use native.Mathlib.Omega.{arith}
-use lib.ListN.{length, getD, take}
+use borrow.Author.Tests.{eq-eqb, ne-eqb}
+use native.Mathlib.Nat.{add-sub-cancel-left}
+use lib.ListN.{length, getD, take, drop, drop-of-length-le, length-drop, length-take}
 use lib.Seq.{take-suc, take-all, length-take-le}
 use Rattle.listing.specs.Text.{WroteText, hexOf, refused}
 use Rattle.listing.proofs.Texts.{wrote-both}
@@ -24,8 +26,24 @@ use Rattle.flow.specs.declared.sender.Sent.{Sent}
 use Rattle.flow.specs.declared.sender.Sent.the-variants.{Drained}
 use Rattle.flow.specs.declared.sender.Sent.the-variants.{Wrote as MessageSent}
 use Rattle.flow.specs.declared.sender.Sent.the-variants.{Refused as NotSent}
-use Rattle.play.specs.Lines.{hexBytes, wordLine, numbered, bytesLine, refusedLine, openedLine, publishedLine}
-use Rattle.play.specs.Lines.{loginAnswerLine, sentLine, opened, published, login, sent, none}
+use Rattle.flow.specs.declared.receiver.Requested.{Requested}
+use Rattle.flow.specs.declared.receiver.Requested.the-variants.{Wrote as Asked}
+use Rattle.flow.specs.declared.receiver.Requested.the-variants.{Refused as NotAsked}
+use Rattle.flow.specs.declared.receiver.Confirmed.{Confirmed}
+use Rattle.flow.specs.declared.receiver.Confirmed.the-variants.{Last}
+use Rattle.flow.specs.declared.receiver.Confirmed.the-variants.{Refused as NotConfirmed}
+use Rattle.flow.specs.declared.receiver.Origin.{Origin}
+use Rattle.flow.specs.declared.receiver.Origin.the-variants.{Packet, Buffer}
+use Rattle.flow.specs.declared.receiver.Received.{Received}
+use Rattle.flow.specs.declared.receiver.Received.the-variants.{Idle, Duplicate, Partial, Complete}
+use Rattle.flow.specs.declared.receiver.Received.the-variants.{Refused as NotTaken}
+use Rattle.ftd.specs.Bytes.{part}
+use Rattle.ftd.specs.declared.packet.Span.{Span}
+use Rattle.flow.specs.Answers.{contentIn}
+use Rattle.play.specs.Lines.{hexBytes, contentText, wordLine, numbered, bytesLine, refusedLine, openedLine}
+use Rattle.play.specs.Lines.{publishedLine, loginAnswerLine, sentLine, opened, published, login, sent, none}
+use Rattle.play.specs.Lines.{requestedLine, confirmedLine, messageLine, receivedLine, asked, answered, idle, again}
+use Rattle.play.specs.Lines.{held}
 
 pub hex-append : (l m : List ℕ) → hexBytes (l ++ m) ≡ hexBytes l ++ hexBytes m
 unfolding hexBytes
@@ -46,6 +64,37 @@ pairs-turn b i x fits h inv q more =
 pub pairs-over : {l o : List ℕ} {at to : ℕ} (b : List ℕ) (i : ℕ) → length b ≤ i
     → WroteText l at (hexBytes (take i b)) o to → WroteText l at (hexBytes b) o to
 pairs-over b i h inv = rw (take-all i b h) at inv
+
+pub content-none : {l o : List ℕ} {at to : ℕ} (b : List ℕ) → length b ≡ 0 → WroteText l at (45 ∷ []) o to
+    → WroteText l at (contentText b) o to
+unfolding contentText
+content-none b h q = rw (eq-eqb (length b) 0 h) q
+
+pub content-some : {l o : List ℕ} {at to : ℕ} (b : List ℕ) → (length b ≡ 0 → ⊥) → WroteText l at (hexBytes b) o to
+    → WroteText l at (contentText b) o to
+unfolding contentText
+content-some b h q = rw (ne-eqb (length b) 0 h) q
+
+-- ─── Parts ───
+
+take-none : (n : ℕ) → _≡_ {A = List ℕ} [] (take n [])
+take-none zero = refl
+take-none (suc n) = refl
+
+module _ (b : List ℕ) (start len : ℕ) where
+  pub part-behind : length b < start → [] ≡ part b start len
+  part-behind h = rw (drop-of-length-le b {i = start} (omega arith)) (take-none len)
+
+  pub part-rest : start ≤ length b → length b - start < len → take (length b - start) (drop start b) ≡ part b start len
+  part-rest g h =
+      let e : length (drop start b) ≡ length b - start = length-drop start b in
+      rw (take-all (length b - start) (drop start b) (omega arith), take-all len (drop start b) (omega arith))
+
+  pub part-room : (w : List ℕ) (m : ℕ) → w ≡ part b start len → 64 + 2 * length b ≤ m → 64 + 2 * length w ≤ m
+  part-room w m e h = rw (e, length-take, length-drop) (omega arith)
+
+  pub part-whole : take ((start + len) - start) (drop start b) ≡ part b start len
+  part-whole = rw add-sub-cancel-left
 
 -- ─── Lines ───
 
@@ -97,3 +146,51 @@ module _ {l o : List ℕ} {to : ℕ} where
   pub sent-not : (a : Sent) (b : List ℕ) (r : Refusal) → a ≡ NotSent r → WroteText l 0 (refusedLine r) o to
       → WroteText l 0 (sentLine b a) o to
   sent-not a b r e q = rw e q
+
+  pub requested-as : (a : Requested) (b : List ℕ) (n : ℕ) → a ≡ Asked n → WroteText l 0 (bytesLine asked (take n b)) o to
+      → WroteText l 0 (requestedLine b a) o to
+  requested-as a b n e q = rw e q
+
+  pub requested-not : (a : Requested) (b : List ℕ) (r : Refusal) → a ≡ NotAsked r → WroteText l 0 (refusedLine r) o to
+      → WroteText l 0 (requestedLine b a) o to
+  requested-not a b r e q = rw e q
+
+  pub confirmed-as : (a : Confirmed) (k x : ℕ) → a ≡ Last k → x ≡ k
+      → WroteText l 0 (wordLine (numbered answered x)) o to
+      → WroteText l 0 (confirmedLine a) o to
+  confirmed-as a k x e f q = rw (e, ← f) q
+
+  pub confirmed-not : (a : Confirmed) (r : Refusal) → a ≡ NotConfirmed r → WroteText l 0 (refusedLine r) o to
+      → WroteText l 0 (confirmedLine a) o to
+  confirmed-not a r e q = rw e q
+
+  module _ (last tid : ℕ) (p b : List ℕ) (origin : Origin) (at : Span) (c : List ℕ)
+      (q : WroteText l 0 (messageLine last tid c) o to) where
+    pub from-packet : origin ≡ Packet → c ≡ part p (at .start) (at .len)
+        → WroteText l 0 (messageLine last tid (contentIn p b origin at)) o to
+    from-packet e f = rw (e, ← f) q
+
+    pub from-buffer : origin ≡ Buffer → c ≡ part b (at .start) (at .len)
+        → WroteText l 0 (messageLine last tid (contentIn p b origin at)) o to
+    from-buffer e f = rw (e, ← f) q
+
+  module _ (a : Received) (p b : List ℕ) where
+    pub received-idle : a ≡ Idle → WroteText l 0 (wordLine idle) o to → WroteText l 0 (receivedLine p b a) o to
+    received-idle e q = rw e q
+
+    pub received-again : (k x : ℕ) → a ≡ Duplicate k → x ≡ k → WroteText l 0 (wordLine (numbered again x)) o to
+        → WroteText l 0 (receivedLine p b a) o to
+    received-again k x e f q = rw (e, ← f) q
+
+    pub received-held : (k x : ℕ) → a ≡ Partial k → x ≡ k → WroteText l 0 (wordLine (numbered held x)) o to
+        → WroteText l 0 (receivedLine p b a) o to
+    received-held k x e f q = rw (e, ← f) q
+
+    pub received-message : (last tid : ℕ) (origin : Origin) (at : Span) → a ≡ Complete last tid origin at
+        → WroteText l 0 (messageLine last tid (contentIn p b origin at)) o to
+        → WroteText l 0 (receivedLine p b a) o to
+    received-message last tid origin at e q = rw e q
+
+    pub received-not : (r : Refusal) → a ≡ NotTaken r → WroteText l 0 (refusedLine r) o to
+        → WroteText l 0 (receivedLine p b a) o to
+    received-not r e q = rw e q

@@ -2,17 +2,17 @@
 use borrow.Author.Needs.{needs}
 use Rattle.ftd.proofs.Tests.{tests}
 use Rattle.play.specs.Calls.{publishWith}
-use Rattle.play.proofs.calls.Rows.{publish-yes, publish-no}
+use Rattle.play.proofs.calls.Rows.{holds, fails}
 use Rattle.play.proofs.calls.publish_with.Statement.{statement}
 use Rattle.play.proofs.calls.publish_with.Tie as tie
 
 returns : tie.Need-returns
 unfolding publishWith
-returns c = search tests
+returns c = search (tests, holds, fails)
 
 returns-2 : tie.Need-returns-2
 unfolding publishWith
-returns-2 c = search tests
+returns-2 c = search (tests, holds, fails)
 
 cast-t6 : tie.Need-cast-t6
 cast-t6 c = search needs
@@ -21,10 +21,12 @@ cast-t7 : tie.Need-cast-t7
 cast-t7 c = search needs
 
 returns-3 : tie.Need-returns-3
-returns-3 c = search (needs, publish-yes)
+unfolding publishWith
+returns-3 c = search (tests, holds, fails)
 
 returns-4 : tie.Need-returns-4
-returns-4 c = search (needs, publish-no)
+unfolding publishWith
+returns-4 c = search (tests, holds, fails)
 
 pub publish-with-spec : {M : Type 1} → statement M
 publish-with-spec = tie.close (tie.spec returns returns-2 cast-t6 cast-t7 returns-3 returns-4)

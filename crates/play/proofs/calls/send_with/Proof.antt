@@ -2,23 +2,28 @@
 use borrow.Author.Needs.{needs}
 use Rattle.ftd.proofs.Tests.{tests}
 use Rattle.play.specs.Calls.{sendWith}
+use Rattle.play.proofs.calls.Rows.{holds, fails}
 use Rattle.play.proofs.calls.send_with.Statement.{statement}
 use Rattle.play.proofs.calls.send_with.Tie as tie
 
 returns : tie.Need-returns
 unfolding sendWith
-returns c = search tests
+returns c = search (tests, holds, fails)
 
 returns-2 : tie.Need-returns-2
 unfolding sendWith
-returns-2 c = search tests
+returns-2 c = search (tests, holds, fails)
 
-cast-t4 : tie.Need-cast-t4
-cast-t4 c = search needs
+cast-t6 : tie.Need-cast-t6
+cast-t6 c = search needs
 
 returns-3 : tie.Need-returns-3
 unfolding sendWith
-returns-3 c = search tests
+returns-3 c = search (tests, holds, fails)
+
+returns-4 : tie.Need-returns-4
+unfolding sendWith
+returns-4 c = search (tests, holds, fails)
 
 pub send-with-spec : {M : Type 1} → statement M
-send-with-spec = tie.close (tie.spec returns returns-2 cast-t4 returns-3)
+send-with-spec = tie.close (tie.spec returns returns-2 cast-t6 returns-3 returns-4)

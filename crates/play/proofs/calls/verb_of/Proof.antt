@@ -1,7 +1,7 @@
 -- `calls::verb_of` meets its contract. Assumes nothing.
 use borrow.Author.Needs.{needs}
-use Rattle.play.proofs.calls.Rows.{verb-buffers, verb-opening, verb-publish, verb-login, verb-send}
-use Rattle.play.proofs.calls.Rows.{verb-unknown}
+use Rattle.play.specs.Calls.{verbOf}
+use Rattle.play.proofs.calls.Rows.{found, passed}
 use Rattle.play.proofs.calls.verb_of.Statement.{statement}
 use Rattle.play.proofs.calls.verb_of.Tie as tie
 
@@ -12,7 +12,8 @@ is-word-requires : tie.Need-is-word-requires
 is-word-requires c κs = search needs
 
 returns : tie.Need-returns
-returns c = search (needs, verb-buffers)
+unfolding verbOf
+returns c = search (needs, found, passed) depth 8 fits 9000
 
 slice-aggregate-is-word-2 : tie.Need-slice-aggregate-is-word-2
 slice-aggregate-is-word-2 c = search needs
@@ -21,7 +22,8 @@ is-word-requires-2 : tie.Need-is-word-requires-2
 is-word-requires-2 c κs = search needs
 
 returns-2 : tie.Need-returns-2
-returns-2 c = search (needs, verb-opening)
+unfolding verbOf
+returns-2 c = search (needs, found, passed) depth 8 fits 9000
 
 slice-aggregate-is-word-3 : tie.Need-slice-aggregate-is-word-3
 slice-aggregate-is-word-3 c = search needs
@@ -30,7 +32,8 @@ is-word-requires-3 : tie.Need-is-word-requires-3
 is-word-requires-3 c κs = search needs
 
 returns-3 : tie.Need-returns-3
-returns-3 c = search (needs, verb-publish)
+unfolding verbOf
+returns-3 c = search (needs, found, passed) depth 8 fits 9000
 
 slice-aggregate-is-word-4 : tie.Need-slice-aggregate-is-word-4
 slice-aggregate-is-word-4 c = search needs
@@ -39,7 +42,8 @@ is-word-requires-4 : tie.Need-is-word-requires-4
 is-word-requires-4 c κs = search needs
 
 returns-4 : tie.Need-returns-4
-returns-4 c = search (needs, verb-login)
+unfolding verbOf
+returns-4 c = search (needs, found, passed) depth 8 fits 9000
 
 slice-aggregate-is-word-5 : tie.Need-slice-aggregate-is-word-5
 slice-aggregate-is-word-5 c = search needs
@@ -48,10 +52,15 @@ is-word-requires-5 : tie.Need-is-word-requires-5
 is-word-requires-5 c κs = search needs
 
 returns-5 : tie.Need-returns-5
-returns-5 c = search (needs, verb-send)
+unfolding verbOf
+returns-5 c = search (needs, found, passed) depth 8 fits 9000
+
+end-verb-of-requires : tie.Need-end-verb-of-requires
+end-verb-of-requires c κs = search needs
 
 returns-6 : tie.Need-returns-6
-returns-6 c = search (needs, verb-unknown)
+unfolding verbOf
+returns-6 c = search (needs, found, passed) depth 8 fits 9000
 
 pub verb-of-spec : {M : Type 1} → statement M
 verb-of-spec =
@@ -72,4 +81,5 @@ verb-of-spec =
     slice-aggregate-is-word-5
     is-word-requires-5
     returns-5
+    end-verb-of-requires
     returns-6)

@@ -12,8 +12,8 @@ put-numbered-requires c κs = search needs
 put-byte-requires : tie.Need-put-byte-requires
 put-byte-requires c κs = search needs
 
-put-pairs-requires : tie.Need-put-pairs-requires
-put-pairs-requires c κs = search needs
+put-content-requires : tie.Need-put-content-requires
+put-content-requires c κs = search needs
 
 put-byte-requires-2 : tie.Need-put-byte-requires-2
 put-byte-requires-2 c κs = search needs
@@ -28,7 +28,7 @@ returns c =
     c .before .before .before .before .before .before .before .before .before .before .before .before .before
     .before .put-numbered in
     let s = c .before .before .before .before .before .before .before .before .before .before .put-byte in
-    let p = c .before .before .before .before .before .before .put-pairs in (
+    let p = c .before .before .before .before .before .before .put-content in (
       wrote-both (omega arith)
           (wrote-both (omega arith) (wrote-both (omega arith) (n .ensures .0) (s .ensures)) (p .ensures .0))
           (c .before .before .put-byte2 .ensures),
@@ -41,7 +41,7 @@ bytes-line-spec =
     (tie.spec
     put-numbered-requires
     put-byte-requires
-    put-pairs-requires
+    put-content-requires
     put-byte-requires-2
     same-length
     returns)

@@ -1,6 +1,6 @@
 -- `text::front_line` meets its contract. Assumes nothing.
 use borrow.Author.Needs.{needs}
-use Rattle.play.proofs.calls.Rows.{taken-below}
+use Rattle.play.proofs.words.Parts.{taken-below}
 use Rattle.play.proofs.text.Turns.{front-room, front-all}
 use Rattle.play.proofs.text.front_line.Statement.{statement}
 use Rattle.play.proofs.text.front_line.Tie as tie

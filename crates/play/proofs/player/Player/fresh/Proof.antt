@@ -7,8 +7,11 @@ use Rattle.play.proofs.player.Player.fresh.Tie as tie
 fresh-requires : tie.Need-fresh-requires
 fresh-requires c κs = search needs
 
+fresh-requires-2 : tie.Need-fresh-requires-2
+fresh-requires-2 c κs = search needs
+
 returns : tie.Need-returns
 returns c = search (needs, fresh-is)
 
 pub fresh-spec : {M : Type 1} → statement M
-fresh-spec = tie.close (tie.spec fresh-requires returns)
+fresh-spec = tie.close (tie.spec fresh-requires fresh-requires-2 returns)

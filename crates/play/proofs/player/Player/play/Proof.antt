@@ -1,34 +1,28 @@
 -- `player::Player::play` meets its contract. Assumes nothing.
 use borrow.Author.Needs.{needs}
-use Rattle.play.proofs.player.Turns.{said-fits}
-use Rattle.play.proofs.calls.Rows.{taken}
-use Rattle.play.proofs.calls.Inside.{placed}
+use Rattle.play.proofs.words.Parts.{taken}
+use Rattle.play.proofs.player.Plays.{play-none, play-long, play-said}
+use Rattle.play.proofs.player.Room.{text-room, said-room}
 use Rattle.play.proofs.player.Player.play.Statement.{statement}
 use Rattle.play.proofs.player.Player.play.Tie as tie
 
+lacks-room-requires : tie.Need-lacks-room-requires
+lacks-room-requires c κs = search needs
+
 returns : tie.Need-returns
-returns c = search needs
-
-returns-2 : tie.Need-returns-2
-returns-2 c = search needs
-
-returns-3 : tie.Need-returns-3
-returns-3 c = search needs
-
-returns-4 : tie.Need-returns-4
-returns-4 c = search needs
+returns c = search (needs, play-none)
 
 counted-requires : tie.Need-counted-requires
 counted-requires c κs = search needs
 
 bad-line-requires : tie.Need-bad-line-requires
-bad-line-requires c κs = search needs
+bad-line-requires c κs = search (needs, text-room)
 
 same-length : tie.Need-same-length
 same-length c = search needs
 
-returns-5 : tie.Need-returns-5
-returns-5 c = search needs
+returns-2 : tie.Need-returns-2
+returns-2 c = search (needs, play-long)
 
 slice-aggregate-said : tie.Need-slice-aggregate-said
 slice-aggregate-said c = taken _ _ (search needs)
@@ -37,7 +31,10 @@ call-of-requires : tie.Need-call-of-requires
 call-of-requires c κs = search needs
 
 play-call-requires : tie.Need-play-call-requires
-play-call-requires c κs = (search (needs, placed), search (needs, said-fits), search needs, search needs, search needs)
+play-call-requires c κs =
+    let a = c .before .before .before .before .before .before .before .before .before .before .before .before .before .before .before .before .before .args in
+    said-room (a .self) (a .line .now) _ _ _ _ _ _ (c .before .before .before .before .before .before .before .before .before .before .lacks-room .ensures) (c .before .before .before .before .before .before .before .before .before .if1 .left) _ (a .len) _
+    (c .before .before .before .before .before .before .before .before .counted .ensures) (c .before .before .before .before .before .call-of .ensures)
 
 same-length-2 : tie.Need-same-length-2
 same-length-2 c = search needs
@@ -51,21 +48,22 @@ same-length-4 c = search needs
 same-length-5 : tie.Need-same-length-5
 same-length-5 c = search needs
 
-returns-6 : tie.Need-returns-6
-returns-6 c = search needs
+same-length-6 : tie.Need-same-length-6
+same-length-6 c = search needs
+
+returns-3 : tie.Need-returns-3
+returns-3 c = search (needs, play-said)
 
 pub play-spec : {M : Type 1} → statement M
 play-spec =
     tie.close
     (tie.spec
+    lacks-room-requires
     returns
-    returns-2
-    returns-3
-    returns-4
     counted-requires
     bad-line-requires
     same-length
-    returns-5
+    returns-2
     slice-aggregate-said
     call-of-requires
     play-call-requires
@@ -73,4 +71,5 @@ play-spec =
     same-length-3
     same-length-4
     same-length-5
-    returns-6)
+    same-length-6
+    returns-3)

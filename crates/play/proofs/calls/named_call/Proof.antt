@@ -1,0 +1,247 @@
+-- `calls::named_call` meets its contract. Assumes nothing.
+use borrow.Author.Needs.{needs}
+use Rattle.play.proofs.calls.Rows.{names-buffers, names-day, names-publish, names-login, names-send, names-end, names-connect}
+use Rattle.play.proofs.calls.Rows.{names-ask, names-answer, names-receive, names-state}
+use Rattle.play.proofs.calls.named_call.Statement.{statement}
+use Rattle.play.proofs.calls.named_call.Tie as tie
+
+enum-told : tie.Need-enum-told
+enum-told c = search needs
+
+enum-told-2 : tie.Need-enum-told-2
+enum-told-2 c = search needs
+
+has-form-requires : tie.Need-has-form-requires
+has-form-requires c κs = search needs
+
+number-at-requires : tie.Need-number-at-requires
+number-at-requires c κs = search needs
+
+number-at-requires-2 : tie.Need-number-at-requires-2
+number-at-requires-2 c κs = search needs
+
+buffers-with-requires : tie.Need-buffers-with-requires
+buffers-with-requires c κs = search needs
+
+enum-told-3 : tie.Need-enum-told-3
+enum-told-3 c = search needs
+
+number-at-requires-3 : tie.Need-number-at-requires-3
+number-at-requires-3 c κs = search needs
+
+series-count-requires : tie.Need-series-count-requires
+series-count-requires c κs = search needs
+
+open-day-with-requires : tie.Need-open-day-with-requires
+open-day-with-requires c κs = search needs
+
+enum-told-4 : tie.Need-enum-told-4
+enum-told-4 c = search needs
+
+has-form-requires-2 : tie.Need-has-form-requires-2
+has-form-requires-2 c κs = search needs
+
+number-at-requires-4 : tie.Need-number-at-requires-4
+number-at-requires-4 c κs = search needs
+
+argument-requires : tie.Need-argument-requires
+argument-requires c κs = search needs
+
+read-tid-requires : tie.Need-read-tid-requires
+read-tid-requires c κs = search needs
+
+publish-with-requires : tie.Need-publish-with-requires
+publish-with-requires c κs = search needs
+
+enum-told-5 : tie.Need-enum-told-5
+enum-told-5 c = search needs
+
+has-form-requires-3 : tie.Need-has-form-requires-3
+has-form-requires-3 c κs = search needs
+
+number-at-requires-5 : tie.Need-number-at-requires-5
+number-at-requires-5 c κs = search needs
+
+number-at-requires-6 : tie.Need-number-at-requires-6
+number-at-requires-6 c κs = search needs
+
+login-with-requires : tie.Need-login-with-requires
+login-with-requires c κs = search needs
+
+enum-told-6 : tie.Need-enum-told-6
+enum-told-6 c = search needs
+
+has-form-requires-4 : tie.Need-has-form-requires-4
+has-form-requires-4 c κs = search needs
+
+number-at-requires-7 : tie.Need-number-at-requires-7
+number-at-requires-7 c κs = search needs
+
+number-at-requires-8 : tie.Need-number-at-requires-8
+number-at-requires-8 c κs = search needs
+
+send-with-requires : tie.Need-send-with-requires
+send-with-requires c κs = search needs
+
+enum-told-7 : tie.Need-enum-told-7
+enum-told-7 c = search needs
+
+series-count-requires-2 : tie.Need-series-count-requires-2
+series-count-requires-2 c κs = search needs
+
+open-end-with-requires : tie.Need-open-end-with-requires
+open-end-with-requires c κs = search needs
+
+enum-told-8 : tie.Need-enum-told-8
+enum-told-8 c = search needs
+
+has-form-requires-5 : tie.Need-has-form-requires-5
+has-form-requires-5 c κs = search needs
+
+plain-call-requires : tie.Need-plain-call-requires
+plain-call-requires c κs = search needs
+
+enum-told-9 : tie.Need-enum-told-9
+enum-told-9 c = search needs
+
+has-form-requires-6 : tie.Need-has-form-requires-6
+has-form-requires-6 c κs = search needs
+
+number-at-requires-9 : tie.Need-number-at-requires-9
+number-at-requires-9 c κs = search needs
+
+number-at-requires-10 : tie.Need-number-at-requires-10
+number-at-requires-10 c κs = search needs
+
+ask-with-requires : tie.Need-ask-with-requires
+ask-with-requires c κs = search needs
+
+enum-told-10 : tie.Need-enum-told-10
+enum-told-10 c = search needs
+
+has-form-requires-7 : tie.Need-has-form-requires-7
+has-form-requires-7 c κs = search needs
+
+number-at-requires-11 : tie.Need-number-at-requires-11
+number-at-requires-11 c κs = search needs
+
+answer-with-requires : tie.Need-answer-with-requires
+answer-with-requires c κs = search needs
+
+enum-told-11 : tie.Need-enum-told-11
+enum-told-11 c = search needs
+
+has-form-requires-8 : tie.Need-has-form-requires-8
+has-form-requires-8 c κs = search needs
+
+plain-call-requires-2 : tie.Need-plain-call-requires-2
+plain-call-requires-2 c κs = search needs
+
+enum-told-12 : tie.Need-enum-told-12
+enum-told-12 c = search needs
+
+has-form-requires-9 : tie.Need-has-form-requires-9
+has-form-requires-9 c κs = search needs
+
+plain-call-requires-3 : tie.Need-plain-call-requires-3
+plain-call-requires-3 c κs = search needs
+
+returns : tie.Need-returns
+returns c = search needs
+
+returns-2 : tie.Need-returns-2
+returns-2 c = search (needs, names-buffers)
+
+returns-3 : tie.Need-returns-3
+returns-3 c = search (needs, names-day)
+
+returns-4 : tie.Need-returns-4
+returns-4 c = search (needs, names-publish)
+
+returns-5 : tie.Need-returns-5
+returns-5 c = search (needs, names-login)
+
+returns-6 : tie.Need-returns-6
+returns-6 c = search (needs, names-send)
+
+returns-7 : tie.Need-returns-7
+returns-7 c = search (needs, names-end)
+
+returns-8 : tie.Need-returns-8
+returns-8 c = search (needs, names-connect)
+
+returns-9 : tie.Need-returns-9
+returns-9 c = search (needs, names-ask)
+
+returns-10 : tie.Need-returns-10
+returns-10 c = search (needs, names-answer)
+
+returns-11 : tie.Need-returns-11
+returns-11 c = search (needs, names-receive)
+
+returns-12 : tie.Need-returns-12
+returns-12 c = search (needs, names-state)
+
+pub named-call-spec : {M : Type 1} → statement M
+named-call-spec =
+    tie.close
+    (tie.spec
+    enum-told
+    enum-told-2
+    has-form-requires
+    number-at-requires
+    number-at-requires-2
+    buffers-with-requires
+    enum-told-3
+    number-at-requires-3
+    series-count-requires
+    open-day-with-requires
+    enum-told-4
+    has-form-requires-2
+    number-at-requires-4
+    argument-requires
+    read-tid-requires
+    publish-with-requires
+    enum-told-5
+    has-form-requires-3
+    number-at-requires-5
+    number-at-requires-6
+    login-with-requires
+    enum-told-6
+    has-form-requires-4
+    number-at-requires-7
+    number-at-requires-8
+    send-with-requires
+    enum-told-7
+    series-count-requires-2
+    open-end-with-requires
+    enum-told-8
+    has-form-requires-5
+    plain-call-requires
+    enum-told-9
+    has-form-requires-6
+    number-at-requires-9
+    number-at-requires-10
+    ask-with-requires
+    enum-told-10
+    has-form-requires-7
+    number-at-requires-11
+    answer-with-requires
+    enum-told-11
+    has-form-requires-8
+    plain-call-requires-2
+    enum-told-12
+    has-form-requires-9
+    plain-call-requires-3
+    returns
+    returns-2
+    returns-3
+    returns-4
+    returns-5
+    returns-6
+    returns-7
+    returns-8
+    returns-9
+    returns-10
+    returns-11
+    returns-12)

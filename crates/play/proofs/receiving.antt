@@ -1,0 +1,2 @@
+-- The laws of the receiving end's calls.
+pub mod Shown

@@ -1,0 +1,2 @@
+-- The laws of the serving end's calls.
+pub mod Shown

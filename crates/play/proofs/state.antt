@@ -1,0 +1,2 @@
+-- The laws of the state's lines.
+pub mod Turns

@@ -1,0 +1,81 @@
+-- `state::put_all_kept` meets its contract. Assumes nothing.
+use borrow.Author.Needs.{needs}
+use native.Mathlib.Omega.{arith}
+use Prim.Native.Nat.{_+_, _-_, _*_, _≤_}
+use mathlib.Core.Path.{_≡_, refl}
+use lib.ListN.{length}
+use Rattle.listing.specs.Text.{WroteText}
+use Rattle.play.specs.State.{keptAt, linesUpTo, keptLines}
+use Rattle.play.proofs.state.Turns.{lines-first, lines-turn, lines-over}
+use Rattle.play.proofs.state.put_all_kept.Statement.{statement}
+use Rattle.play.proofs.state.put_all_kept.Tie as tie
+
+abbrev Inv-loop : tie.InvT-loop
+Inv-loop out₀ at kept live count to₀ i₀ out to i = (i ≤ count) × (to ≤ at + 192 * i) × (length out ≡ length out₀)
+    × WroteText out₀ at (linesUpTo (keptAt (kept .series) (live .series)) i) out to
+
+abbrev μ-loop : tie.MeasureT-loop
+μ-loop out₀ at kept live count to₀ i₀ out to i = count - i
+
+shown-places-requires : tie.Need-shown-places-requires Inv-loop μ-loop
+shown-places-requires c κs = search needs
+
+loop-holds : tie.Need-loop-holds Inv-loop μ-loop
+loop-holds c = (search needs, search needs, refl, search (needs, lines-first))
+
+mul-one : tie.Need-mul-one Inv-loop μ-loop
+mul-one c = search needs
+
+element-copy-out-one : tie.Need-element-copy-out-one Inv-loop μ-loop
+element-copy-out-one c = search needs
+
+mul-line : tie.Need-mul-line Inv-loop μ-loop
+mul-line c = search needs
+
+element-copy-out-line : tie.Need-element-copy-out-line Inv-loop μ-loop
+element-copy-out-line c = search needs
+
+put-kept-requires : tie.Need-put-kept-requires Inv-loop μ-loop
+put-kept-requires c κs = search needs
+
+add-i : tie.Need-add-i Inv-loop μ-loop
+add-i c = search needs
+
+loop-less : tie.Need-loop-less Inv-loop μ-loop
+loop-less c = search needs
+
+loop-again : tie.Need-loop-again Inv-loop μ-loop
+loop-again c =
+    let l = c .before .before .before .before .before .before .before .loop in
+    let s = c .before .before .before .before .before .before .before .before .before .before .before .before .args .receiver in (
+      search needs,
+      search needs,
+      search needs,
+      lines-turn (keptAt (s .kept .series) (s .live .series)) (l .i) (omega arith) (l .inv .3) (c .before .before .put-kept .ensures .0),
+    )
+
+same-length : tie.Need-same-length Inv-loop μ-loop
+same-length c = search needs
+
+returns : tie.Need-returns Inv-loop μ-loop
+unfolding keptLines
+returns c = (search (needs, lines-over), search needs)
+
+pub put-all-kept-spec : {M : Type 1} → statement M
+put-all-kept-spec =
+    tie.close
+    (tie.spec
+    Inv-loop
+    μ-loop
+    shown-places-requires
+    loop-holds
+    mul-one
+    element-copy-out-one
+    mul-line
+    element-copy-out-line
+    put-kept-requires
+    add-i
+    loop-less
+    loop-again
+    same-length
+    returns)

@@ -1,0 +1,29 @@
+-- `state::put_live_text` meets its contract. Assumes nothing.
+use borrow.Author.Needs.{needs}
+use native.Mathlib.Omega.{arith}
+use Rattle.listing.proofs.Texts.{wrote-both}
+use Rattle.play.specs.Lines.{wordLine}
+use Rattle.play.specs.State.{liveText}
+use Rattle.play.proofs.state.put_live_text.Statement.{statement}
+use Rattle.play.proofs.state.put_live_text.Tie as tie
+
+put-login-requires : tie.Need-put-login-requires
+put-login-requires c κs = search needs
+
+put-chain-requires : tie.Need-put-chain-requires
+put-chain-requires c κs = search needs
+
+put-byte-requires : tie.Need-put-byte-requires
+put-byte-requires c κs = search needs
+
+same-length : tie.Need-same-length
+same-length c = search needs
+
+returns : tie.Need-returns
+unfolding liveText wordLine
+returns c = (wrote-both (omega arith) (wrote-both (omega arith) (c .before .before .before .before .before .before .before .before .before .before .put-login .ensures .0) (c .before .before .before .before .before .before .put-chain .ensures .0)) (c .before .before .put-byte .ensures), search needs)
+
+pub put-live-text-spec : {M : Type 1} → statement M
+put-live-text-spec =
+    tie.close
+    (tie.spec put-login-requires put-chain-requires put-byte-requires same-length returns)

@@ -1,0 +1,66 @@
+-- `state::put_served` meets its contract. Assumes nothing.
+use borrow.Author.Needs.{needs}
+use native.Mathlib.Omega.{arith}
+use Rattle.listing.proofs.Texts.{wrote-both}
+use Rattle.play.specs.Lines.{wordLine}
+use Rattle.play.specs.State.{servedLine}
+use Rattle.play.proofs.state.put_served.Statement.{statement}
+use Rattle.play.proofs.state.put_served.Tie as tie
+
+slice-aggregate-put-numbered : tie.Need-slice-aggregate-put-numbered
+slice-aggregate-put-numbered c = search needs
+
+size16-requires : tie.Need-size16-requires
+size16-requires c κs = search needs
+
+put-numbered-requires : tie.Need-put-numbered-requires
+put-numbered-requires c κs = search needs
+
+put-byte-requires : tie.Need-put-byte-requires
+put-byte-requires c κs = search needs
+
+slice-aggregate-put-numbered-2 : tie.Need-slice-aggregate-put-numbered-2
+slice-aggregate-put-numbered-2 c = search needs
+
+size32-requires : tie.Need-size32-requires
+size32-requires c κs = search needs
+
+put-numbered-requires-2 : tie.Need-put-numbered-requires-2
+put-numbered-requires-2 c κs = search needs
+
+slice-aggregate-put-word : tie.Need-slice-aggregate-put-word
+slice-aggregate-put-word c = search needs
+
+put-word-requires : tie.Need-put-word-requires
+put-word-requires c κs = search needs
+
+put-next-requires : tie.Need-put-next-requires
+put-next-requires c κs = search needs
+
+put-byte-requires-2 : tie.Need-put-byte-requires-2
+put-byte-requires-2 c κs = search needs
+
+same-length : tie.Need-same-length
+same-length c = search needs
+
+returns : tie.Need-returns
+unfolding servedLine wordLine
+returns c = (rw (← (c .before .before .before .before .before .before .before .before .before .before .before .before .before .before .before .before .before .before .before .before .before .before .before .before .before .before .size16 .ensures .0), ← (c .before .before .before .before .before .before .before .before .before .before .before .before .before .before .before .before .size32 .ensures .0)) (wrote-both (omega arith) (wrote-both (omega arith) (wrote-both (omega arith) (wrote-both (omega arith) (wrote-both (omega arith) (c .before .before .before .before .before .before .before .before .before .before .before .before .before .before .before .before .before .before .before .before .before .before .before .before .before .put-numbered .ensures .0) (c .before .before .before .before .before .before .before .before .before .before .before .before .before .before .before .before .before .before .before .before .before .put-byte .ensures)) (c .before .before .before .before .before .before .before .before .before .before .before .before .before .before .before .put-numbered2 .ensures .0)) (c .before .before .before .before .before .before .before .before .before .before .put-word .ensures)) (c .before .before .before .before .before .before .put-next .ensures .0)) (c .before .before .put-byte2 .ensures)), search needs)
+
+pub put-served-spec : {M : Type 1} → statement M
+put-served-spec =
+    tie.close
+    (tie.spec
+    slice-aggregate-put-numbered
+    size16-requires
+    put-numbered-requires
+    put-byte-requires
+    slice-aggregate-put-numbered-2
+    size32-requires
+    put-numbered-requires-2
+    slice-aggregate-put-word
+    put-word-requires
+    put-next-requires
+    put-byte-requires-2
+    same-length
+    returns)

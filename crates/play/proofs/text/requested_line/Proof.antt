@@ -1,0 +1,46 @@
+-- `text::requested_line` meets its contract. Assumes nothing.
+use borrow.Author.Needs.{needs}
+use Rattle.play.proofs.text.Turns.{requested-as, requested-not}
+use Rattle.play.proofs.text.requested_line.Statement.{statement}
+use Rattle.play.proofs.text.requested_line.Tie as tie
+
+enum-known-answer : tie.Need-enum-known-answer
+enum-known-answer c = search needs
+
+slice-aggregate-front-line : tie.Need-slice-aggregate-front-line
+slice-aggregate-front-line c = search needs
+
+front-line-requires : tie.Need-front-line-requires
+front-line-requires c κs = search needs
+
+enum-known-answer-2 : tie.Need-enum-known-answer-2
+enum-known-answer-2 c = search needs
+
+refused-line-requires : tie.Need-refused-line-requires
+refused-line-requires c κs = search needs
+
+same-length : tie.Need-same-length
+same-length c = search needs
+
+returns : tie.Need-returns
+returns c = (search (needs, requested-as), search needs)
+
+same-length-2 : tie.Need-same-length-2
+same-length-2 c = search needs
+
+returns-2 : tie.Need-returns-2
+returns-2 c = (search (needs, requested-not), search needs)
+
+pub requested-line-spec : {M : Type 1} → statement M
+requested-line-spec =
+    tie.close
+    (tie.spec
+    enum-known-answer
+    slice-aggregate-front-line
+    front-line-requires
+    enum-known-answer-2
+    refused-line-requires
+    same-length
+    returns
+    same-length-2
+    returns-2)

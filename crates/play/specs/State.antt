@@ -1,0 +1,126 @@
+-- Both ends as lines, for people.
+use Prim.Native.Nat.{ℕ, zero, suc}
+use mathlib.Core.List.{List, [], _∷_, _++_}
+use mathlib.Core.Bool.{Bool, cond}
+use lib.ListN.{getD}
+use lib.Dec.{ltb}
+use Rattle.ftd.specs.declared.tags.TradeDate.{TradeDate}
+use Rattle.ftd.specs.declared.tags.TradeDate.the-variants.{None, At}
+use Rattle.flow.specs.declared.sender.DaySeries.{DaySeries}
+use Rattle.flow.specs.declared.sender.Place.{Place}
+use Rattle.flow.specs.declared.sender.Sender.{Sender}
+use Rattle.flow.specs.declared.receiver.KeptSeries.{KeptSeries}
+use Rattle.flow.specs.declared.receiver.LiveSeries.{LiveSeries}
+use Rattle.flow.specs.declared.receiver.Receiver.{Receiver}
+use Rattle.flow.specs.Ends.{newSeries, noPlace, newKept, noLive}
+use Rattle.listing.specs.Text.{decimalOf}
+use Rattle.play.specs.Lines.{gap, wordLine, numbered, none}
+
+-- ─── Words ───
+
+abbrev pub serving : List ℕ
+serving = 115 ∷ 101 ∷ 114 ∷ 118 ∷ 105 ∷ 110 ∷ 103 ∷ []
+
+abbrev pub receiving : List ℕ
+receiving = 114 ∷ 101 ∷ 99 ∷ 101 ∷ 105 ∷ 118 ∷ 105 ∷ 110 ∷ 103 ∷ []
+
+abbrev pub series : List ℕ
+series = 115 ∷ 101 ∷ 114 ∷ 105 ∷ 101 ∷ 115 ∷ []
+
+abbrev pub publishedWord : List ℕ
+publishedWord = 112 ∷ 117 ∷ 98 ∷ 108 ∷ 105 ∷ 115 ∷ 104 ∷ 101 ∷ 100 ∷ []
+
+abbrev pub lastWord : List ℕ
+lastWord = 108 ∷ 97 ∷ 115 ∷ 116 ∷ []
+
+abbrev pub nextWord : List ℕ
+nextWord = 32 ∷ 110 ∷ 101 ∷ 120 ∷ 116 ∷ 32 ∷ []
+
+abbrev pub outWord : List ℕ
+outWord = 111 ∷ 117 ∷ 116 ∷ []
+
+abbrev pub isIn : List ℕ
+isIn = 32 ∷ 105 ∷ 110 ∷ []
+
+abbrev pub isOut : List ℕ
+isOut = 32 ∷ 111 ∷ 117 ∷ 116 ∷ []
+
+abbrev pub chainWord : List ℕ
+chainWord = 32 ∷ 99 ∷ 104 ∷ 97 ∷ 105 ∷ 110 ∷ []
+
+abbrev pub noChain : List ℕ
+noChain = 32 ∷ 99 ∷ 104 ∷ 97 ∷ 105 ∷ 110 ∷ 32 ∷ 110 ∷ 111 ∷ 110 ∷ 101 ∷ []
+
+-- A trade date, or `none`.
+abbrev pub dateText : TradeDate → List ℕ
+dateText None = none
+dateText (At d) = decimalOf d
+
+-- The lines of the first n places.
+unfoldable pub linesUpTo : (ℕ → List ℕ) → ℕ → List ℕ
+linesUpTo line zero = []
+linesUpTo line (suc n) = linesUpTo line n ++ line n
+
+-- A count above 8 is 8.
+unfoldable pub shownPlaces : ℕ → ℕ
+shownPlaces count = cond (ltb count 8) count 8
+
+-- ─── The serving end ───
+
+-- `serving`, its trade date, the bytes of the log in use.
+unfoldable pub servingLine : Sender → List ℕ
+servingLine e = wordLine (serving ++ gap ++ dateText (e .day .date) ++ gap ++ decimalOf (e .day .used))
+
+-- The number sent next, or `out` where nobody is logged in.
+unfoldable pub nextText : Place → List ℕ
+nextText place = cond (place .login) (decimalOf (place .next)) outWord
+
+-- `series S published P next N`.
+unfoldable pub servedLine : DaySeries → Place → List ℕ
+servedLine one place =
+    wordLine (numbered series (one .series) ++ gap ++ numbered publishedWord (one .published) ++ nextWord
+    ++ nextText place)
+
+abbrev pub servedAt : List DaySeries → List Place → ℕ → List ℕ
+servedAt series places i = servedLine (getD series i (newSeries 0)) (getD places i noPlace)
+
+unfoldable pub servedLines : Sender → List ℕ
+servedLines e = linesUpTo (servedAt (e .day .series) (e .seat .places)) (shownPlaces (e .day .count))
+
+-- ─── The receiving end ───
+
+-- `receiving`, how many series are open.
+unfoldable pub receivingLine : Receiver → List ℕ
+receivingLine e = wordLine (numbered receiving (e .kept .count))
+
+-- Logged in or not.
+unfoldable pub loginText : Bool → List ℕ
+loginText login = cond login isIn isOut
+
+-- The content bytes held of an open chain, or `none`.
+unfoldable pub chainText : Bool → ℕ → List ℕ
+chainText chain held = cond chain (numbered chainWord held) noChain
+
+-- `series S DATE last L`.
+unfoldable pub keptText : KeptSeries → List ℕ
+keptText one =
+    numbered series (one .series) ++ gap ++ dateText (one .date) ++ gap ++ numbered lastWord (one .last)
+
+-- `in chain HELD`.
+unfoldable pub liveText : LiveSeries → List ℕ
+liveText line = wordLine (loginText (line .login) ++ chainText (line .chain) (line .held))
+
+unfoldable pub keptLine : KeptSeries → LiveSeries → List ℕ
+keptLine one line = keptText one ++ liveText line
+
+abbrev pub keptAt : List KeptSeries → List LiveSeries → ℕ → List ℕ
+keptAt kept live i = keptLine (getD kept i (newKept 0)) (getD live i noLive)
+
+unfoldable pub keptLines : Receiver → List ℕ
+keptLines e = linesUpTo (keptAt (e .kept .series) (e .live .series)) (shownPlaces (e .kept .count))
+
+-- ─── Both ───
+
+-- A line for each end, and one for each of its open series, in the opening's order.
+unfoldable pub stateLines : Sender → Receiver → List ℕ
+stateLines sender receiver = servingLine sender ++ servedLines sender ++ receivingLine receiver ++ keptLines receiver

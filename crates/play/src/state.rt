@@ -1,0 +1,202 @@
+// Both ends as lines, for people.
+ghost use mathlib.Core.Path.{_≡_};
+ghost use Prim.Native.Nat.{_+_, _*_, _≤_};
+ghost use lib.ListN.{length};
+ghost use Rattle.listing.specs.Text.{WroteText, decimalOf};
+ghost use Rattle.play.specs.State.{dateText, shownPlaces, servingLine, nextText, servedLine, servedLines};
+ghost use Rattle.play.specs.State.{receivingLine, loginText, chainText, keptText, liveText, keptLine, keptLines, stateLines};
+use crate::text::put_numbered;
+use flow::receiver::KeptSeries;
+use flow::receiver::LiveSeries;
+use flow::receiver::Receiver;
+use flow::sender::DaySeries;
+use flow::sender::Place;
+use flow::sender::Sender;
+use ftd::bytes::size16;
+use ftd::bytes::size32;
+use ftd::tags::TradeDate;
+use listing::put_byte;
+use listing::put_decimal;
+use listing::put_word;
+
+// A number of any width.
+fn put_number(out: &mut [u8], at: usize, x: usize) -> usize
+    requires { ⌜ at + 20 ≤ length (now out) ⌝ }
+    ensures { λ r. ⌜ WroteText (now (out .entry)) at (decimalOf x) (now (out .exit)) r × (r ≤ at + 20) ⌝ }
+{
+    put_decimal(out, at, x)
+}
+
+// A trade date, or `none`.
+fn put_date(out: &mut [u8], at: usize, date: TradeDate) -> usize
+    requires { ⌜ at + 20 ≤ length (now out) ⌝ }
+    ensures { λ r. ⌜ WroteText (now (out .entry)) at (dateText date) (now (out .exit)) r × (r ≤ at + 20) ⌝ }
+{
+    match date {
+        TradeDate::None => put_word(out, at, b"none"),
+        TradeDate::At(d) => put_number(out, at, size32(d)),
+    }
+}
+
+// How many of 8 places are in use.
+fn shown_places(count: usize) -> usize
+    ensures { λ r. ⌜ (r ≡ shownPlaces count) × (r ≤ 8) ⌝ }
+{
+    if count < 8 {
+        return count;
+    }
+    8
+}
+
+// The serving end: its trade date, the bytes of the log in use.
+fn put_serving(out: &mut [u8], at: usize, sender: Sender) -> usize
+    requires { ⌜ at + 64 ≤ length (now out) ⌝ }
+    ensures { λ r. ⌜ WroteText (now (out .entry)) at (servingLine sender) (now (out .exit)) r × (r ≤ at + 64) ⌝ }
+{
+    let day = sender.day;
+    let date = day.date;
+    let n = put_word(out, at, b"serving");
+    let n = put_byte(out, n, 32);
+    let n = put_date(out, n, date);
+    let n = put_byte(out, n, 32);
+    let n = put_number(out, n, day.used);
+    put_byte(out, n, 10)
+}
+
+// The number sent next, or `out` where nobody is logged in.
+fn put_next(out: &mut [u8], at: usize, place: Place) -> usize
+    requires { ⌜ at + 20 ≤ length (now out) ⌝ }
+    ensures { λ r. ⌜ WroteText (now (out .entry)) at (nextText place) (now (out .exit)) r × (r ≤ at + 20) ⌝ }
+{
+    if place.login {
+        return put_number(out, at, place.next as usize);
+    }
+    put_word(out, at, b"out")
+}
+
+// A series of the serving end.
+fn put_served(out: &mut [u8], at: usize, one: DaySeries, place: Place) -> usize
+    requires { ⌜ at + 128 ≤ length (now out) ⌝ }
+    ensures { λ r. ⌜ WroteText (now (out .entry)) at (servedLine one place) (now (out .exit)) r × (r ≤ at + 128) ⌝ }
+{
+    let n = put_numbered(out, at, b"series", size16(one.series));
+    let n = put_byte(out, n, 32);
+    let n = put_numbered(out, n, b"published", size32(one.published));
+    let n = put_word(out, n, b" next ");
+    let n = put_next(out, n, place);
+    put_byte(out, n, 10)
+}
+
+// The series of the serving end.
+fn put_all_served(out: &mut [u8], at: usize, sender: Sender) -> usize
+    requires { ⌜ at + 1024 ≤ length (now out) ⌝ }
+    ensures { λ r. ⌜ WroteText (now (out .entry)) at (servedLines sender) (now (out .exit)) r × (r ≤ at + 1024) ⌝ }
+{
+    let day = sender.day;
+    let seat = sender.seat;
+    let count = shown_places(day.count);
+    let mut to = at;
+    let mut i: usize = 0;
+    while i < count {
+        let one = day.series[i];
+        let place = seat.places[i];
+        to = put_served(out, to, one, place);
+        i += 1;
+    }
+    to
+}
+
+// ` in` or ` out`.
+fn put_login(out: &mut [u8], at: usize, login: bool) -> usize
+    requires { ⌜ at + 4 ≤ length (now out) ⌝ }
+    ensures { λ r. ⌜ WroteText (now (out .entry)) at (loginText login) (now (out .exit)) r × (r ≤ at + 4) ⌝ }
+{
+    if login {
+        return put_word(out, at, b" in");
+    }
+    put_word(out, at, b" out")
+}
+
+// The content bytes held of an open chain, or `none`.
+fn put_chain(out: &mut [u8], at: usize, chain: bool, held: usize) -> usize
+    requires { ⌜ at + 40 ≤ length (now out) ⌝ }
+    ensures { λ r. ⌜ WroteText (now (out .entry)) at (chainText chain held) (now (out .exit)) r × (r ≤ at + 40) ⌝ }
+{
+    if chain {
+        return put_numbered(out, at, b" chain", held);
+    }
+    put_word(out, at, b" chain none")
+}
+
+// What is kept of a series.
+fn put_kept_text(out: &mut [u8], at: usize, one: KeptSeries) -> usize
+    requires { ⌜ at + 128 ≤ length (now out) ⌝ }
+    ensures { λ r. ⌜ WroteText (now (out .entry)) at (keptText one) (now (out .exit)) r × (r ≤ at + 128) ⌝ }
+{
+    let date = one.date;
+    let n = put_numbered(out, at, b"series", size16(one.series));
+    let n = put_byte(out, n, 32);
+    let n = put_date(out, n, date);
+    let n = put_byte(out, n, 32);
+    put_numbered(out, n, b"last", size32(one.last))
+}
+
+// What a series has on this connection.
+fn put_live_text(out: &mut [u8], at: usize, line: LiveSeries) -> usize
+    requires { ⌜ at + 64 ≤ length (now out) ⌝ }
+    ensures { λ r. ⌜ WroteText (now (out .entry)) at (liveText line) (now (out .exit)) r × (r ≤ at + 64) ⌝ }
+{
+    let n = put_login(out, at, line.login);
+    let n = put_chain(out, n, line.chain, line.held);
+    put_byte(out, n, 10)
+}
+
+// A series of the receiving end.
+fn put_kept(out: &mut [u8], at: usize, one: KeptSeries, line: LiveSeries) -> usize
+    requires { ⌜ at + 192 ≤ length (now out) ⌝ }
+    ensures { λ r. ⌜ WroteText (now (out .entry)) at (keptLine one line) (now (out .exit)) r × (r ≤ at + 192) ⌝ }
+{
+    let n = put_kept_text(out, at, one);
+    put_live_text(out, n, line)
+}
+
+// The series of the receiving end.
+fn put_all_kept(out: &mut [u8], at: usize, receiver: Receiver) -> usize
+    requires { ⌜ at + 1536 ≤ length (now out) ⌝ }
+    ensures { λ r. ⌜ WroteText (now (out .entry)) at (keptLines receiver) (now (out .exit)) r × (r ≤ at + 1536) ⌝ }
+{
+    let kept = receiver.kept;
+    let live = receiver.live;
+    let count = shown_places(kept.count);
+    let mut to = at;
+    let mut i: usize = 0;
+    while i < count {
+        let one = kept.series[i];
+        let line = live.series[i];
+        to = put_kept(out, to, one, line);
+        i += 1;
+    }
+    to
+}
+
+// How many series are open at the receiving end.
+fn put_receiving(out: &mut [u8], at: usize, receiver: Receiver) -> usize
+    requires { ⌜ at + 64 ≤ length (now out) ⌝ }
+    ensures { λ r. ⌜ WroteText (now (out .entry)) at (receivingLine receiver) (now (out .exit)) r × (r ≤ at + 64) ⌝ }
+{
+    let kept = receiver.kept;
+    let n = put_numbered(out, at, b"receiving", kept.count);
+    put_byte(out, n, 10)
+}
+
+// Both ends.
+pub(crate) fn state_lines(out: &mut [u8], sender: Sender, receiver: Receiver) -> usize
+    requires { ⌜ 4096 ≤ length (now out) ⌝ }
+    ensures { λ r. ⌜ WroteText (now (out .entry)) 0 (stateLines sender receiver) (now (out .exit)) r
+        × (r ≤ length (now (out .exit))) ⌝ }
+{
+    let n = put_serving(out, 0, sender);
+    let n = put_all_served(out, n, sender);
+    let n = put_receiving(out, n, receiver);
+    put_all_kept(out, n, receiver)
+}
