@@ -1,7 +1,7 @@
 #!/usr/bin/env bash
-# Deliberate faults, each in a copy of one side: the differential test must find every one of them.
-#   tests/faults.sh          faults of the reader, and one of the library's exported functions
-#   tests/faults.sh --long   also one of the library's tables, with its definition: the whole crate is proved anew
+# Deliberate faults, each in a copy of one side: the differential tests must find every one of them.
+#   tests/faults.sh          faults of the reader and of the models of the ends, and one of the library's exported functions
+#   tests/faults.sh --long   also ends that clause c shuts out, and one of the library's tables: the crates are proved anew for each
 # A fault of the library is one of its definitions and its code together, so that it is proved and built: the kind that no proof finds.
 # Needs what tests/run.sh has built.
 set -u
@@ -10,10 +10,10 @@ work=$(mktemp -d)
 trap 'rm -rf "$work"' EXIT
 missed=0
 
-# Replaces a text that must be there, in the copy.
+# Replaces a text that must be there once, in the copy.
 change() { # FILE OLD NEW
-    if [ "$(grep -cF -- "$2" "$1")" -ne 1 ]; then
-        echo "$1: '$2' stands there $(grep -cF -- "$2" "$1") times, not once"
+    if ! OLD=$2 perl -0ne '$n = () = /\Q$ENV{OLD}\E/g; exit($n != 1)' "$1"; then
+        echo "$1: '$2' doesn't stand there once"
         exit 1
     fi
     OLD=$2 NEW=$3 perl -0pi -e 's/\Q$ENV{OLD}\E/$ENV{NEW}/' "$1"
@@ -28,14 +28,14 @@ fresh_reader() {
     done
 }
 
-# Builds the copies with the library of a folder, and expects differences.
-expect() { # WHAT LIBRARY
+# Builds the copies with the library of a folder, and expects differences: of the reader's side, or in lists of calls (calls).
+expect() { # WHAT LIBRARY [PROGRAM]
     if ! (cd "$work/tests/outside" && FTD_LIBRARY=$2 CARGO_TARGET_DIR=$work/cargo CARGO_PROFILE_RELEASE_LTO=off \
         cargo build --release --offline --quiet); then
         echo "$1: the copy doesn't build"
         exit 1
     fi
-    if "$work/cargo/release/differ" 100000 1 >"$work/out" 2>&1; then
+    if "$work/cargo/release/${3:-differ}" 100000 1 >"$work/out" 2>&1; then
         echo "MISSED: $1"
         missed=$((missed + 1))
     elif grep -q '^DIFFERENCE' "$work/out"; then
@@ -51,25 +51,42 @@ expect() { # WHAT LIBRARY
 echo "- the reader"
 fresh_reader
 change "$work/tests/reader/src/packet.rs" 'extension_length > 127' 'extension_length > 126'
-expect "the longest extension is 126" "$root/target/staticlib"
+expect "the longest extension is 126" "$root/target/lib"
 fresh_reader
 change "$work/tests/reader/src/cut.rs" 'to + length - from > MOST_CONTENT' 'to + length - from >= MOST_CONTENT'
-expect "a packet is cut one byte early" "$root/target/staticlib"
+expect "a packet is cut one byte early" "$root/target/lib"
 fresh_reader
 change "$work/tests/reader/src/items.rs" '(b == 0x7F)' '(b == 0x7E)'
-expect "0x7F is text, and 0x7E isn't" "$root/target/staticlib"
+expect "0x7F is text, and 0x7E isn't" "$root/target/lib"
 fresh_reader
 change "$work/tests/reader/src/items.rs" 'map_or(0, |last| last + 1)' 'map_or(0, |last| last)'
-expect "a text is read without its last byte" "$root/target/staticlib"
+expect "a text is read without its last byte" "$root/target/lib"
 fresh_reader
 change "$work/tests/reader/src/given.rs" 'saturating_sub(sign.len() + point)' 'saturating_sub(point)'
-expect "a negative number is written a digit too wide" "$root/target/staticlib"
+expect "a negative number is written a digit too wide" "$root/target/lib"
 fresh_reader
 change "$work/tests/reader/src/plain.rs" 'MESSAGE_HEADER..=MESSAGE_HEADER + MOST_CONTENT' 'MESSAGE_HEADER..MESSAGE_HEADER + MOST_CONTENT'
-expect "type 0x01 with a body of 4,096 is refused with 3, not as a message packet" "$root/target/staticlib"
+expect "type 0x01 with a body of 4,096 is refused with 3, not as a message packet" "$root/target/lib"
 fresh_reader
 change "$work/tests/reader/src/start.rs" 'START_FIELD: u32 = 0x0004' 'START_FIELD: u32 = 0x0005'
-expect "the start field has another FID" "$root/target/staticlib"
+expect "the start field has another FID" "$root/target/lib"
+
+echo "- the models of the ends"
+fresh_reader
+change "$work/tests/reader/src/receiving.rs" 'if number <= one.last {' 'if number < one.last {'
+expect "the last message is handed on again" "$root/target/lib" calls
+fresh_reader
+change "$work/tests/reader/src/receiving.rs" 'one.chain.take()' 'one.chain'
+expect "a dropped chain stays" "$root/target/lib" calls
+fresh_reader
+change "$work/tests/reader/src/receiving.rs" 'last.wrapping_add(1)' 'last'
+expect "Ask sends last received as next wanted" "$root/target/lib" calls
+fresh_reader
+change "$work/tests/reader/src/serving.rs" '|mark| mark == day.mark' '|mark| mark <= day.mark'
+expect "yesterday's number counts after the mark rose" "$root/target/lib" calls
+fresh_reader
+change "$work/tests/reader/src/serving.rs" 'u16_at(head, 2) != 0 || ' ''
+expect "an entry's zero bytes may be any" "$root/target/lib" calls
 
 # A copy of the repository's library with one thing changed in code and definition, proved and built.
 fresh_library() {
@@ -86,6 +103,8 @@ prove() {
         echo "the faulty library isn't proved"
         exit 1
     fi
+    mkdir -p "$work/library/target/lib"
+    cp "$work/library/target/staticlib/libexports.a" "$work/library/target/lib/libftd.a"
 }
 
 echo "- the library"
@@ -94,12 +113,28 @@ fresh_library
 change "$work/library/crates/exports/src/lib.rt" 'number: h.number,' 'number: h.tid,'
 change "$work/library/crates/exports/specs/Numbers.antt" 'number = h .number;' 'number = h .tid;'
 prove
-expect "a message's number is its TID, and so says its definition" "$work/library/target/staticlib"
+expect "a message's number is its TID, and so says its definition" "$work/library/target/lib"
 if [ "${1:-}" = --long ]; then
+    # Ends of clause c. In the crate of the ends demand 3's proof refuses them; what the exported functions say of an end is theirs alone.
+    fresh_library
+    change "$work/library/crates/exports/src/receiving.rt" 'plain(end, 2, n, 0)' 'plain(end, 1, n, 0)'
+    change "$work/library/crates/exports/specs/Receiving.antt" 'plainWith e 2 n 0' 'plainWith e 1 n 0'
+    prove
+    expect "Receive answers again for a piece that is held, before anything came" "$work/library/target/lib" calls
+    fresh_library
+    change "$work/library/crates/exports/src/receiving.rt" 'answer: 3,' 'answer: 1,'
+    change "$work/library/crates/exports/specs/Receiving.antt" 'answer = 3;' 'answer = 1;'
+    prove
+    expect "Receive only raises its number, and hands nothing on" "$work/library/target/lib" calls
+    fresh_library
+    change "$work/library/crates/exports/src/serving.rt" 'answer: 1,' 'answer: 0,'
+    change "$work/library/crates/exports/specs/Serving.antt" 'number = k; answer = 1;' 'number = k; answer = 0;'
+    prove
+    expect "Send answers none with one left" "$work/library/target/lib" calls
     fresh_library
     change "$work/library/crates/ftd/src/tags.rt" '= [0, 4, 1, 1, 0, 4, 2];' '= [0, 4, 1, 1, 0, 4, 3];'
     change "$work/library/crates/ftd/specs/Tags.antt" 'knownTag 0x06 2' 'knownTag 0x06 3'
     prove
-    expect "tag 0x06 has three bytes, and so says its definition" "$work/library/target/staticlib"
+    expect "tag 0x06 has three bytes, and so says its definition" "$work/library/target/lib"
 fi
 [ "$missed" -eq 0 ]

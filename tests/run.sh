@@ -1,9 +1,9 @@
 #!/usr/bin/env bash
 # The outside tests: checks the names that the texts cite (tests/names.py), builds the static library, the lister and the Rust side,
-# compares the proved library with the independent reader on generated inputs and captures, shows that deliberate faults are found,
-# and times both sides. Any failure makes it fail.
+# compares the proved library with the independent reader on generated inputs and captures, and the two ends with their models on random
+# lists of calls; shows that deliberate faults are found, and times both sides. Any failure makes it fail.
 #   tests/run.sh           all of it, some minutes on top of the proofs
-#   tests/run.sh --quick   the comparison alone, on a million inputs: a minute or so where the crates are proved already
+#   tests/run.sh --quick   the comparison alone, on a million inputs and calls: a minute or so where the crates are proved already
 # Needs the Rattle kit (rt) and cargo; no network. The benchmark says nothing where the machine is busy.
 set -euo pipefail
 cd "$(dirname "$0")/.."
@@ -22,10 +22,13 @@ fi
 
 rt check ftdlist | tail -1
 rt staticlib exports | tail -1
+# The library by the name that programs link it by.
+mkdir -p target/lib
+cp target/staticlib/libexports.a target/lib/libftd.a
 
 # The header, the library and the example driver from C and C++.
 if command -v make >/dev/null 2>&1; then
-    make --no-print-directory --silent check-c LIB=target/staticlib/libexports.a
+    make --no-print-directory --silent check-c LIB=target/lib/libftd.a
 else
     echo "tests from C: not run, there is no command make"
 fi
@@ -35,11 +38,15 @@ fi
 outside=$root/tests/outside/target/release
 if [ "$quick" -eq 1 ]; then
     "$outside/differ" 1000000 1 "$root/target/bin/ftdlist"
+    "$outside/calls" 1000000 1
 else
     "$outside/differ" 2000000 1 "$root/target/bin/ftdlist"
     "$outside/differ" 1000000 2 "$root/target/bin/ftdlist"
+    "$outside/calls" 5000000 1
+    "$outside/calls" 1000000 2
     bash tests/faults.sh
     "$outside/bench"
+    "$outside/bench_ends"
     "$outside/sends"
 fi
 echo "outside tests: ok"

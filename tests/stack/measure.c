@@ -66,6 +66,11 @@ static void message(void)
     struct ftd_message m = {0x7777, 1, 20040101, 1, 1};
     refusal = ftd_write_message(m, content, filled, output, sizeof output).refusal;
 }
+static void broken(void)
+{
+    struct ftd_message m = {0x7777, 1, 20040101, 1, 1};
+    refusal = ftd_write_message(m, content, 8 * 4081 + 7, output, sizeof output).refusal;
+}
 static void open_sender(void)
 {
     opened = ftd_sender_open(sender, 20040101, series, 8);
@@ -151,6 +156,9 @@ int main(void)
     row("ftd_check", check_known);
     row("ftd_read_item", item);
     row("ftd_write_message", message);
+    content[8 * 4081 + 5] = 0; /* 17 packets, and one byte of a field behind them */
+    row("ftd_write_message", broken);
+    content[8 * 4081 + 5] = 114;
     row("ftd_sender_open", open_sender);
     sender = opened.end;
     row("ftd_publish", publish);

@@ -3,16 +3,16 @@
 
 Reads the disassembly (objdump). A function's own part is its return address, all that it pushes, all that it takes off the stack
 pointer, and what it uses below that (the red zone); its whole is its own part and the largest whole of those that it calls.
-`put_rest`, which writes a message's packets, calls itself for each packet behind the first, and a message has at most 17
-(ChainLaws.few). memcpy and memset are the C library's and count as a return address alone. Structs that are passed or returned by
-value lie in the caller's frame and are not counted.
+`put_rest`, which writes a message's packets, calls itself for each packet behind the first, at most 17 (ChainLaws.few), and once
+more where the content breaks off behind them. memcpy and memset are the C library's and count as a return address alone. Structs
+that are passed or returned by value lie in the caller's frame and are not counted.
 """
 import re
 import subprocess
 import sys
 
 OUTSIDE = {"memcpy", "memset"}
-TURNS = {"ftd::chain::put_rest": 17}
+TURNS = {"ftd::chain::put_rest": 18}
 
 
 def read(path):
@@ -26,7 +26,7 @@ def read(path):
             own[here], red[here], calls[here] = 8, 0, set()
         if here is None or start:
             continue
-        if "\tpush " in line:
+        if re.search(r"\tpushq? ", line):
             own[here] += 8
         if line.endswith(",%rsp") and re.search(r"\t(sub|and|lea|mov) ", line):
             taken = re.search(r"\tsub +\$0x([0-9a-f]+),%rsp", line)
@@ -36,7 +36,7 @@ def read(path):
         for used in re.findall(r"[ ,]-0x([0-9a-f]+)\(%rsp", line):
             red[here] = max(red[here], int(used, 16))
         target = re.search(r"R_X86_64_PLT32\s+(?:\.text\.)?(.*)-0x4$", line)
-        again = re.search(r"\tcall .*<([^+]*)>$", line)
+        again = re.search(r"\tcallq? .*<([^+]*)>$", line)
         if target:
             calls[here].add(target.group(1))
         elif again and again.group(1) == here and "<" + here + ">" in line:

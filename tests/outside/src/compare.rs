@@ -1,11 +1,11 @@
 //! Both sides on one input. Each function gives the first difference as text, with both answers.
 
-use crate::{field, field_at, read, size, write, Date, Field, Packet, Resume, Size, Written};
+use crate::{field, field_at, read, size, write, Date, Field, Packet, Resume, Size, Span, Written};
 use crate::{LINK, MESSAGE, NOT_PLAIN, NO_START, REFUSED, SEVERAL_START, SKIPPED, START, WRONG_START};
 use reader::cut::{write_message, Header};
-use reader::generate::Random;
+use reader::generate::{raw_field, Random};
 use reader::makeup::{self, Direction, Mode};
-use reader::packet::{self, FIELD_HEADER};
+use reader::packet::{self, FIELD_HEADER, MOST_CONTENT};
 use reader::plain::{plain_packet, NotWritten};
 use reader::start::{start_field, start_field_bytes, Start};
 use std::fmt::Debug;
@@ -30,20 +30,20 @@ impl Asked {
 /// The reader's answer in the library's numbers.
 pub fn numbers(bytes: &[u8]) -> Packet {
     let mark = |mark: Option<u32>| (mark.unwrap_or(0), u8::from(mark.is_some()));
+    let behind = |extension: &[u8]| Span { start: 4, len: extension.len() };
     match packet::read(bytes) {
         packet::Packet::Short => Packet::default(),
         packet::Packet::Refused(refusal) => Packet { answer: REFUSED, refusal, ..Packet::default() },
-        packet::Packet::Link { kind, extension, mark: day, .. } => {
+        packet::Packet::Link { kind, extension, mark: day, length } => {
             let (date, dated) = mark(day);
-            Packet { answer: LINK, kind, extension: 4, extent: extension.len(), date, dated, ..Packet::default() }
+            Packet { answer: LINK, kind, size: length, extension: behind(extension), date, dated, ..Packet::default() }
         }
         packet::Packet::Skipped { kind, extension, body, length } => Packet {
             answer: SKIPPED,
             kind,
-            extension: 4,
-            extent: extension.len(),
-            start: length - body.len(),
-            len: body.len(),
+            size: length,
+            extension: behind(extension),
+            content: Span { start: length - body.len(), len: body.len() },
             ..Packet::default()
         },
         packet::Packet::Message(m) => {
@@ -51,10 +51,9 @@ pub fn numbers(bytes: &[u8]) -> Packet {
             Packet {
                 answer: MESSAGE,
                 kind: 1,
-                extension: 4,
-                extent: m.extension.len(),
-                start: m.content_at,
-                len: m.content.len(),
+                size: m.length,
+                extension: behind(m.extension),
+                content: Span { start: m.content_at, len: m.content.len() },
                 tid: m.tid,
                 number: m.number,
                 series: m.series,
@@ -74,14 +73,14 @@ pub fn packet(asked: &mut Asked, bytes: &[u8]) -> Result<Packet, String> {
     asked.same("read", found, numbers(bytes))?;
     let count = usize::from(found.fields);
     if found.answer == MESSAGE {
-        let content = &bytes[found.start..found.start + found.len];
+        let content = found.content.of(bytes);
         let mut at = 0;
         for (i, one) in packet::fields(content).enumerate() {
             let one = one.map_err(|()| format!("field {i} of a message packet isn't whole"))?;
             let here = Field { start: at + FIELD_HEADER, len: one.value.len(), fid: one.fid, found: 1 };
             asked.same(&format!("field {i} at {at}"), field_at(content, at), here)?;
             if i < 3 || i + 1 == count {
-                let there = Field { start: found.start + here.start, ..here };
+                let there = Field { start: found.content.start + here.start, ..here };
                 asked.same(&format!("field {i}"), field(bytes, i), there)?;
             }
             at = here.start + here.len;
@@ -168,6 +167,12 @@ pub fn message(asked: &mut Asked, r: &mut Random, header: &Header, content: &[u8
     };
     asked.same("size", size(header, content), takes)?;
     output(asked, r, packets.map(|_| &right[..]).ok_or(7), |out| write(header, content, out))
+}
+
+/// A field written: FID, length and bytes; 7 above 4,074 bytes.
+pub fn field_written(asked: &mut Asked, r: &mut Random, fid: u32, bytes: &[u8]) -> Result<(), String> {
+    let right = if bytes.len() > MOST_CONTENT - FIELD_HEADER { Err(7) } else { Ok(raw_field(fid, bytes)) };
+    output(asked, r, right.as_deref().map_err(|row| *row), |out| crate::write_field(fid, bytes, out))
 }
 
 /// The length that the first four bytes say, and what the tags behind them say: those of the extension, as far as it is

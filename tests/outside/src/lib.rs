@@ -1,11 +1,16 @@
-//! Safe wrappers of the proved library: slices in, structs out. The declarations are those of tests/include/ftd.h; nothing but
+//! Safe wrappers of the proved library: slices in, structs out. The declarations are those of include/ftd.h; nothing but
 //! the tests here checks them against the library.
 
 use reader::cut::Header;
 use reader::makeup::Direction;
 
+pub mod bench;
+pub mod calls;
 pub mod compare;
+pub mod ends;
+pub mod history;
 pub mod items;
+pub mod world;
 
 pub const SHORT: u8 = 0;
 pub const LINK: u8 = 1;
@@ -13,14 +18,28 @@ pub const SKIPPED: u8 = 2;
 pub const MESSAGE: u8 = 3;
 pub const REFUSED: u8 = 4;
 
+/// A part of lent bytes.
+#[repr(C)]
+#[derive(Clone, Copy, Debug, Default, PartialEq, Eq)]
+pub struct Span {
+    pub start: usize,
+    pub len: usize,
+}
+
+impl Span {
+    /// The bytes of that part.
+    pub fn of<'a>(&self, bytes: &'a [u8]) -> &'a [u8] {
+        &bytes[self.start..self.start + self.len]
+    }
+}
+
 /// What some bytes are. What an answer doesn't have is 0.
 #[repr(C)]
 #[derive(Clone, Copy, Debug, Default, PartialEq, Eq)]
 pub struct Packet {
-    pub extension: usize,
-    pub extent: usize,
-    pub start: usize,
-    pub len: usize,
+    pub size: usize,
+    pub extension: Span,
+    pub content: Span,
     pub tid: u32,
     pub number: u32,
     pub date: u32,
@@ -31,38 +50,6 @@ pub struct Packet {
     pub kind: u8,
     pub chain: u8,
     pub dated: u8,
-}
-
-impl Packet {
-    /// Where the packet ends; 0 where there is none.
-    pub fn end(&self) -> usize {
-        match self.answer {
-            LINK => self.extension + self.extent,
-            SKIPPED | MESSAGE => self.start + self.len,
-            _ => 0,
-        }
-    }
-}
-
-/// A serving end with one open series, and a seat that is logged in to it.
-#[repr(C)]
-#[derive(Clone, Copy, Debug)]
-pub struct Seat {
-    pub next: u64,
-    pub used: usize,
-    pub date: u32,
-    pub published: u32,
-    pub series: u16,
-}
-
-/// What Send answers: 0 none left, 1 a message's number and how many bytes, 2 refused.
-#[repr(C)]
-#[derive(Clone, Copy, Debug, Default, PartialEq, Eq)]
-pub struct Sent {
-    pub bytes: usize,
-    pub number: u32,
-    pub answer: u8,
-    pub refusal: u8,
 }
 
 #[repr(C)]
@@ -168,13 +155,13 @@ pub struct Resume {
 }
 
 extern "C" {
-    fn ftd_send(seat: Seat, log: *const u8, used: usize, output: *mut u8, room: usize) -> Sent;
     fn ftd_read(bytes: *const u8, count: usize) -> Packet;
-    fn ftd_field(bytes: *const u8, count: usize, i: usize) -> Field;
+    fn ftd_find_field(bytes: *const u8, count: usize, i: usize) -> Field;
     fn ftd_field_at(content: *const u8, count: usize, at: usize) -> Step;
     fn ftd_check(tid: u32, direction: u8, content: *const u8, count: usize, limit: usize) -> u8;
-    fn ftd_size(message: Message, content: *const u8, count: usize) -> Size;
-    fn ftd_write(message: Message, content: *const u8, count: usize, output: *mut u8, room: usize) -> Written;
+    fn ftd_message_size(message: Message, content: *const u8, count: usize) -> Size;
+    fn ftd_write_message(message: Message, content: *const u8, count: usize, output: *mut u8, room: usize) -> Written;
+    fn ftd_write_field(fid: u32, bytes: *const u8, count: usize, output: *mut u8, room: usize) -> Written;
     fn ftd_said_length(bytes: *const u8, count: usize) -> usize;
     fn ftd_trade_date(extension: *const u8, count: usize) -> Date;
     fn ftd_keep_alive(extension: *const u8, count: usize) -> u8;
@@ -188,7 +175,7 @@ extern "C" {
         output: *mut u8,
         room: usize,
     ) -> Written;
-    fn ftd_mode(tid: u32) -> u8;
+    fn ftd_mode_of(tid: u32) -> u8;
     fn ftd_find_resume(content: *const u8, count: usize) -> Resume;
     fn ftd_write_resume(series: u16, number: u32, output: *mut u8, room: usize) -> Written;
     fn ftd_write_plain(
@@ -210,7 +197,7 @@ pub fn read(bytes: &[u8]) -> Packet {
 }
 
 pub fn field(bytes: &[u8], i: usize) -> Field {
-    unsafe { ftd_field(bytes.as_ptr(), bytes.len(), i) }
+    unsafe { ftd_find_field(bytes.as_ptr(), bytes.len(), i) }
 }
 
 pub fn field_at(content: &[u8], at: usize) -> Field {
@@ -229,11 +216,13 @@ pub fn check(tid: u32, direction: Direction, content: &[u8], limit: usize) -> u8
 }
 
 pub fn size(header: &Header, content: &[u8]) -> Size {
-    unsafe { ftd_size(Message::of(header), content.as_ptr(), content.len()) }
+    unsafe { ftd_message_size(Message::of(header), content.as_ptr(), content.len()) }
 }
 
 pub fn write(header: &Header, content: &[u8], output: &mut [u8]) -> Written {
-    unsafe { ftd_write(Message::of(header), content.as_ptr(), content.len(), output.as_mut_ptr(), output.len()) }
+    unsafe {
+        ftd_write_message(Message::of(header), content.as_ptr(), content.len(), output.as_mut_ptr(), output.len())
+    }
 }
 
 pub fn said_length(bytes: &[u8]) -> usize {
@@ -257,7 +246,7 @@ pub fn write_item(fid: u32, i: usize, value: Item, text: &[u8], output: &mut [u8
 }
 
 pub fn mode(tid: u32) -> u8 {
-    unsafe { ftd_mode(tid) }
+    unsafe { ftd_mode_of(tid) }
 }
 
 pub fn find_resume(content: &[u8]) -> Resume {
@@ -275,7 +264,6 @@ pub fn write_plain(kind: u8, extension: &[u8], body: &[u8], output: &mut [u8]) -
     }
 }
 
-/// Send in the seat's series.
-pub fn send(seat: Seat, log: &[u8], output: &mut [u8]) -> Sent {
-    unsafe { ftd_send(seat, log.as_ptr(), log.len(), output.as_mut_ptr(), output.len()) }
+pub fn write_field(fid: u32, bytes: &[u8], output: &mut [u8]) -> Written {
+    unsafe { ftd_write_field(fid, bytes.as_ptr(), bytes.len(), output.as_mut_ptr(), output.len()) }
 }

@@ -58,7 +58,7 @@ impl Random {
         }
     }
 
-    fn shuffle<T>(&mut self, of: &mut [T]) {
+    pub fn shuffle<T>(&mut self, of: &mut [T]) {
         for i in (1..of.len()).rev() {
             of.swap(i, self.below(i + 1));
         }
@@ -552,7 +552,7 @@ fn damaged(r: &mut Random, mut bytes: Vec<u8>) -> Vec<u8> {
         2 => 2,
         3 => 3,
         4 if bytes[1] > 0 => 4 + r.below(bytes[1].into()),
-        5..=6 | 4 => r.below(bytes.len()),
+        4..=6 => r.below(bytes.len()),
         7 => body,
         8 => body + 5,
         9 => body + 12 + r.below(2),

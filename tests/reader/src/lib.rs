@@ -2,6 +2,7 @@
 //! shares no code, table or generated file with the program that it tests.
 
 pub mod cut;
+pub mod few;
 pub mod generate;
 pub mod given;
 pub mod items;
@@ -9,6 +10,7 @@ pub mod lister;
 pub mod makeup;
 pub mod packet;
 pub mod plain;
+pub mod receiving;
 pub mod script;
 pub mod serving;
 pub mod start;

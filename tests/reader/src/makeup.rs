@@ -64,7 +64,7 @@ pub fn makeup_right(tid: u32, direction: Direction, content: &[u8]) -> bool {
             counts[i] += 1;
         }
     }
-    message.lines.iter().zip(counts).all(|(line, n)| n >= line.least && line.most.map_or(true, |most| n <= most))
+    message.lines.iter().zip(counts).all(|(line, n)| n >= line.least && line.most.is_none_or(|most| n <= most))
 }
 
 /// Whole fields of at most 4,074 bytes, `most` bytes in all.
@@ -75,14 +75,14 @@ pub fn shape_right(content: &[u8], most: usize) -> bool {
 
 /// Row 8: each known field has its width.
 pub fn widths_right(content: &[u8]) -> bool {
-    fields(content).flatten().all(|field| known_field(field.fid).map_or(true, |row| row.width == field.value.len()))
+    fields(content).flatten().all(|field| known_field(field.fid).is_none_or(|row| row.width == field.value.len()))
 }
 
 /// Row 9, after row 8: each item of each known field is a value of its type.
 pub fn items_right(content: &[u8]) -> bool {
     fields(content)
         .flatten()
-        .all(|field| known_field(field.fid).map_or(true, |row| wrong_item(row, field.value).is_none()))
+        .all(|field| known_field(field.fid).is_none_or(|row| wrong_item(row, field.value).is_none()))
 }
 
 /// The check of content that has at most `most` bytes: the first of 7, 8, 9, 10 that holds, over all fields.

@@ -1,18 +1,30 @@
-//! Scripts for the player of calls (`ftdplay`): the worked examples, each with the line that the player has to print.
-//! The answers are the model's (`serving`); each case also says by hand how its answer begins.
+//! Scripts for the player of calls (`ftdplay`): calls with the lines that the player has to print. The answers are the
+//! models' (`serving`, `receiving`); each worked example also says by hand how its answer begins.
 
-use crate::generate::{known_field_bytes, raw_field, Random};
-use crate::items::known_field;
-use crate::packet::{FIELD_HEADER, TRADE_DATE};
-use crate::serving::{Serving, LOGIN};
-use crate::start::{start_field_bytes, START_FIELD};
+use crate::receiving::{Received, Receiving};
+use crate::serving::Serving;
 
-/// A script and what it prints, made line by line.
+mod line;
+mod parts;
+mod receiving;
+mod serving;
+
+pub use line::faulty_line;
+
+/// Room in the log and in the chain buffer.
+pub const LOG: usize = 40_000;
+pub const CHAIN: usize = 131_072;
+/// An output with room for each answer and message.
+pub const ROOM: usize = 65_536;
+
+/// A script and what it prints, made call by call.
 pub struct Script {
     serving: Serving,
-    lines: usize,
-    pub input: String,
-    pub output: String,
+    receiving: Receiving,
+    log: Vec<u8>,
+    chain: Vec<u8>,
+    /// Each line, and what is printed for it: one line, for `state` several.
+    pub calls: Vec<(String, String)>,
 }
 
 fn hex(bytes: &[u8]) -> String {
@@ -22,570 +34,205 @@ fn hex(bytes: &[u8]) -> String {
     bytes.iter().map(|byte| format!("{byte:02X}")).collect()
 }
 
+fn refused(row: u8) -> String {
+    format!("refused {row}")
+}
+
+/// A call that writes: its answer as text, and the bytes.
+fn written(verb: &str, answer: Result<(), u8>, out: Vec<u8>) -> (String, Option<Vec<u8>>) {
+    match answer {
+        Ok(()) => (format!("{verb} {} {}", out.len(), hex(&out)), Some(out)),
+        Err(row) => (refused(row), None),
+    }
+}
+
 impl Script {
     /// The first line lays out the buffers.
     pub fn new(log: usize, chain: usize) -> Self {
-        let (input, output) = (format!("buffers {log} {chain}\n"), "ok\n".to_string());
-        Script { serving: Serving::new(log), lines: 1, input, output }
+        Script {
+            serving: Serving::default(),
+            receiving: Receiving::default(),
+            log: vec![0; log],
+            chain: vec![0; chain],
+            calls: vec![(format!("buffers {log} {chain}"), "ok".to_string())],
+        }
     }
 
-    fn add(&mut self, line: &str, answer: &str, expected: &str) {
-        self.lines += 1;
-        let shown = &line[..line.len().min(120)];
+    /// The lines of standard input, and those of standard output.
+    pub fn texts(&self) -> (String, String) {
+        let lines = |of: fn(&(String, String)) -> &String| self.calls.iter().flat_map(|c| [of(c), "\n"]).collect();
+        (lines(|call| &call.0), lines(|call| &call.1))
+    }
+
+    fn add(&mut self, line: String, answer: String) {
+        self.calls.push((line, answer));
+    }
+
+    /// The last answer begins with these two words, or is this one word.
+    fn begins(&self, expected: &str) {
+        let (line, answer) = self.calls.last().expect("a call");
         let first = answer.split(' ').take(2).collect::<Vec<_>>().join(" ");
-        assert_eq!(first, expected, "line {}: {shown}", self.lines);
-        self.input += &format!("{line}\n");
-        self.output += &format!("{answer}\n");
+        assert_eq!(first, expected, "line {}: {}", self.calls.len(), &line[..line.len().min(120)]);
     }
 
-    fn open(&mut self, mark: u32, series: &[u16], expected: &str) {
+    // --- The calls ---
+
+    fn sopen(&mut self, mark: u32, series: &[u16]) -> Result<(), u8> {
+        let answer = self.serving.open(mark, series);
         let words: String = series.iter().map(|series| format!(" {series}")).collect();
-        let answer = match self.serving.open(mark, series) {
-            Ok(()) => "opened".to_string(),
-            Err(row) => format!("refused {row}"),
-        };
-        self.add(&format!("sopen {mark}{words}"), &answer, expected);
+        self.add(format!("sopen {mark}{words}"), answer.map_or_else(refused, |()| "opened".to_string()));
+        answer
     }
 
-    fn publish(&mut self, series: u16, tid: u32, content: &[u8], expected: &str) {
-        let answer = match self.serving.publish(series, tid, content) {
-            Ok(number) => format!("published {number}"),
-            Err(row) => format!("refused {row}"),
-        };
-        self.add(&format!("publish {series} {tid:08X} {}", hex(content)), &answer, expected);
+    fn published(&mut self, series: u16, tid: u32, content: &[u8]) -> Result<u32, u8> {
+        let answer = self.serving.publish(series, tid, content, &mut self.log);
+        let text = answer.map_or_else(refused, |number| format!("published {number}"));
+        self.add(format!("publish {series} {tid:08X} {}", hex(content)), text);
+        answer
     }
 
-    fn login(&mut self, series: u16, room: usize, packet: &[u8], content: &[u8], expected: &str) {
-        let answer = match self.serving.login(series, packet, content, room) {
-            Ok(out) => format!("login {} {}", out.len(), hex(&out)),
-            Err(row) => format!("refused {row}"),
-        };
-        self.add(&format!("login {series} {room} {} {}", hex(packet), hex(content)), &answer, expected);
+    fn logged_in(&mut self, series: u16, room: usize, packet: &[u8], content: &[u8]) -> Option<Vec<u8>> {
+        let mut out = vec![];
+        let answer = self.serving.login(series, packet, content, room, &mut out);
+        let (text, out) = written("login", answer, out);
+        self.add(format!("login {series} {room} {} {}", hex(packet), hex(content)), text);
+        out
     }
 
-    fn send(&mut self, series: u16, room: usize, expected: &str) {
-        let answer = match self.serving.send(series, room) {
-            Ok(Some(out)) => format!("sent {} {}", out.len(), hex(&out)),
-            Ok(None) => "none".to_string(),
-            Err(row) => format!("refused {row}"),
+    fn sent(&mut self, series: u16, room: usize) -> Option<Vec<u8>> {
+        let mut out = vec![];
+        let answer = self.serving.send(series, &self.log, room, &mut out);
+        let (text, out) = match answer {
+            Ok(None) => ("none".to_string(), None),
+            Ok(Some(_)) => written("sent", Ok(()), out),
+            Err(row) => (refused(row), None),
         };
-        self.add(&format!("send {series} {room}"), &answer, expected);
+        self.add(format!("send {series} {room}"), text);
+        out
+    }
+
+    fn ropen(&mut self, series: &[u16]) -> Result<(), u8> {
+        let answer = self.receiving.open(series);
+        let words: String = series.iter().map(|series| format!(" {series}")).collect();
+        self.add(format!("ropen{words}"), answer.map_or_else(refused, |()| "opened".to_string()));
+        answer
+    }
+
+    fn connect(&mut self) {
+        self.receiving.connect();
+        self.add("connect".to_string(), "connected".to_string());
+    }
+
+    fn asked(&mut self, series: u16, room: usize, content: &[u8]) -> Option<Vec<u8>> {
+        let mut out = vec![];
+        let answer = self.receiving.ask(series, content, room, &mut out);
+        let (text, out) = written("asked", answer, out);
+        self.add(format!("ask {series} {room} {}", hex(content)), text);
+        out
+    }
+
+    fn answered(&mut self, series: u16, packet: &[u8]) -> Result<u32, u8> {
+        let answer = self.receiving.answer(series, packet);
+        let text = answer.map_or_else(refused, |last| format!("answered {last}"));
+        self.add(format!("answer {series} {}", hex(packet)), text);
+        answer
+    }
+
+    fn received(&mut self, packet: &[u8]) {
+        let text = match self.receiving.receive(packet, &mut self.chain) {
+            Err(row) => refused(row),
+            Ok(Received::Idle) => "idle".to_string(),
+            Ok(Received::Again(last)) => format!("again {last}"),
+            Ok(Received::Held(last)) => format!("held {last}"),
+            Ok(Received::Message { last, tid, content }) => {
+                format!("message {last} {tid:08X} {}", hex(content.bytes()))
+            }
+        };
+        self.add(format!("receive {}", hex(packet)), text);
+    }
+
+    /// Both ends: a line each, and one for each open series.
+    fn state(&mut self) {
+        let or_none = |x: Option<u32>| x.map_or("none".to_string(), |x| x.to_string());
+        let day = self.serving.day;
+        let mut lines = vec![format!("serving {} {}", or_none(day.map(|d| d.mark)), day.map_or(0, |d| d.used))];
+        for one in day.iter().flat_map(|day| day.open.iter()) {
+            let next = one.next.map_or("out".to_string(), |next| next.to_string());
+            lines.push(format!("series {} published {} next {next}", one.series, one.published));
+        }
+        lines.push(format!("receiving {}", self.receiving.open.len()));
+        for one in self.receiving.open.iter() {
+            let login = if one.logged_in { "in" } else { "out" };
+            let chain = one.chain.map_or("none".to_string(), |chain| chain.held.to_string());
+            let mark = or_none(one.mark);
+            lines.push(format!("series {} {mark} last {} {login} chain {chain}", one.series, one.last));
+        }
+        self.add("state".to_string(), lines.join("\n"));
     }
 
     /// A line that is no call.
     fn bad(&mut self, line: &str) {
-        let answer = format!("bad line {}", self.lines + 1);
-        self.add(line, &answer, "bad line");
+        let answer = format!("bad line {}", self.calls.len() + 1);
+        self.add(line.to_string(), answer);
+    }
+
+    // --- The calls with what their answers begin with ---
+
+    fn open(&mut self, mark: u32, series: &[u16], expected: &str) {
+        _ = self.sopen(mark, series);
+        self.begins(expected);
+    }
+
+    fn publish(&mut self, series: u16, tid: u32, content: &[u8], expected: &str) {
+        _ = self.published(series, tid, content);
+        self.begins(expected);
+    }
+
+    fn login(&mut self, series: u16, room: usize, packet: &[u8], content: &[u8], expected: &str) {
+        _ = self.logged_in(series, room, packet, content);
+        self.begins(expected);
+    }
+
+    fn send(&mut self, series: u16, room: usize, expected: &str) {
+        _ = self.sent(series, room);
+        self.begins(expected);
+    }
+
+    fn open_end(&mut self, series: &[u16], expected: &str) {
+        _ = self.ropen(series);
+        self.begins(expected);
+    }
+
+    fn ask(&mut self, series: u16, room: usize, content: &[u8], expected: &str) {
+        _ = self.asked(series, room, content);
+        self.begins(expected);
+    }
+
+    fn answer(&mut self, series: u16, packet: &[u8], expected: &str) {
+        _ = self.answered(series, packet);
+        self.begins(expected);
+    }
+
+    fn receive(&mut self, packet: &[u8], expected: &str) {
+        self.received(packet);
+        self.begins(expected);
+    }
+
+    /// The states of both ends, each line of them written by hand.
+    fn states(&mut self, expected: &str) {
+        self.state();
+        assert_eq!(self.calls.last().expect("a call").1, expected, "line {}", self.calls.len());
     }
 }
 
-// --- Contents and packets ---
-
-const REQUEST: u32 = 0x0023;
-const ANSWER: u32 = 0x0027;
-/// A TID and a FID that the appendices don't have.
-const STRANGE: u32 = 0x7777;
-const MATCHES: u32 = 0x2002;
-const MATCH: u32 = 0x000A;
-const BULLETIN: u32 = 0x2003;
-
-/// A right field of the table, the same at each call.
-fn right(fid: u32) -> Vec<u8> {
-    known_field_bytes(&mut Random::new(u64::from(fid)), known_field(fid).expect("a known field"))
-}
-
-/// The field with its last byte missing (8).
-fn narrow(fid: u32) -> Vec<u8> {
-    let field = right(fid);
-    raw_field(fid, &field[FIELD_HEADER..field.len() - 1])
-}
-
-/// The field with its first item wrong (9): a byte that no String has.
-fn wrong(fid: u32) -> Vec<u8> {
-    let mut field = right(fid);
-    field[FIELD_HEADER] = 0x7F;
-    field
-}
-
-/// A field of unknown FID with so many bytes.
-fn plain(length: usize) -> Vec<u8> {
-    let bytes: Vec<u8> = (0..length).map(|i| (i * 7 + length) as u8).collect();
-    raw_field(STRANGE, &bytes)
-}
-
-/// The parts of a login packet. Each is right until one is changed.
-#[derive(Clone)]
-struct Parts {
-    kind: u8,
-    extension: Vec<u8>,
-    version: u8,
-    tid: u32,
-    chain: u8,
-    series: u16,
-    number: u32,
-    fields: u16,
-    length: usize,
-    content: Vec<u8>,
-}
-
-impl Parts {
-    fn new(mark: Option<u32>, start: Option<(u16, u32)>) -> Self {
-        let mut content = right(REQUEST);
-        if let Some((series, number)) = start {
-            content.extend(start_field_bytes(series, number));
-        }
-        let extension = mark.map_or(vec![], |mark| [&[TRADE_DATE, 4][..], &mark.to_be_bytes()].concat());
-        let fields = 1 + u16::from(start.is_some());
-        let length = content.len();
-        Parts { kind: 1, extension, version: 1, tid: LOGIN, chain: b'S', series: 0, number: 0, fields, length, content }
-    }
-
-    /// Other content, with the counts that belong to it.
-    fn with(mut self, content: &[Vec<u8>]) -> Self {
-        self.fields = content.len() as u16;
-        self.content = content.concat();
-        self.length = self.content.len();
-        self
-    }
-
-    fn bytes(&self) -> Vec<u8> {
-        let mut out = vec![self.kind, self.extension.len() as u8];
-        out.extend(((16 + self.content.len()) as u16).to_be_bytes());
-        out.extend(&self.extension);
-        out.push(self.version);
-        out.extend(self.tid.to_be_bytes());
-        out.push(self.chain);
-        out.extend(self.series.to_be_bytes());
-        out.extend(self.number.to_be_bytes());
-        out.extend(self.fields.to_be_bytes());
-        out.extend((self.length as u16).to_be_bytes());
-        out.extend(&self.content);
-        out
-    }
-}
-
-/// A right login packet.
-fn asking(mark: Option<u32>, start: Option<(u16, u32)>) -> Vec<u8> {
-    Parts::new(mark, start).bytes()
-}
-
-/// A right login packet with some parts changed.
-fn changed(change: impl Fn(&mut Parts)) -> Vec<u8> {
-    let mut parts = Parts::new(Some(DAY), Some((1, 1)));
-    change(&mut parts);
-    parts.bytes()
-}
-
-// --- The cases ---
-
-/// Room in the log, and the mark of the day that most cases are of.
-const LOG: usize = 40_000;
-const DAY: u32 = 20_041_231;
-/// An output with room for each answer and message.
-const ROOM: usize = 65_536;
-
-/// The worked examples of the serving end.
-pub fn serving_script() -> Script {
-    let mut s = Script::new(LOG, 65_536);
-    before_an_opening(&mut s);
-    openings(&mut s);
-    publications(&mut s);
-    login_starts(&mut s);
-    login_packets(&mut s);
-    login_orders(&mut s);
-    sends(&mut s);
-    full_log(&mut s);
-    bad_lines(&mut s);
-    last_marks(&mut s);
-    s
-}
-
-fn before_an_opening(s: &mut Script) {
-    let answer = right(ANSWER);
-    s.publish(1, STRANGE, &[], "refused 13");
-    s.publish(1, STRANGE, &narrow(MATCH), "refused 8");
-    s.login(1, ROOM, &asking(None, None), &answer, "refused 13");
-    s.login(1, ROOM, &asking(Some(DAY), None), &answer, "refused 13");
-    s.login(1, ROOM, &[], &answer, "refused 12");
-    s.send(1, ROOM, "refused 13");
-}
-
-/// 11, wrong in one way each and in two; marks that are first, higher, equal and lower.
-fn openings(s: &mut Script) {
-    let answer = right(ANSWER);
-    s.open(5, &[], "refused 11");
-    s.open(5, &[0], "refused 11");
-    s.open(5, &[1, 0], "refused 11");
-    s.open(5, &[7, 3, 7], "refused 11");
-    s.open(5, &[1, 2, 3, 4, 5, 6, 7, 8, 9], "refused 11");
-    s.open(5, &[0, 2, 3, 4, 5, 6, 7, 8, 0], "refused 11");
-    s.send(1, ROOM, "refused 13");
-    s.open(0, &[2], "opened");
-    s.open(0, &[2], "refused 11");
-    s.open(5, &[65_535, 1, 2, 300, 4, 5, 6, 7], "opened");
-    s.publish(300, STRANGE, &plain(3), "published 1");
-    s.login(300, ROOM, &asking(None, None), &answer, &format!("login {}", 26 + answer.len()));
-    s.open(5, &[300], "refused 11");
-    s.open(4, &[300], "refused 11");
-    s.open(4, &[], "refused 11");
-    s.open(6, &[0], "refused 11");
-    // A refused opening leaves day, log and logins.
-    s.send(300, ROOM, "sent 35");
-    s.send(300, ROOM, "none");
-    s.publish(300, STRANGE, &[], "published 2");
-    // An opening empties log and logins; a series that it doesn't name is closed.
-    s.open(6, &[300, 1], "opened");
-    s.send(300, ROOM, "refused 14");
-    s.send(2, ROOM, "refused 13");
-    s.publish(300, STRANGE, &[], "published 1");
-}
-
-/// Marks up to the highest; no day comes behind it.
-fn last_marks(s: &mut Script) {
-    s.open(u32::MAX - 1, &[9], "opened");
-    s.open(u32::MAX, &[9], "opened");
-    s.open(u32::MAX, &[9], "refused 11");
-    s.login(9, ROOM, &asking(Some(u32::MAX), None), &right(ANSWER), &format!("login {}", 26 + right(ANSWER).len()));
-}
-
-/// Rows 7 to 10, 13 and 18, each alone and before the next; contents of every length.
-fn publications(s: &mut Script) {
-    s.open(DAY - 1, &[1, 2], "opened");
-    let (row, bulletin) = (right(MATCH), right(0x0001));
-    // Contents that pass: none, short, several packets, known fields, unlisted fields.
-    s.publish(1, STRANGE, &[], "published 1");
-    s.publish(1, STRANGE, &plain(0), "published 2");
-    s.publish(2, STRANGE, &plain(1), "published 1");
-    s.publish(1, 0x2004, &[], "published 3");
-    s.publish(1, MATCHES, &row, "published 4");
-    s.publish(1, MATCHES, &[&row[..], &row, &plain(9), &bulletin].concat(), "published 5");
-    s.publish(2, BULLETIN, &bulletin, "published 2");
-    s.publish(2, LOGIN, &right(ANSWER), "published 3");
-    s.publish(1, STRANGE, &[plain(2034), plain(2034)].concat(), "published 6");
-    s.publish(1, STRANGE, &[plain(2034), plain(2035)].concat(), "published 7");
-    s.publish(2, STRANGE, &[plain(4074), plain(0), plain(4074)].concat(), "published 4");
-    // 7: not whole fields, a field too long, too long in all.
-    s.publish(1, STRANGE, &[0], "refused 7");
-    s.publish(1, STRANGE, &plain(5)[..10], "refused 7");
-    s.publish(1, STRANGE, &[plain(5), vec![0; 5]].concat(), "refused 7");
-    s.publish(1, STRANGE, &plain(4075), "refused 7");
-    s.publish(1, STRANGE, &[vec![plain(4074); 8], vec![plain(122)]].concat().concat(), "refused 18");
-    s.publish(1, STRANGE, &[vec![plain(4074); 8], vec![plain(123)]].concat().concat(), "refused 7");
-    // 8, 9, 10.
-    s.publish(1, MATCHES, &narrow(MATCH), "refused 8");
-    s.publish(1, STRANGE, &raw_field(START_FIELD, &[0, 1, 2]), "refused 8");
-    s.publish(1, MATCHES, &wrong(MATCH), "refused 9");
-    s.publish(1, STRANGE, &wrong(MATCH), "refused 9");
-    s.publish(1, MATCHES, &[], "refused 10");
-    s.publish(1, MATCHES, &[&row[..], &right(5), &right(5)].concat(), "refused 10");
-    s.publish(1, BULLETIN, &[bulletin.clone(), bulletin.clone()].concat(), "refused 10");
-    // 13.
-    s.publish(3, STRANGE, &[], "refused 13");
-    s.publish(0, STRANGE, &[], "refused 13");
-    // Two ways at once: the lower number counts, wherever in the content it stands.
-    s.publish(3, STRANGE, &[narrow(MATCH), vec![0]].concat(), "refused 7");
-    s.publish(1, MATCHES, &[wrong(MATCH), narrow(MATCH)].concat(), "refused 8");
-    s.publish(1, MATCHES, &[narrow(MATCH), right(5), right(5)].concat(), "refused 8");
-    s.publish(1, BULLETIN, &[wrong(1), bulletin.clone()].concat(), "refused 9");
-    s.publish(3, MATCHES, &wrong(MATCH), "refused 9");
-    s.publish(3, MATCHES, &[], "refused 10");
-    // What was refused changed nothing.
-    s.publish(1, STRANGE, &[], "published 8");
-}
-
-/// Every kind of start.
-fn login_starts(s: &mut Script) {
-    let answer = right(ANSWER);
-    let taken = format!("login {}", 26 + answer.len());
-    s.open(DAY, &[1, 2], "opened");
-    // With nothing published.
-    s.login(1, ROOM, &asking(None, None), &answer, &taken);
-    s.send(1, ROOM, "none");
-    s.login(1, ROOM, &asking(None, Some((1, 1))), &answer, &taken);
-    s.login(1, ROOM, &asking(None, Some((1, 2))), &answer, "refused 19");
-    s.login(1, ROOM, &asking(None, Some((1, 0))), &answer, "refused 19");
-    for (i, series) in [1, 1, 2, 1, 1].into_iter().enumerate() {
-        let number = [1, 2, 1, 3, 4][i];
-        s.publish(series, STRANGE, &plain(i), &format!("published {number}"));
-    }
-    // P11: four published; next 5 logs in and Send has none, 6 is 19.
-    s.login(1, ROOM, &asking(Some(DAY), Some((1, 5))), &answer, &taken);
-    s.send(1, ROOM, "none");
-    s.login(1, ROOM, &asking(Some(DAY), Some((1, 6))), &answer, "refused 19");
-    s.send(1, ROOM, "none");
-    s.login(1, ROOM, &asking(Some(DAY), Some((1, 0))), &answer, "refused 19");
-    s.login(1, ROOM, &asking(Some(DAY), Some((1, u32::MAX))), &answer, "refused 19");
-    // Next 1, in the middle, and the last one; a login again moves the start.
-    s.login(1, ROOM, &asking(Some(DAY), Some((1, 1))), &answer, &taken);
-    s.send(1, ROOM, "sent 32");
-    s.login(1, ROOM, &asking(Some(DAY), Some((1, 3))), &answer, &taken);
-    s.send(1, ROOM, "sent 35");
-    s.send(1, ROOM, "sent 36");
-    s.send(1, ROOM, "none");
-    s.login(1, ROOM, &asking(None, Some((1, 4))), &answer, &taken);
-    s.send(1, ROOM, "sent 36");
-    s.login(1, ROOM, &asking(Some(DAY), None), &answer, &taken);
-    s.send(1, ROOM, "sent 32");
-    // A lower mark starts at 1, whatever the number says.
-    for number in [0, 1, 3, 6, u32::MAX] {
-        s.login(1, ROOM, &asking(Some(DAY - 1), Some((1, number))), &answer, &taken);
-        s.send(1, ROOM, "sent 32");
-    }
-    s.login(1, ROOM, &asking(Some(0), None), &answer, &taken);
-    s.send(1, ROOM, "sent 32");
-    // A higher mark; the start field of another series, whatever the mark; a series that isn't open.
-    s.login(1, ROOM, &asking(Some(DAY + 1), Some((1, 1))), &answer, "refused 15");
-    s.login(1, ROOM, &asking(Some(u32::MAX), None), &answer, "refused 15");
-    s.login(1, ROOM, &asking(Some(DAY), Some((2, 1))), &answer, "refused 13");
-    s.login(1, ROOM, &asking(Some(DAY - 1), Some((2, 1))), &answer, "refused 13");
-    s.login(1, ROOM, &asking(None, Some((3, 1))), &answer, "refused 13");
-    s.login(3, ROOM, &asking(None, None), &answer, "refused 13");
-    s.login(3, ROOM, &asking(None, Some((3, 1))), &answer, "refused 13");
-    // Another series has its own login.
-    s.send(2, ROOM, "refused 14");
-    s.login(2, ROOM, &asking(None, None), &answer, &taken);
-    s.send(2, ROOM, "sent 34");
-    s.send(1, ROOM, "sent 33");
-}
-
-/// Login's packet and content, wrong in one way each.
-fn login_packets(s: &mut Script) {
-    let answer = right(ANSWER);
-    let taken = format!("login {}", 26 + answer.len());
-    let good = changed(|_| {});
-    // 12: fewer than four bytes, not as many as said, no message packet.
-    s.login(1, ROOM, &[], &answer, "refused 12");
-    s.login(1, ROOM, &good[..3], &answer, "refused 12");
-    s.login(1, ROOM, &good[..good.len() - 1], &answer, "refused 12");
-    s.login(1, ROOM, &[&good[..], &[0]].concat(), &answer, "refused 12");
-    s.login(1, ROOM, &[0, 0, 0, 0], &answer, "refused 12");
-    s.login(1, ROOM, &[1, 2, 0, 0, 4, 0], &answer, "refused 12");
-    s.login(1, ROOM, &changed(|p| p.kind = 0), &answer, "refused 12");
-    s.login(1, ROOM, &changed(|p| p.kind = 2), &answer, "refused 12");
-    s.login(1, ROOM, &[&[1, 0, 0, 15][..], &[1; 15]].concat(), &answer, "refused 12");
-    s.login(1, ROOM, &[&[1, 0, 0x10, 0x01][..], &[1; 4097]].concat(), &answer, "refused 12");
-    // 1: extension above 127, all bytes there.
-    s.login(1, ROOM, &changed(|p| p.extension = vec![0; 128]), &answer, "refused 1");
-    s.login(1, ROOM, &changed(|p| p.extension = [vec![0x77, 125], vec![9; 125]].concat()), &answer, &taken);
-    // 2: tags that don't end with the extension, a known tag of wrong length, 0x05 twice.
-    s.login(1, ROOM, &changed(|p| p.extension = vec![5]), &answer, "refused 2");
-    s.login(1, ROOM, &changed(|p| p.extension = vec![5, 3, 0, 0, 1]), &answer, "refused 2");
-    s.login(1, ROOM, &changed(|p| p.extension = vec![0x77, 2, 1]), &answer, "refused 2");
-    s.login(1, ROOM, &changed(|p| p.extension = vec![5, 4, 0, 0, 0, 1, 5, 4, 0, 0, 0, 1]), &answer, "refused 2");
-    s.login(1, ROOM, &changed(|p| p.extension = vec![6, 2, 0, 1, 0x77, 0, 4, 0, 4, 0]), &answer, &taken);
-    // 4 to 7.
-    s.login(1, ROOM, &changed(|p| p.version = 2), &answer, "refused 4");
-    s.login(1, ROOM, &changed(|p| p.chain = b's'), &answer, "refused 5");
-    s.login(1, ROOM, &changed(|p| p.length += 1), &answer, "refused 6");
-    s.login(1, ROOM, &changed(|p| p.length = 0), &answer, "refused 6");
-    s.login(1, ROOM, &changed(|p| p.fields = 1), &answer, "refused 7");
-    s.login(1, ROOM, &changed(|p| p.fields = 3), &answer, "refused 7");
-    s.login(1, ROOM, &Parts::new(None, None).with(&[vec![0; 5]]).bytes(), &answer, "refused 7");
-    // 7 of the answer's content: not whole fields, more than one packet holds.
-    s.login(1, ROOM, &good, &[0], "refused 7");
-    s.login(1, ROOM, &good, &answer[..answer.len() - 1], "refused 7");
-    let fill = 4080 - answer.len() - 6;
-    s.login(1, ROOM, &good, &[&answer[..], &plain(fill + 1)].concat(), "refused 7");
-    s.login(1, ROOM, &good, &[&answer[..], &plain(fill)].concat(), "login 4106");
-    // 8, 9: in the packet, in the content.
-    s.login(1, ROOM, &Parts::new(None, None).with(&[narrow(REQUEST)]).bytes(), &answer, "refused 8");
-    s.login(
-        1,
-        ROOM,
-        &Parts::new(None, None).with(&[right(REQUEST), narrow(START_FIELD)]).bytes(),
-        &answer,
-        "refused 8",
-    );
-    s.login(1, ROOM, &good, &narrow(ANSWER), "refused 8");
-    s.login(1, ROOM, &Parts::new(None, None).with(&[wrong(REQUEST)]).bytes(), &answer, "refused 9");
-    s.login(1, ROOM, &good, &wrong(ANSWER), "refused 9");
-    // 10: TID, chain letter, counts of the packet, start field twice, counts of the content.
-    s.login(1, ROOM, &changed(|p| p.tid = 0x0017), &answer, "refused 10");
-    s.login(1, ROOM, &changed(|p| p.tid = STRANGE), &answer, "refused 10");
-    s.login(1, ROOM, &changed(|p| p.chain = b'F'), &answer, "refused 10");
-    s.login(1, ROOM, &changed(|p| p.chain = b'C'), &answer, "refused 10");
-    s.login(1, ROOM, &changed(|p| p.chain = b'L'), &answer, "refused 10");
-    s.login(1, ROOM, &Parts::new(None, None).with(&[]).bytes(), &answer, "refused 10");
-    s.login(1, ROOM, &Parts::new(None, None).with(&[right(REQUEST), right(REQUEST)]).bytes(), &answer, "refused 10");
-    let start = start_field_bytes(1, 1);
-    let twice = Parts::new(None, None).with(&[right(REQUEST), start.clone(), start.clone()]);
-    s.login(1, ROOM, &twice.bytes(), &answer, "refused 10");
-    s.login(1, ROOM, &good, &[], "refused 10");
-    s.login(1, ROOM, &good, &[&answer[..], &answer].concat(), "refused 10");
-    // Further fields pass: unlisted and unknown ones, in any order.
-    let more = Parts::new(None, None).with(&[plain(3), start.clone(), right(MATCH), right(REQUEST)]);
-    let content = [plain(0), answer.clone(), start, right(5)].concat();
-    s.login(1, ROOM, &more.bytes(), &content, &format!("login {}", 26 + content.len()));
-    // 16: header series or number not 0.
-    s.login(1, ROOM, &changed(|p| p.series = 1), &answer, "refused 16");
-    s.login(1, ROOM, &changed(|p| p.number = 1), &answer, "refused 16");
-    s.login(1, ROOM, &changed(|p| p.number = 0x0100_0000), &answer, "refused 16");
-    // 18: one byte too few, none at all; exactly enough.
-    s.login(1, 25 + answer.len(), &good, &answer, "refused 18");
-    s.login(1, 0, &good, &answer, "refused 18");
-    s.login(1, 26 + answer.len(), &good, &answer, &taken);
-}
-
-/// Login wrong in two ways: the lower number counts, but 12 comes first.
-fn login_orders(s: &mut Script) {
-    let answer = right(ANSWER);
-    let long = vec![0; 128];
-    s.login(1, ROOM, &changed(|p| (p.kind, p.extension) = (2, long.clone())), &answer, "refused 12");
-    s.login(1, ROOM, &changed(|p| p.extension = long.clone())[..150], &answer, "refused 12");
-    s.login(1, ROOM, &changed(|p| (p.extension, p.version) = (long.clone(), 2)), &answer, "refused 1");
-    s.login(1, ROOM, &changed(|p| (p.extension, p.version) = (vec![5], 2)), &answer, "refused 2");
-    s.login(1, ROOM, &changed(|p| (p.version, p.chain) = (2, b's')), &answer, "refused 4");
-    s.login(1, ROOM, &changed(|p| (p.chain, p.length) = (b's', 0)), &answer, "refused 5");
-    s.login(1, ROOM, &changed(|p| (p.length, p.fields) = (0, 9)), &answer, "refused 6");
-    // 6 of the packet, 7 of the content; 7 of the packet, 8 of the content, and the other way round.
-    s.login(1, ROOM, &changed(|p| p.length = 0), &[0], "refused 6");
-    s.login(1, ROOM, &changed(|p| p.fields = 9), &narrow(ANSWER), "refused 7");
-    s.login(1, ROOM, &Parts::new(None, None).with(&[narrow(REQUEST)]).bytes(), &[0], "refused 7");
-    s.login(1, ROOM, &Parts::new(None, None).with(&[wrong(REQUEST)]).bytes(), &narrow(ANSWER), "refused 8");
-    s.login(1, ROOM, &Parts::new(None, None).with(&[narrow(REQUEST)]).bytes(), &wrong(ANSWER), "refused 8");
-    s.login(1, ROOM, &changed(|p| p.tid = 0x0017), &wrong(ANSWER), "refused 9");
-    s.login(1, ROOM, &Parts::new(None, None).with(&[wrong(REQUEST)]).bytes(), &[], "refused 9");
-    s.login(3, ROOM, &changed(|p| p.chain = b'F'), &answer, "refused 10");
-    s.login(3, ROOM, &asking(None, Some((3, 1))), &[], "refused 10");
-    // 13 before 15, 15 before 16, 16 before 18, 18 before 19.
-    s.login(1, ROOM, &asking(Some(DAY + 1), Some((2, 1))), &answer, "refused 13");
-    s.login(3, ROOM, &asking(Some(DAY + 1), None), &answer, "refused 13");
-    let mut later = Parts::new(Some(DAY + 1), Some((1, 1)));
-    later.series = 1;
-    s.login(1, ROOM, &later.bytes(), &answer, "refused 15");
-    s.login(1, 0, &asking(Some(DAY + 1), None), &answer, "refused 15");
-    s.login(1, 0, &changed(|p| p.series = 1), &answer, "refused 16");
-    let far = asking(Some(DAY), Some((1, 99)));
-    s.login(1, 25 + answer.len(), &far, &answer, "refused 18");
-    s.login(1, 26 + answer.len(), &far, &answer, "refused 19");
-    let mut far = Parts::new(Some(DAY), Some((1, 99)));
-    far.number = 7;
-    s.login(1, ROOM, &far.bytes(), &answer, "refused 16");
-    s.login(2, ROOM, &asking(Some(DAY), Some((1, 99))), &answer, "refused 13");
-    // What was refused changed nothing: the login of before stands.
-    s.send(1, ROOM, "sent 32");
-}
-
-fn sends(s: &mut Script) {
-    let answer = right(ANSWER);
-    let taken = format!("login {}", 26 + answer.len());
-    s.open(DAY + 1, &[2, 1, 7], "opened");
-    // 13 and 14; 13 before 14 and before 18.
-    s.send(3, ROOM, "refused 13");
-    s.send(0, 0, "refused 13");
-    s.send(1, ROOM, "refused 14");
-    s.send(1, 0, "refused 14");
-    s.publish(2, STRANGE, &plain(0), "published 1");
-    s.publish(1, STRANGE, &[], "published 1");
-    s.publish(2, MATCHES, &right(MATCH), "published 2");
-    s.publish(1, STRANGE, &[plain(2034), plain(2034)].concat(), "published 2");
-    s.publish(1, STRANGE, &[plain(2034), plain(2035)].concat(), "published 3");
-    s.publish(1, STRANGE, &[plain(4074), plain(0), plain(4068), plain(0), plain(100)].concat(), "published 4");
-    s.login(1, ROOM, &asking(Some(DAY + 1), Some((1, 1))), &answer, &taken);
-    // None left, in a series without a message: the output isn't looked at.
-    s.login(7, ROOM, &asking(None, None), &answer, &taken);
-    s.send(7, 0, "none");
-    // Short ones: an output one byte too small, then exactly as long.
-    s.send(1, 25, "refused 18");
-    s.send(1, 26, "sent 26");
-    // P12: one packet, then two.
-    s.send(1, 4105, "refused 18");
-    s.send(1, 4106, "sent 4106");
-    s.send(1, 4132, "refused 18");
-    s.send(1, 4106, "refused 18");
-    s.send(1, 4133, "sent 4133");
-    // Three packets, F, C and L.
-    s.send(1, 8349, "refused 18");
-    s.send(1, 0, "refused 18");
-    s.send(1, ROOM, "sent 8350");
-    s.send(1, ROOM, "none");
-    s.send(1, 0, "none");
-    // A message published behind "none" is sent next; the other series goes its own way.
-    s.publish(1, 0x2004, &[], "published 5");
-    s.send(1, ROOM, "sent 26");
-    s.send(1, ROOM, "none");
-    s.send(2, ROOM, "refused 14");
-    s.login(2, ROOM, &asking(None, Some((2, 2))), &answer, &taken);
-    s.send(2, ROOM, &format!("sent {}", 26 + right(MATCH).len()));
-    s.send(2, ROOM, "none");
-}
-
-/// The largest message, and a log filled to its last byte.
-fn full_log(s: &mut Script) {
-    s.open(DAY + 2, &[1, 2], "opened");
-    let largest = [vec![plain(4074); 8], vec![plain(122)]].concat().concat();
-    assert_eq!(largest.len(), 32_768);
-    s.publish(1, STRANGE, &largest, "published 1");
-    s.login(1, ROOM, &asking(None, None), &right(ANSWER), &format!("login {}", 26 + right(ANSWER).len()));
-    s.send(1, 32_768 + 9 * 26 - 1, "refused 18");
-    s.send(1, 32_768 + 9 * 26, "sent 33002");
-    // One byte too many for what is left, then exactly as many; then nothing fits.
-    let left = LOG - 16 - largest.len();
-    let fill = |n: usize| [plain(4074), plain(n - 16 - 4080 - 6)].concat();
-    s.publish(2, STRANGE, &fill(left + 1), "refused 18");
-    s.publish(2, STRANGE, &fill(left), "published 1");
-    s.publish(2, STRANGE, &[], "refused 18");
-    s.publish(1, 0x2004, &[], "refused 18");
-    // 7, 10 and 13 before 18, in a full log.
-    s.publish(1, STRANGE, &[0], "refused 7");
-    s.publish(1, MATCHES, &[], "refused 10");
-    s.publish(3, STRANGE, &[], "refused 13");
-    s.login(2, ROOM, &asking(None, None), &right(ANSWER), &format!("login {}", 26 + right(ANSWER).len()));
-    s.send(2, ROOM, &format!("sent {}", left - 16 + 52));
-    s.send(2, ROOM, "none");
-    // An opening empties it.
-    s.open(DAY + 3, &[1], "opened");
-    s.publish(1, STRANGE, &[], "published 1");
-    s.login(1, ROOM, &asking(None, None), &right(ANSWER), &format!("login {}", 26 + right(ANSWER).len()));
-    s.send(1, ROOM, "sent 26");
-}
-
-/// Lines that are no call: words, numbers, bytes, counts of words, limits.
-fn bad_lines(s: &mut Script) {
-    for line in [
-        "",
-        " ",
-        "sopen",
-        "sopen ",
-        "sopen x 1",
-        "sopen 4294967296 1",
-        "sopen 5 65536",
-        "sopen 5 1 ",
-        "sopen 5  1",
-        "sopen 5 -1",
-        " sopen 5 1",
-        "Sopen 5 1",
-        "sopens 5 1",
-        "buffers 100 100",
-        "publish 1 00007777",
-        "publish 1 00007777 - -",
-        "publish 1 7777 -",
-        "publish 1 000007777 -",
-        "publish 1 0000777G -",
-        "publish 65536 00007777 -",
-        "publish 1 00007777 0",
-        "publish 1 00007777 000",
-        "publish 1 00007777 0G",
-        "publish 1 00007777 --",
-        "publish 1 00007777 ",
-        "login 1 65537 - -",
-        "login 1 100 -",
-        "login 1 100 - - -",
-        "login 1 100 0 -",
-        "login 1 100 - 0",
-        "login x 100 - -",
-        "login 1 x - -",
-        "send 1",
-        "send 1 65537",
-        "send 1 100 1",
-        "send 65536 100",
-        "send 1 18446744073709551617",
-        "receive 1 00",
-    ] {
-        s.bad(line);
-    }
-    // Small letters are read, and leading zeros.
-    s.add("publish 0001 0000abcd 0000abcd0001fF", "published 2", "published 2");
-    s.serving.publish(1, 0xABCD, &[0, 0, 0xAB, 0xCD, 0, 1, 0xFF]).expect("published");
-    s.send(1, ROOM, "sent 33");
+/// The whole script: the worked examples of both ends, and both ends over a faulty line. Gives it with the place of the
+/// call that the faulty line begins with.
+pub fn whole_script() -> (Script, usize) {
+    let mut s = Script::new(LOG, CHAIN);
+    serving::examples(&mut s);
+    receiving::examples(&mut s);
+    let from = s.calls.len();
+    faulty_line(&mut s, 2_000_000_000);
+    serving::last_marks(&mut s);
+    (s, from)
 }

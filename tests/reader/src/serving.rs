@@ -1,103 +1,131 @@
-//! The serving end (document 01): Opening, Publish, Login and Send, each with its tests in the refusal table's order.
+//! The serving end (document 01): Opening, Publish, Login and Send, each with its tests in the refusal table's order. The
+//! log and the output are lent; an output is given as a vector that is emptied and holds what was written, and its room.
 
 use crate::cut::{write_message, write_packet, Header};
+use crate::few::{may_open, Few};
 use crate::makeup::{check, items_right, makeup_right, shape_right, widths_right, Direction};
-use crate::packet::{read, said_length, u16_at, u32_at, Packet, MESSAGE_HEADER, MOST_CONTENT, MOST_MESSAGE};
+use crate::packet::{read, said_length, u16_at, u32_at, MessagePacket, Packet};
+use crate::packet::{MESSAGE_HEADER, MOST_CONTENT, MOST_MESSAGE};
 use crate::start::{start_field, Start};
 
-/// At most so many series are open, and so many messages a series and day.
-pub const MOST_SERIES: usize = 8;
+/// At most so many messages a series and day.
 pub const MOST_MESSAGES: u32 = 1_000_000;
 /// The TID of login packets and their answers.
 pub const LOGIN: u32 = 0x0016;
 /// Length of an entry's head in the log.
-const ENTRY_HEADER: usize = 16;
+pub const ENTRY_HEADER: usize = 16;
 /// Header, tag 0x05 and message header of a packet that the end writes.
-const AROUND: usize = 4 + 6 + MESSAGE_HEADER;
+pub const AROUND: usize = 4 + 6 + MESSAGE_HEADER;
 
 /// A series of the day: how many were published, and the number that Send sends next, if it is logged in.
-#[derive(Clone, Debug)]
-struct Open {
-    series: u16,
-    published: u32,
-    next: Option<u32>,
+#[derive(Clone, Copy, Debug, Default, PartialEq, Eq)]
+pub struct Served {
+    pub series: u16,
+    pub published: u32,
+    pub next: Option<u64>,
 }
 
-#[derive(Clone, Debug)]
-struct Day {
-    mark: u32,
-    open: Vec<Open>,
-    used: usize,
+#[derive(Clone, Copy, Debug, PartialEq)]
+pub struct Day {
+    pub mark: u32,
+    pub open: Few<Served>,
+    /// Bytes of the log in use.
+    pub used: usize,
 }
 
-/// The end with its log. The log's length stays as it was given.
-#[derive(Clone, Debug)]
+impl Day {
+    /// Where a series stands among the open ones.
+    fn place(&self, series: u16) -> Option<usize> {
+        self.open.iter().position(|one| one.series == series)
+    }
+
+    /// TID and content of a message's entry; none where the log is damaged up to it.
+    fn entry<'a>(&self, log: &'a [u8], series: u16, number: u64) -> Option<(u32, &'a [u8])> {
+        let mut rest = log.get(..self.used)?;
+        let mut seen = [0; crate::few::MOST_SERIES];
+        loop {
+            let head = rest.get(..ENTRY_HEADER)?;
+            let length = usize::try_from(u32_at(head, 12)).ok()?;
+            let content = rest[ENTRY_HEADER..].get(..length)?;
+            let place = self.place(u16_at(head, 0))?;
+            seen[place] += 1;
+            if u16_at(head, 2) != 0 || u64::from(u32_at(head, 8)) != seen[place] || !shape_right(content, MOST_MESSAGE)
+            {
+                return None;
+            }
+            if u16_at(head, 0) == series && seen[place] == number {
+                return Some((u32_at(head, 4), content));
+            }
+            rest = &rest[ENTRY_HEADER + length..];
+        }
+    }
+}
+
+/// The message packet that Login and Answer take: 12 where the bytes aren't one packet, or by their first four no message
+/// packet; then rows 1, 2 and 4 to 7. (Row 3 can't hold any more.)
+pub fn one_message(packet: &[u8]) -> Result<MessagePacket<'_>, u8> {
+    let one = said_length(packet) == Some(packet.len());
+    let body = if one { usize::from(u16_at(packet, 2)) } else { 0 };
+    if !one || packet[0] != 1 || !(MESSAGE_HEADER..=MESSAGE_HEADER + MOST_CONTENT).contains(&body) {
+        return Err(12);
+    }
+    match read(packet) {
+        Packet::Message(message) => Ok(message),
+        Packet::Refused(row) => Err(row),
+        other => unreachable!("{other:?}"),
+    }
+}
+
+/// The end. A fresh one has no day.
+#[derive(Clone, Copy, Debug, Default, PartialEq)]
 pub struct Serving {
-    day: Option<Day>,
-    pub log: Vec<u8>,
+    pub day: Option<Day>,
 }
 
 impl Serving {
-    pub fn new(log: usize) -> Self {
-        Serving { day: None, log: vec![0; log] }
-    }
-
-    /// Where a series stands among the open ones.
-    fn place(&self, series: u16) -> Option<usize> {
-        self.day.as_ref()?.open.iter().position(|one| one.series == series)
-    }
-
     /// Opening: a mark above the present one, if any, and 1 to 8 differing series from 1 up. It empties log and logins.
     pub fn open(&mut self, mark: u32, series: &[u16]) -> Result<(), u8> {
-        let doubled = (1..series.len()).any(|i| series[..i].contains(&series[i]));
-        let late = self.day.as_ref().is_some_and(|day| mark <= day.mark);
-        if series.is_empty() || series.len() > MOST_SERIES || series.contains(&0) || doubled || late {
+        if !may_open(series) || self.day.is_some_and(|day| mark <= day.mark) {
             return Err(11);
         }
-        let open = series.iter().map(|&series| Open { series, published: 0, next: None }).collect();
+        let open = Few::of(series.iter().map(|&series| Served { series, published: 0, next: None })).ok_or(11)?;
         self.day = Some(Day { mark, open, used: 0 });
         Ok(())
     }
 
     /// Publish: the message's number. Its entry goes behind the used part of the log.
-    pub fn publish(&mut self, series: u16, tid: u32, content: &[u8]) -> Result<u32, u8> {
+    pub fn publish(&mut self, series: u16, tid: u32, content: &[u8], log: &mut [u8]) -> Result<u32, u8> {
         check(tid, Direction::Down, content, MOST_MESSAGE)?;
-        let place = self.place(series).ok_or(13)?;
         let day = self.day.as_mut().ok_or(13)?;
-        if self.log.len() < day.used {
-            return Err(20);
-        }
-        if self.log.len() - day.used < ENTRY_HEADER + content.len() {
-            return Err(18);
-        }
+        let place = day.place(series).ok_or(13)?;
+        let free = log.get_mut(day.used..).ok_or(20)?;
+        let entry = free.get_mut(..ENTRY_HEADER + content.len()).ok_or(18)?;
         let one = &mut day.open[place];
         if one.published >= MOST_MESSAGES {
             return Err(21);
         }
         one.published += 1;
-        let mut entry = series.to_be_bytes().to_vec();
-        entry.extend([0, 0]);
-        entry.extend(tid.to_be_bytes());
-        entry.extend(one.published.to_be_bytes());
-        entry.extend((content.len() as u32).to_be_bytes());
-        entry.extend_from_slice(content);
-        self.log[day.used..day.used + entry.len()].copy_from_slice(&entry);
         day.used += entry.len();
+        let (head, behind) = entry.split_at_mut(ENTRY_HEADER);
+        head[..2].copy_from_slice(&series.to_be_bytes());
+        head[2..4].fill(0);
+        head[4..8].copy_from_slice(&tid.to_be_bytes());
+        head[8..12].copy_from_slice(&one.published.to_be_bytes());
+        head[12..].copy_from_slice(&(content.len() as u32).to_be_bytes());
+        behind.copy_from_slice(content);
         Ok(one.published)
     }
 
-    /// Login: the answer's packet, into an output of `room` bytes.
-    pub fn login(&mut self, series: u16, packet: &[u8], content: &[u8], room: usize) -> Result<Vec<u8>, u8> {
-        let one = said_length(packet) == Some(packet.len());
-        let body = if one { usize::from(u16_at(packet, 2)) } else { 0 };
-        if !one || packet[0] != 1 || !(MESSAGE_HEADER..=MESSAGE_HEADER + MOST_CONTENT).contains(&body) {
-            return Err(12);
-        }
-        let asked = match read(packet) {
-            Packet::Message(asked) => asked,
-            Packet::Refused(row) => return Err(row),
-            other => unreachable!("{other:?}"),
-        };
+    /// Login: the answer's packet.
+    pub fn login(
+        &mut self,
+        series: u16,
+        packet: &[u8],
+        content: &[u8],
+        room: usize,
+        out: &mut Vec<u8>,
+    ) -> Result<(), u8> {
+        let asked = one_message(packet)?;
         if !shape_right(content, MOST_CONTENT) {
             return Err(7);
         }
@@ -113,8 +141,8 @@ impl Serving {
         if asked.tid != LOGIN || asked.chain != b'S' || start == Start::Several || !made_up {
             return Err(10);
         }
-        let place = self.place(series).ok_or(13)?;
         let day = self.day.as_mut().ok_or(13)?;
+        let place = day.place(series).ok_or(13)?;
         if matches!(start, Start::Next { series: other, .. } if other != series) {
             return Err(13);
         }
@@ -127,55 +155,36 @@ impl Serving {
         if room < AROUND + content.len() {
             return Err(18);
         }
-        let published = day.open[place].published;
         let next = match start {
-            Start::Next { number, .. } if asked.mark.map_or(true, |mark| mark == day.mark) => number,
+            Start::Next { number, .. } if asked.mark.is_none_or(|mark| mark == day.mark) => u64::from(number),
             _ => 1,
         };
-        if next == 0 || next > published + 1 {
+        let one = &mut day.open[place];
+        if next == 0 || next > u64::from(one.published) + 1 {
             return Err(19);
         }
-        day.open[place].next = Some(next);
-        let mut out = Vec::new();
-        write_packet(&mut out, &Header { tid: LOGIN, series: 0, number: 0, mark: Some(day.mark) }, b'S', content);
-        Ok(out)
+        one.next = Some(next);
+        out.clear();
+        write_packet(out, &Header { tid: LOGIN, series: 0, number: 0, mark: Some(day.mark) }, b'S', content);
+        Ok(())
     }
 
-    /// Send: all packets of the next message, into an output of `room` bytes; none if all have been stepped over.
-    pub fn send(&mut self, series: u16, room: usize) -> Result<Option<Vec<u8>>, u8> {
-        let place = self.place(series).ok_or(13)?;
-        let day = self.day.as_ref().ok_or(13)?;
+    /// Send: the number of the next message, whose packets are all written; none if all have been stepped over.
+    pub fn send(&mut self, series: u16, log: &[u8], room: usize, out: &mut Vec<u8>) -> Result<Option<u32>, u8> {
+        let day = self.day.as_mut().ok_or(13)?;
+        let place = day.place(series).ok_or(13)?;
         let next = day.open[place].next.ok_or(14)?;
-        if next > day.open[place].published {
+        if next > day.open[place].published.into() {
             return Ok(None);
         }
-        let (tid, content) = self.entry(day, series, next).ok_or(20)?;
-        let mut out = Vec::new();
-        write_message(&mut out, &Header { tid, series, number: next, mark: Some(day.mark) }, content).ok_or(20)?;
+        let (tid, content) = day.entry(log, series, next).ok_or(20)?;
+        let number = u32::try_from(next).expect("at most the published count");
+        out.clear();
+        write_message(out, &Header { tid, series, number, mark: Some(day.mark) }, content).ok_or(20)?;
         if room < out.len() {
             return Err(18);
         }
-        self.day.as_mut().ok_or(13)?.open[place].next = Some(next + 1);
-        Ok(Some(out))
-    }
-
-    /// TID and content of a message's entry; none where the log is damaged up to it.
-    fn entry(&self, day: &Day, series: u16, number: u32) -> Option<(u32, &[u8])> {
-        let mut rest = self.log.get(..day.used)?;
-        let mut seen = vec![0; day.open.len()];
-        loop {
-            let head = rest.get(..ENTRY_HEADER)?;
-            let length = usize::try_from(u32_at(head, 12)).ok()?;
-            let content = rest[ENTRY_HEADER..].get(..length)?;
-            let place = self.place(u16_at(head, 0))?;
-            seen[place] += 1;
-            if u16_at(head, 2) != 0 || u32_at(head, 8) != seen[place] || !shape_right(content, MOST_MESSAGE) {
-                return None;
-            }
-            if u16_at(head, 0) == series && seen[place] == number {
-                return Some((u32_at(head, 4), content));
-            }
-            rest = &rest[ENTRY_HEADER + length..];
-        }
+        day.open[place].next = Some(next + 1);
+        Ok(Some(number))
     }
 }

@@ -207,7 +207,7 @@ fn makeup_of_each_message() {
                     let field = known_field(other.fid).unwrap();
                     (0..times).for_each(|_| content.extend(known_field_bytes(&mut r, field)));
                 }
-                let right = n >= line.least && line.most.map_or(true, |most| n <= most);
+                let right = n >= line.least && line.most.is_none_or(|most| n <= most);
                 let expected = if right { Ok(()) } else { Err(10) };
                 assert_eq!(check(message.tid, message.direction, &content, 32_768), expected, "{} {n}", message.name);
             }

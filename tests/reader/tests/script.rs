@@ -1,27 +1,28 @@
-//! The worked examples that stand in the repository are those that the model makes.
+//! The script that stands in the repository is the one that the models make; every answer of every call is there; and over
+//! the faulty line what was handed on is what was published.
 
-use reader::script::serving_script;
-use std::collections::BTreeMap;
+use reader::packet::{read, said_length, MessagePacket, Packet};
+use reader::script::{faulty_line, whole_script, Script, CHAIN, LOG};
+use std::collections::{BTreeMap, BTreeSet};
 use std::path::Path;
 
 #[test]
 fn script_of_the_repository() {
     let folder = Path::new(env!("CARGO_MANIFEST_DIR")).join("../../crates/ftdplay");
-    let script = serving_script();
-    assert!(std::fs::read_to_string(folder.join("stdin")).unwrap() == script.input, "stdin differs: run bin/script");
-    assert!(std::fs::read_to_string(folder.join("stdout")).unwrap() == script.output, "stdout differs: run bin/script");
+    let (input, output) = whole_script().0.texts();
+    assert!(std::fs::read_to_string(folder.join("stdin")).unwrap() == input, "stdin differs: run bin/script");
+    assert!(std::fs::read_to_string(folder.join("stdout")).unwrap() == output, "stdout differs: run bin/script");
 }
 
 /// Each answer of each call is there: refusals by number, and what was taken. 20 and 21 aren't: calls alone don't damage
-/// the log, and a million messages are no small script.
+/// the log, and a million messages are no small script; nor 3 of Login and Answer, which is 12 there.
 #[test]
 fn every_answer_is_there() {
-    let script = serving_script();
+    let (script, from) = whole_script();
     let mut seen: BTreeMap<(&str, &str), usize> = BTreeMap::new();
-    for (line, answer) in script.input.lines().zip(script.output.lines()) {
+    for (line, answer) in &script.calls[..from] {
         let call = line.split(' ').next().unwrap_or("");
-        let end = answer.match_indices(' ').nth(1).map_or(answer.len(), |(at, _)| at);
-        let said = if answer.starts_with("refused") { &answer[..end] } else { answer.split(' ').next().unwrap() };
+        let said = if answer.starts_with("refused") { answer } else { answer.split(' ').next().unwrap() };
         *seen.entry((call, said)).or_default() += 1;
     }
     let rows = |call: &str| -> Vec<u8> {
@@ -37,9 +38,197 @@ fn every_answer_is_there() {
     assert_eq!(rows("publish"), [7, 8, 9, 10, 13, 18]);
     assert_eq!(rows("login"), [1, 2, 4, 5, 6, 7, 8, 9, 10, 12, 13, 15, 16, 18, 19]);
     assert_eq!(rows("send"), [13, 14, 18]);
-    for taken in [("sopen", "opened"), ("publish", "published"), ("login", "login"), ("send", "sent"), ("send", "none")]
-    {
+    assert_eq!(rows("ropen"), [11]);
+    assert_eq!(rows("ask"), [7, 8, 9, 10, 13, 18]);
+    assert_eq!(rows("answer"), [1, 2, 4, 5, 6, 7, 8, 9, 10, 12, 13, 15, 16]);
+    assert_eq!(rows("receive"), [1, 2, 3, 4, 5, 6, 7, 12, 13, 14, 15, 16, 17, 18]);
+    for taken in [
+        ("sopen", "opened"),
+        ("publish", "published"),
+        ("login", "login"),
+        ("send", "sent"),
+        ("send", "none"),
+        ("ropen", "opened"),
+        ("connect", "connected"),
+        ("ask", "asked"),
+        ("answer", "answered"),
+        ("receive", "idle"),
+        ("receive", "again"),
+        ("receive", "held"),
+        ("receive", "message"),
+        ("state", "serving"),
+    ] {
         assert!(seen.contains_key(&taken), "{taken:?}");
     }
-    println!("{} lines, {seen:?}", script.input.lines().count());
+    println!("{} calls, {seen:?}", script.calls.len());
+}
+
+// --- Demand 3 of the faulty line, from its text alone ---
+
+fn bytes(word: &str) -> Vec<u8> {
+    if word == "-" {
+        return vec![];
+    }
+    (0..word.len()).step_by(2).map(|i| u8::from_str_radix(&word[i..i + 2], 16).unwrap()).collect()
+}
+
+fn message(packet: &[u8]) -> MessagePacket<'_> {
+    match read(packet) {
+        Packet::Message(message) => message,
+        other => panic!("{other:?}"),
+    }
+}
+
+/// A series and a day; a message by TID and content.
+type Flow = (u16, u32);
+type Message = (u32, Vec<u8>);
+
+#[derive(Default)]
+struct History {
+    day: u32,
+    published: BTreeMap<Flow, Vec<Message>>,
+    handed_on: BTreeMap<Flow, Vec<Message>>,
+    /// The last report of each series and day; the day of each series' last answer.
+    reports: BTreeMap<Flow, u32>,
+    answered: BTreeMap<u16, u32>,
+    /// What was printed: login packets, answers with their series, messages as packets.
+    logins: BTreeSet<Vec<u8>>,
+    answers: BTreeSet<(u16, Vec<u8>)>,
+    messages: Vec<Vec<Vec<u8>>>,
+    /// The packet received last, if no other call of the receiving end came since: messages and places that it may be of.
+    run: Vec<(usize, usize)>,
+    /// What happened, counted.
+    seen: BTreeMap<String, usize>,
+}
+
+impl History {
+    fn call(&mut self, line: &str, answer: &str) {
+        let words: Vec<&str> = line.split(' ').collect();
+        let said: Vec<&str> = answer.split(' ').collect();
+        let series = || words[1].parse::<u16>().unwrap();
+        match (words[0], said[0]) {
+            ("sopen", "opened") => self.day = words[1].parse().unwrap(),
+            ("publish", "published") => {
+                let flow = self.published.entry((series(), self.day)).or_default();
+                flow.push((u32::from_str_radix(words[2], 16).unwrap(), bytes(words[3])));
+                assert_eq!(said[1].parse::<usize>().unwrap(), flow.len());
+            }
+            ("ask", "asked") => _ = self.logins.insert(bytes(said[2])),
+            ("login", _) => {
+                assert!(self.logins.contains(&bytes(words[3])), "a login packet that was printed");
+                if said[0] == "login" {
+                    self.answers.insert((series(), bytes(said[2])));
+                }
+            }
+            ("send", "sent") => {
+                let (all, mut packets) = (bytes(said[2]), vec![]);
+                let mut rest = &all[..];
+                while let Some(length) = said_length(rest) {
+                    packets.push(rest[..length].to_vec());
+                    rest = &rest[length..];
+                }
+                self.messages.push(packets);
+            }
+            ("answer", _) => {
+                let packet = bytes(words[2]);
+                assert!(self.answers.contains(&(series(), packet.clone())), "an answer that was printed");
+                if said[0] == "answered" {
+                    let day = message(&packet).mark.expect("a tag");
+                    self.answered.insert(series(), day);
+                    self.reports.insert((series(), day), said[1].parse().unwrap());
+                }
+            }
+            ("receive", what) => self.receive(&bytes(words[1]), what, &said),
+            _ => {}
+        }
+        if ["ropen", "connect", "ask", "answer"].contains(&words[0]) {
+            self.run.clear();
+        }
+        *self
+            .seen
+            .entry(format!("{} {}", words[0], if said[0] == "refused" { answer } else { said[0] }))
+            .or_default() += 1;
+        self.agree();
+    }
+
+    fn receive(&mut self, packet: &[u8], what: &str, said: &[&str]) {
+        let is = |m: usize, i: usize| self.messages[m].get(i).is_some_and(|one| one == packet);
+        let next = self.run.iter().filter(|&&(m, i)| is(m, i + 1)).map(|&(m, i)| (m, i + 1));
+        let first = (0..self.messages.len()).filter(|&m| is(m, 0)).map(|m| (m, 0));
+        self.run = next.chain(first).collect();
+        assert!(!self.run.is_empty(), "a packet that was printed, behind those before it");
+        let packet = message(packet);
+        if ["again", "held", "message"].contains(&what) {
+            let day = self.answered[&packet.series];
+            self.reports.insert((packet.series, day), said[1].parse().unwrap());
+        }
+        if what == "message" {
+            let day = packet.mark.expect("a tag");
+            let one = (u32::from_str_radix(said[2], 16).unwrap(), bytes(said[3]));
+            self.handed_on.entry((packet.series, day)).or_default().push(one);
+            if packet.chain == b'L' {
+                let packets = self.run.iter().map(|&(m, _)| self.messages[m].len()).max().unwrap();
+                *self.seen.entry(format!("message of {packets} packets")).or_default() += 1;
+            }
+        }
+    }
+
+    /// What was handed on of each series and day is the first n published, n the last report.
+    fn agree(&self) {
+        for flow in self.handed_on.keys().chain(self.reports.keys()) {
+            let n = self.reports.get(flow).copied().unwrap_or(0) as usize;
+            let handed_on = self.handed_on.get(flow).map_or(&[][..], |all| all);
+            let published = self.published.get(flow).map_or(&[][..], |all| all);
+            assert!(published.get(..n) == Some(handed_on), "{flow:?}: {n} reported, {} handed on", handed_on.len());
+        }
+    }
+}
+
+fn check_line(calls: &[(String, String)]) -> History {
+    let mut history = History::default();
+    for (line, answer) in calls {
+        history.call(line, answer);
+    }
+    for (flow, published) in &history.published {
+        let n = history.reports.get(flow).copied().unwrap_or(0) as usize;
+        assert_eq!(n, published.len(), "{flow:?} has all arrived");
+    }
+    history
+}
+
+/// Two fresh ends, and the same calls behind the worked examples.
+#[test]
+fn over_a_faulty_line() {
+    let mut fresh = Script::new(LOG, CHAIN);
+    faulty_line(&mut fresh, 0);
+    let history = check_line(&fresh.calls[1..]);
+    println!("{} calls\n{:#?}", fresh.calls.len(), history.seen);
+    let flows: Vec<_> = history.published.iter().map(|(flow, all)| (flow, all.len())).collect();
+    println!("{flows:?}");
+    assert_eq!(history.published.len(), 15, "series and days");
+    for what in [
+        "sopen refused 11",
+        "publish refused 10",
+        "login refused 13",
+        "send none",
+        "send refused 14",
+        "send refused 18",
+        "ask refused 18",
+        "answer refused 15",
+        "receive again",
+        "receive held",
+        "receive refused 14",
+        "receive refused 15",
+        "receive refused 16",
+        "message of 2 packets",
+        "message of 3 packets",
+        "message of 17 packets",
+    ] {
+        assert!(history.seen.contains_key(what), "{what}");
+    }
+    let (script, from) = whole_script();
+    let same = script.calls[from..].iter().filter(|(line, _)| line.starts_with("receive")).count();
+    assert_eq!(same, fresh.calls.iter().filter(|(line, _)| line.starts_with("receive")).count());
+    let until = script.calls.iter().position(|(line, _)| line.starts_with("sopen 4294967294 ")).unwrap();
+    check_line(&script.calls[from..until]);
 }

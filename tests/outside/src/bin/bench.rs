@@ -2,6 +2,7 @@
 //! library's: above 1 the library is faster. Each run gives the ratio of the best passes and that of the medians; printed are the
 //! median of the runs and their range. Times are processor time of this thread, so that other work on the machine counts less.
 
+use outside::bench::Bench;
 use reader::cut::{cut, write_message, Header};
 use reader::generate::{capture, content, raw_field, Random};
 use reader::makeup::{self, Direction};
@@ -9,78 +10,6 @@ use reader::packet::{self, Packet};
 use reader::tables::MESSAGES;
 use std::arch::x86_64::{_mm_loadu_si128, _mm_storeu_si128};
 use std::hint::black_box;
-
-#[repr(C)]
-struct Time {
-    seconds: i64,
-    nanoseconds: i64,
-}
-
-extern "C" {
-    fn clock_gettime(clock: i32, time: *mut Time) -> i32;
-}
-
-/// Processor time of this thread, in milliseconds (Linux).
-fn now() -> f64 {
-    const CLOCK_THREAD_CPUTIME_ID: i32 = 3;
-    let mut time = Time { seconds: 0, nanoseconds: 0 };
-    assert_eq!(unsafe { clock_gettime(CLOCK_THREAD_CPUTIME_ID, &mut time) }, 0);
-    time.seconds as f64 * 1e3 + time.nanoseconds as f64 / 1e6
-}
-
-struct Bench {
-    runs: usize,
-    passes: usize,
-    only: Option<String>,
-}
-
-impl Bench {
-    /// Times two sides that answer the same number, so that no work can be left out.
-    fn compare(&self, name: &str, mut library: impl FnMut() -> u64, mut reader: impl FnMut() -> u64) {
-        match self.only.as_deref() {
-            // One pass of one side, for a profile.
-            Some(only) if only == format!("{name}/library") => {
-                black_box(library());
-                return;
-            }
-            Some(only) if only == format!("{name}/reader") => {
-                black_box(reader());
-                return;
-            }
-            Some(_) => return,
-            None => {}
-        }
-        assert_eq!(library(), reader(), "{name}: both sides give the same");
-        let time = |side: &mut dyn FnMut() -> u64| {
-            let start = now();
-            black_box(side());
-            now() - start
-        };
-        let (mut bests, mut medians) = (vec![], vec![]);
-        let (mut library_best, mut reader_best) = (f64::MAX, f64::MAX);
-        for _ in 0..self.runs {
-            let (mut ours, mut theirs) = (vec![], vec![]);
-            for _ in 0..self.passes {
-                ours.push(time(&mut library));
-                theirs.push(time(&mut reader));
-            }
-            ours.sort_by(f64::total_cmp);
-            theirs.sort_by(f64::total_cmp);
-            bests.push(theirs[0] / ours[0]);
-            medians.push(theirs[theirs.len() / 2] / ours[ours.len() / 2]);
-            library_best = library_best.min(ours[0]);
-            reader_best = reader_best.min(theirs[0]);
-        }
-        bests.sort_by(f64::total_cmp);
-        medians.sort_by(f64::total_cmp);
-        let spread = |r: &[f64]| format!("{:.2} ({:.2} to {:.2})", r[r.len() / 2], r[0], r[r.len() - 1]);
-        println!(
-            "{name:<24} library {library_best:8.3} ms, reader {reader_best:8.3} ms; ratio of bests {}, of medians {}",
-            spread(&bests),
-            spread(&medians)
-        );
-    }
-}
 
 /// The reader as a function that isn't inlined and gives the library's struct.
 #[inline(never)]
@@ -100,7 +29,7 @@ fn called_field_at(content: &[u8], at: usize) -> outside::Field {
 
 /// Packets, by one side's function.
 fn answered(packets: &[&[u8]], read: impl Fn(&[u8]) -> outside::Packet) -> u64 {
-    packets.iter().map(|bytes| read(bytes)).map(|p| u64::from(p.tid) + u64::from(p.number) + p.end() as u64).sum()
+    packets.iter().map(|bytes| read(bytes)).map(|p| u64::from(p.tid) + u64::from(p.number) + p.size as u64).sum()
 }
 
 /// Packets with their fields, by one side's functions.
@@ -113,7 +42,7 @@ fn walked(
     for bytes in packets {
         let p = read(bytes);
         if p.answer == outside::MESSAGE {
-            let content = &bytes[p.start..p.start + p.len];
+            let content = p.content.of(bytes);
             let mut at = 0;
             loop {
                 let field = field_at(content, at);
@@ -157,15 +86,13 @@ fn copied(parts: &[&[u8]], out: &mut [u8], copy: impl Fn(&[u8], &mut [u8])) -> u
 }
 
 fn main() {
-    let words: Vec<String> = std::env::args().skip(1).collect();
-    let number = |i: usize, or: usize| words.get(i).map_or(or, |word| word.parse().expect("a number"));
-    let bench = Bench { runs: number(0, 5), passes: number(1, 21), only: words.get(2).cloned() };
+    let bench = Bench::by_arguments();
 
     let bytes = capture(1, 8 << 20);
     let mut packets = vec![];
     let mut at = 0;
     while at < bytes.len() {
-        let end = at + outside::read(&bytes[at..]).end();
+        let end = at + outside::read(&bytes[at..]).size;
         packets.push(&bytes[at..end]);
         at = end;
     }

@@ -61,7 +61,7 @@ impl Run {
         self.count("read", if packet.refusal == 0 { 100 + packet.answer } else { packet.refusal });
         let mut rest = found.and_then(|_| compare::head(&mut self.asked, bytes));
         if rest.is_ok() && packet.answer == MESSAGE {
-            let content = &bytes[packet.start..packet.start + packet.len];
+            let content = packet.content.of(bytes);
             for direction in [Direction::Up, Direction::Down] {
                 rest = rest
                     .and_then(|()| compare::check(&mut self.asked, packet.tid, direction, content, 4080).map(|_| ()));
@@ -174,6 +174,11 @@ impl Run {
             let found = found.and_then(|_| compare::start_written(&mut self.asked, r, series, number));
             self.note(&format!("a start field, {series} {number}"), &content, found);
 
+            let n = if r.once_in(4) { r.within(4060, 4090) } else { r.below(60) };
+            let (fid, value) = (r.number(u32::MAX), r.bytes(n));
+            let found = compare::field_written(&mut self.asked, r, fid, &value);
+            self.note(&format!("a field written, {fid:#06x}"), &value, found);
+
             let tid = r.number(u32::MAX);
             let found = compare::mode(&mut self.asked, tid).map(|_| ());
             self.note("a mode", &[], found);
@@ -232,10 +237,10 @@ impl Run {
                 self.note("a capture", rest, Err(format!("at {at} a packet was expected, not {packet:?}")));
                 return places;
             }
-            let (from, to) = (at, (at + packet.end()).min(bytes.len()));
+            let (from, to) = (at, (at + packet.size).min(bytes.len()));
             self.packet("a packet of a capture", &bytes[from..to]);
             seen.insert(packet.tid);
-            at += packet.end();
+            at += packet.size;
         }
         let missing: Vec<_> = TIDS.iter().filter(|tid| !seen.contains(&tid.number)).map(|tid| tid.name).collect();
         if !missing.is_empty() {
@@ -297,7 +302,7 @@ fn main() {
 
     let rounds = (inputs / 1000) as usize;
     run.part("each row of the table of items", |run| run.rows(&mut Random::new(seed), rounds));
-    run.part("plain packets, start fields and modes", |run| run.others(&mut Random::new(seed), inputs / 10));
+    run.part("plain packets, fields, start fields and modes", |run| run.others(&mut Random::new(seed), inputs / 10));
 
     let start = Instant::now();
     let before = (run.inputs, run.asked.0);

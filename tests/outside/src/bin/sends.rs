@@ -2,26 +2,9 @@
 //! 2,000 content bytes in fields of 50. Beside the proved library stands the same walk and the same writing in safe Rust. Printed
 //! are the best times of the passes, processor time of this thread, for an entry and for a field, and the ratio of both sides.
 
-use outside::{send, Seat};
+use outside::bench::now;
+use outside::ends::{Sender, Served};
 use std::hint::black_box;
-
-#[repr(C)]
-struct Time {
-    seconds: i64,
-    nanoseconds: i64,
-}
-
-extern "C" {
-    fn clock_gettime(clock: i32, time: *mut Time) -> i32;
-}
-
-/// Processor time of this thread, in milliseconds (Linux).
-fn now() -> f64 {
-    const CLOCK_THREAD_CPUTIME_ID: i32 = 3;
-    let mut time = Time { seconds: 0, nanoseconds: 0 };
-    assert_eq!(unsafe { clock_gettime(CLOCK_THREAD_CPUTIME_ID, &mut time) }, 0);
-    time.seconds as f64 * 1e3 + time.nanoseconds as f64 / 1e6
-}
 
 /// Fields of 44 bytes behind FID and length: 50 each.
 fn content(size: usize) -> Vec<u8> {
@@ -143,17 +126,24 @@ fn main() {
         let fields = c.len() / 50;
         for megabytes in [1, 10, 60] {
             let (log, number) = log_of(megabytes * 1_000_000, &c);
-            let seat = Seat { next: number as u64, used: log.len(), date: 7, published: number, series: 1 };
+            let mut end = Sender { used: log.len(), count: 1, date: 7, dated: 1, ..Sender::default() };
+            end.series[0] = Served { next: number.into(), published: number, series: 1, login: 1 };
             let (mut ours, mut theirs) = (vec![0u8; 40_000], vec![0u8; 40_000]);
             let (mut library, mut rust) = (f64::MAX, f64::MAX);
             for _ in 0..passes {
                 let start = now();
-                let sent = black_box(send(seat, &log, &mut ours));
+                let sent = black_box(end.send(1, &log, &mut ours));
                 library = library.min(now() - start);
                 let start = now();
-                let wrote = black_box(find(&[1], &log, 1, number).and_then(|(tid, c)| write(7, 1, number, tid, c, &mut theirs)));
+                let wrote = black_box(
+                    find(&[1], &log, 1, number).and_then(|(tid, c)| write(7, 1, number, tid, c, &mut theirs)),
+                );
                 rust = rust.min(now() - start);
-                assert_eq!((sent.answer, Some(sent.bytes), sent.number), (1, wrote, number), "both sides send the same message");
+                assert_eq!(
+                    (sent.answer, Some(sent.bytes), sent.number),
+                    (1, wrote, number),
+                    "both sides send the same message"
+                );
                 assert_eq!(ours, theirs, "every byte of both outputs");
             }
             let entries = number as f64;

@@ -1,12 +1,12 @@
-//! Writes the worked examples for `ftdplay` into a folder: `stdin`, the script, and `stdout`, what it has to print.
+//! Writes the script for `ftdplay` into a folder: `stdin`, the calls, and `stdout`, what they have to print.
 
-use reader::script::serving_script;
+use reader::script::whole_script;
 use std::fs::write;
 use std::path::PathBuf;
 
 fn main() -> std::io::Result<()> {
     let folder = PathBuf::from(std::env::args().nth(1).expect("a folder"));
-    let script = serving_script();
-    write(folder.join("stdin"), script.input)?;
-    write(folder.join("stdout"), script.output)
+    let (input, output) = whole_script().0.texts();
+    write(folder.join("stdin"), input)?;
+    write(folder.join("stdout"), output)
 }

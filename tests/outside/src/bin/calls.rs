@@ -1,0 +1,43 @@
+//! The differential test of the two ends: `calls [CALLS [SEED]]`. Random lists of calls on both sides, the proved ends and the models;
+//! each difference is printed with the calls before it, and makes the run fail.
+
+use outside::calls::Lists;
+use std::time::Instant;
+
+/// More differences than these aren't printed.
+const MOST: usize = 10;
+
+fn main() {
+    let words: Vec<String> = std::env::args().skip(1).collect();
+    let number = |i: usize, or: u64| words.get(i).map_or(or, |word| word.parse().expect("a number"));
+    let (calls, seed) = (number(0, 1_000_000), number(1, 1));
+    let mut lists = Lists::default();
+    let (mut count, mut differences) = (0, 0);
+    let start = Instant::now();
+    while lists.calls < calls && differences < MOST {
+        count += 1;
+        if let Err(text) = lists.list(seed * 1_000_000_007 + count, 150) {
+            differences += 1;
+            println!("DIFFERENCE in {text}");
+        }
+    }
+    let seconds = start.elapsed().as_secs_f64();
+    println!(
+        "{} calls in {count} lists, {} answers and buffers compared, {} checks of demand 3, {:.1} s, {:.0} calls a second",
+        lists.calls,
+        lists.world.asked.0,
+        lists.demand,
+        seconds,
+        lists.calls as f64 / seconds
+    );
+    for ((call, name, row), n) in &lists.answers {
+        match row {
+            0 => println!("  {call}: {name} {n}"),
+            _ => println!("  {call}: {name} {row} {n}"),
+        }
+    }
+    println!("{differences} differences");
+    if differences > 0 {
+        std::process::exit(1);
+    }
+}

@@ -1,0 +1,712 @@
+//! Random lists of calls on both sides. In an honest list only the line is at fault: packets are copies of what was written, lost,
+//! repeated, late, broken off; demand 3 is checked on it. In a wild one packets are damaged or made up, logs altered, and states
+//! set that no call made.
+
+use crate::ends::HANDED_ON;
+use crate::history::History;
+use crate::world::World;
+use reader::cut::{write_packet, Header};
+use reader::generate::{known_field_bytes, packet_input, raw_field, Random, FORMS};
+use reader::items::known_field;
+use reader::packet::{read, said_length, Packet, FIELD_HEADER};
+use reader::receiving::Chain;
+use reader::serving::LOGIN;
+use reader::start::start_field_bytes;
+use std::collections::BTreeMap;
+use std::rc::Rc;
+
+const REQUEST: u32 = 0x0023;
+const ANSWER: u32 = 0x0027;
+const MATCH: u32 = 0x000A;
+const MATCHES: u32 = 0x2002;
+const STRANGE: u32 = 0x7777;
+const BUFFER: usize = 32_768;
+
+type Bytes = Rc<[u8]>;
+
+/// Contents that the calls take or refuse, made once.
+struct Contents {
+    request: Vec<u8>,
+    answer: Vec<u8>,
+    row: Vec<u8>,
+    /// Wrong ones of a login request, of an answer, of a message: rows 7 to 10; and right ones that just fit, or just don't.
+    requests: Vec<Vec<u8>>,
+    answers: Vec<Vec<u8>>,
+    messages: Vec<(u32, Vec<u8>)>,
+}
+
+fn plain(length: usize) -> Vec<u8> {
+    raw_field(STRANGE, &(0..length).map(|i| (i * 5 + length) as u8).collect::<Vec<_>>())
+}
+
+/// A content that takes so many packets.
+fn long(packets: usize) -> Vec<u8> {
+    (0..packets).flat_map(|i| plain(if i % 2 == 0 { i } else { 4069 })).collect()
+}
+
+impl Contents {
+    fn new() -> Self {
+        let right =
+            |fid: u32| known_field_bytes(&mut Random::new(fid.into()), known_field(fid).expect("a known field"));
+        let narrow = |fid: u32| raw_field(fid, &right(fid)[FIELD_HEADER + 1..]);
+        let wrong = |fid: u32| {
+            let mut field = right(fid);
+            field[FIELD_HEADER] = 0x7F;
+            field
+        };
+        let (request, answer, row) = (right(REQUEST), right(ANSWER), right(MATCH));
+        // Around a login's content `of` with room for `most` bytes.
+        let around = |of: &[u8], fid: u32, most: usize| {
+            let fill = most - of.len() - FIELD_HEADER;
+            vec![
+                vec![],
+                of[..of.len() - 1].to_vec(),
+                narrow(fid),
+                wrong(fid),
+                [of, of].concat(),
+                [of, &start_field_bytes(1, 1)].concat(),
+                [of, &raw_field(4, &[0, 1])].concat(),
+                [of, &wrong(MATCH)].concat(),
+                [wrong(fid), narrow(MATCH)].concat(),
+                [of, &plain(fill)].concat(),
+                [of, &plain(fill + 1)].concat(),
+                [of, &plain(4075)].concat(),
+                [&plain(0), of, &row].concat(),
+            ]
+        };
+        let largest = [vec![plain(4074); 8], vec![plain(122)]].concat().concat();
+        let messages = vec![
+            (STRANGE, vec![0]),
+            (STRANGE, plain(4075)),
+            (STRANGE, [&largest[..], &[0; 6]].concat()),
+            (STRANGE, largest),
+            (MATCHES, vec![]),
+            (MATCHES, narrow(MATCH)),
+            (MATCHES, wrong(MATCH)),
+            (STRANGE, wrong(MATCH)),
+            (MATCHES, [wrong(MATCH), narrow(MATCH)].concat()),
+            (0x2003, [right(1), right(1)].concat()),
+            (LOGIN, answer.clone()),
+        ];
+        let (requests, answers) = (around(&request, REQUEST, 4068), around(&answer, ANSWER, 4080));
+        Contents { request, answer, row, requests, answers, messages }
+    }
+
+    fn request(&self, r: &mut Random) -> &[u8] {
+        if r.once_in(8) {
+            &self.requests[r.below(self.requests.len())]
+        } else {
+            &self.request
+        }
+    }
+
+    fn answer(&self, r: &mut Random) -> &[u8] {
+        if r.once_in(8) {
+            &self.answers[r.below(self.answers.len())]
+        } else {
+            &self.answer
+        }
+    }
+
+    fn message(&self, r: &mut Random) -> (u32, Vec<u8>) {
+        match r.below(24) {
+            0 => self.messages[r.below(self.messages.len())].clone(),
+            1 => (STRANGE, long(r.within(2, 4))),
+            2 if r.once_in(6) => (STRANGE, long(r.within(5, 17))),
+            3..=5 => (MATCHES, self.row.clone()),
+            6..=9 => (0x2004, vec![]),
+            10..=12 => (STRANGE, [plain(r.below(9)), plain(r.below(9))].concat()),
+            _ => (r.pick(&[STRANGE, 0x8000_0001]), plain(r.below(40))),
+        }
+    }
+}
+
+/// How a list is.
+#[derive(Clone, Copy, PartialEq)]
+enum Kind {
+    Honest,
+    /// Packets damaged or made up.
+    Damaged,
+    /// Also logs altered, and states that no call made.
+    Wild,
+}
+
+/// What the line has seen.
+#[derive(Default)]
+struct Line {
+    logins: Vec<(u16, Bytes)>,
+    answers: Vec<(u16, Bytes)>,
+    messages: Vec<(u16, Vec<Bytes>)>,
+}
+
+pub struct Lists {
+    pub world: World,
+    contents: Contents,
+    line: Line,
+    history: History,
+    kind: Kind,
+    /// Series that the list is about.
+    about: Vec<u16>,
+    /// How often each answer was given, by call.
+    pub answers: BTreeMap<(&'static str, &'static str, u8), u64>,
+    pub calls: u64,
+    pub demand: u64,
+    /// The calls of this list, for a difference.
+    trace: Vec<String>,
+    tracing: bool,
+}
+
+/// One of the last few, mostly; else any.
+fn late<T: Clone>(r: &mut Random, all: &[T]) -> Option<T> {
+    let few = all.len().min(3);
+    let i = if few == 0 || r.once_in(6) { r.below(all.len().max(1)) } else { all.len() - 1 - r.below(few) };
+    all.get(i).cloned()
+}
+
+fn cut_apart(mut bytes: &[u8]) -> Vec<Bytes> {
+    let mut packets = vec![];
+    while let Some(length) = said_length(bytes) {
+        packets.push(bytes[..length].into());
+        bytes = &bytes[length..];
+    }
+    packets
+}
+
+/// Room for so many bytes: exactly enough, one byte less, none, more.
+fn room(r: &mut Random, takes: usize) -> usize {
+    match r.below(12) {
+        0 => takes.saturating_sub(1),
+        1 => r.below(takes + 1),
+        2..=4 => takes + r.below(60),
+        _ => takes,
+    }
+}
+
+/// A packet with something changed: a byte of its head, any byte, its length.
+fn damaged(r: &mut Random, packet: &[u8]) -> Vec<u8> {
+    let mut bytes = packet.to_vec();
+    match r.below(8) {
+        0 => bytes.truncate(r.below(bytes.len() + 1)),
+        1 => bytes.push(r.byte()),
+        2 if !r.once_in(4) => bytes.clear(),
+        // An extension of one byte too many, all there.
+        2 if bytes.len() > 4 => {
+            let missing = 128 - usize::from(bytes[1].min(128));
+            bytes[1] = 128;
+            bytes.splice(4..4, vec![0; missing]);
+        }
+        3..=5 if !bytes.is_empty() => {
+            let at = r.below(bytes.len().min(30));
+            bytes[at] =
+                if r.once_in(2) { r.byte() } else { r.pick(&[0, 1, 2, 4, 5, 6, 16, 128, b'S', b'F', b'C', b'L']) };
+        }
+        _ if !bytes.is_empty() => {
+            let at = r.below(bytes.len());
+            bytes[at] ^= 1 << r.below(8);
+        }
+        _ => {}
+    }
+    bytes
+}
+
+impl Default for Lists {
+    fn default() -> Self {
+        Lists {
+            world: World::default(),
+            contents: Contents::new(),
+            line: Line::default(),
+            history: History::default(),
+            kind: Kind::Honest,
+            about: vec![],
+            answers: BTreeMap::new(),
+            calls: 0,
+            demand: 0,
+            trace: vec![],
+            tracing: false,
+        }
+    }
+}
+
+impl Lists {
+    fn note<T>(&mut self, call: &'static str, name: &'static str, answer: &Result<T, u8>) {
+        self.calls += 1;
+        let said = match answer {
+            Ok(_) => (call, name, 0),
+            Err(row) => (call, "refused", *row),
+        };
+        *self.answers.entry(said).or_default() += 1;
+        if self.tracing {
+            self.trace.push(format!("{call}: {} {}", said.1, said.2));
+        }
+    }
+
+    /// A list of about so many calls; the first difference with the calls that led to it.
+    pub fn list(&mut self, seed: u64, calls: usize) -> Result<(), String> {
+        let before = self.calls;
+        match self.try_list(seed, calls) {
+            Ok(()) => Ok(()),
+            Err(text) => {
+                // Once more, for the trace.
+                self.tracing = true;
+                self.trace.clear();
+                _ = self.try_list(seed, calls);
+                let from = self.trace.len().saturating_sub(12);
+                let trace = self.trace[from..].join("\n    ");
+                self.tracing = false;
+                Err(format!("list {seed}, call {}: {text}\n  before it:\n    {trace}", self.calls - before))
+            }
+        }
+    }
+
+    fn try_list(&mut self, seed: u64, calls: usize) -> Result<(), String> {
+        let r = &mut Random::new(seed);
+        self.kind = r.pick(&[Kind::Honest, Kind::Honest, Kind::Damaged, Kind::Wild]);
+        self.line = Line::default();
+        self.history = History::default();
+        let many = if r.once_in(10) { 8 } else { r.within(1, 3) };
+        self.about = (0..many as u16).map(|i| i + 1).collect();
+        if r.once_in(4) {
+            self.about[0] = r.pick(&[65_535, 256, 258]);
+        }
+        let log = match r.below(8) {
+            0 => r.below(200),
+            1 => 40_000,
+            2 => 100_000,
+            _ => r.within(500, 4000),
+        };
+        let spare = r.pick(&[0, 0, 1, 100]);
+        self.world.fresh(log, many * BUFFER + spare)?;
+        self.world.noise = (self.kind == Kind::Wild).then(|| r.clone());
+        let until = self.calls + calls as u64;
+        if !r.once_in(8) {
+            self.open_day(r)?;
+            self.open_end(r)?;
+        }
+        while self.calls < until {
+            self.step(r)?;
+        }
+        if self.kind == Kind::Honest {
+            self.catch_up()?;
+        }
+        Ok(())
+    }
+
+    fn series(&self, r: &mut Random) -> u16 {
+        if r.once_in(20) {
+            r.pick(&[0, 1, 2, 9, 65_535])
+        } else {
+            self.about[r.below(self.about.len())]
+        }
+    }
+
+    fn step(&mut self, r: &mut Random) -> Result<(), String> {
+        match r.below(100) {
+            0 => self.open_day(r),
+            1 => self.open_end(r),
+            2 => self.connect(),
+            3..=22 => self.publish(r),
+            23..=26 => {
+                let series = self.series(r);
+                self.ask(r, series)
+            }
+            27..=33 => self.login(r),
+            34..=40 => self.answer(r),
+            41..=58 => {
+                let series = self.series(r);
+                self.send(r, series)
+            }
+            59..=86 => self.run(r),
+            87..=94 => {
+                let series = self.series(r);
+                self.whole_login(r, series)
+            }
+            _ if self.kind == Kind::Honest => self.run(r),
+            95..=97 => self.made_up_chain(r),
+            _ if self.kind == Kind::Wild => {
+                self.alter(r);
+                Ok(())
+            }
+            _ => self.run(r),
+        }
+    }
+
+    /// A list of series: mostly right ones, in any order.
+    fn some_series(&self, r: &mut Random) -> Vec<u16> {
+        let mut series = self.about.clone();
+        r.shuffle(&mut series);
+        if r.once_in(3) {
+            series.truncate(r.within(1, series.len()));
+        }
+        match r.below(30) {
+            0 => series.clear(),
+            1 => series[0] = 0,
+            2 => series.push(series[0]),
+            3 => series = (1..=r.within(7, 10) as u16).collect(),
+            _ => {}
+        }
+        series
+    }
+
+    fn open_day(&mut self, r: &mut Random) -> Result<(), String> {
+        let mark = match self.world.serving.day {
+            Some(day) => day.mark.wrapping_add(r.pick(&[0, 1, 1, 1, 2, u32::MAX])),
+            None if r.once_in(10) => u32::MAX - 1,
+            None => r.below(3) as u32,
+        };
+        let series = self.some_series(r);
+        let answer = self.world.open_day(mark, &series)?;
+        self.note("Opening, serving", "opened", &answer);
+        if answer.is_ok() {
+            self.history.opened(mark);
+        }
+        Ok(())
+    }
+
+    fn open_end(&mut self, r: &mut Random) -> Result<(), String> {
+        let series = self.some_series(r);
+        let answer = self.world.open_end(&series)?;
+        self.note("Opening, receiving", "opened", &answer);
+        Ok(())
+    }
+
+    fn connect(&mut self) -> Result<(), String> {
+        let answer = self.world.connect()?;
+        self.note("Connect", "connected", &answer);
+        Ok(())
+    }
+
+    /// How much of the log is lent: all of it, or in a wild list less.
+    fn log(&self, r: &mut Random) -> usize {
+        let all = self.world.logs[0].len();
+        let used = self.world.serving.day.map_or(0, |day| day.used).min(all);
+        match r.below(20) {
+            0 if self.kind == Kind::Wild => r.pick(&[used.saturating_sub(1), used, used + (all - used) / 2, 0]),
+            _ => all,
+        }
+    }
+
+    fn publish(&mut self, r: &mut Random) -> Result<(), String> {
+        let series = self.series(r);
+        let (tid, content) = self.contents.message(r);
+        let log = self.log(r);
+        let answer = self.world.publish(series, tid, &content, log)?;
+        self.note("Publish", "published", &answer);
+        if answer.is_ok() && self.kind == Kind::Honest {
+            self.history.published(series, tid, &content);
+        }
+        Ok(())
+    }
+
+    fn ask(&mut self, r: &mut Random, series: u16) -> Result<(), String> {
+        let content = self.contents.request(r);
+        let tag = self.world.receiving.open.iter().any(|one| one.series == series && one.mark.is_some());
+        let room = room(r, 4 + if tag { 6 } else { 0 } + 16 + content.len() + 12);
+        let answer = self.world.ask(series, content, room)?;
+        self.note("Ask", "asked", &answer);
+        if answer.is_ok() {
+            self.line.logins.push((series, self.world.written[..].into()));
+        }
+        Ok(())
+    }
+
+    /// A login packet of the line; otherwise one of any start, or damaged.
+    fn login(&mut self, r: &mut Random) -> Result<(), String> {
+        let (mut series, mut packet) = late(r, &self.line.logins).unwrap_or((1, [].into()));
+        if self.kind == Kind::Honest && packet.is_empty() {
+            return Ok(());
+        }
+        if r.once_in(12) {
+            series = self.series(r);
+        }
+        if self.kind != Kind::Honest {
+            if r.once_in(3) {
+                packet = self.made_up_login(r, series).into();
+            }
+            if r.once_in(4) {
+                packet = damaged(r, &packet).into();
+            }
+        }
+        self.login_with(r, series, &packet)
+    }
+
+    fn login_with(&mut self, r: &mut Random, series: u16, packet: &[u8]) -> Result<(), String> {
+        let content = self.contents.answer(r);
+        let room = room(r, 26 + content.len());
+        let answer = self.world.login(series, packet, content, room)?;
+        self.note("Login", "logged in", &answer);
+        if answer.is_ok() {
+            self.line.answers.push((series, self.world.written[..].into()));
+        }
+        Ok(())
+    }
+
+    /// A login packet with a mark and a start around what the serving end has.
+    fn made_up_login(&self, r: &mut Random, series: u16) -> Vec<u8> {
+        let day = self.world.serving.day;
+        let mark = day.map_or(1, |day| day.mark);
+        let published = day.and_then(|day| day.open.iter().find(|one| one.series == series).map(|one| one.published));
+        let mut content = self.contents.request(r).to_vec();
+        if !r.once_in(4) {
+            let next = u64::from(published.unwrap_or(0)) + r.below(4) as u64;
+            let number = if r.once_in(3) { r.pick(&[0, 1, u32::MAX]) } else { next.saturating_sub(1) as u32 };
+            content.extend(start_field_bytes(if r.once_in(8) { self.series(r) } else { series }, number));
+        }
+        self.packet(r, LOGIN, (0, 0), b'S', [None, Some(mark), Some(mark), Some(mark)], &content)
+    }
+
+    /// A packet of one of these marks, sometimes one more or less. What isn't whole fields is written as none.
+    fn packet(
+        &self,
+        r: &mut Random,
+        tid: u32,
+        (series, number): (u16, u32),
+        chain: u8,
+        marks: [Option<u32>; 4],
+        content: &[u8],
+    ) -> Vec<u8> {
+        let near = |r: &mut Random, mark: u32| mark.wrapping_add(r.pick(&[0, 0, 0, 0, 0, 0, 1, u32::MAX]));
+        let mark = r.pick(&marks).map(|mark| near(r, mark));
+        let whole = reader::makeup::shape_right(content, 4080);
+        let mut out = vec![];
+        write_packet(&mut out, &Header { tid, series, number, mark }, chain, if whole { content } else { &[] });
+        out
+    }
+
+    fn answer(&mut self, r: &mut Random) -> Result<(), String> {
+        let (mut series, mut packet) = late(r, &self.line.answers).unwrap_or((1, [].into()));
+        if self.kind == Kind::Honest && packet.is_empty() {
+            return Ok(());
+        }
+        if self.kind != Kind::Honest {
+            if r.once_in(3) {
+                series = self.series(r);
+                let kept = self.world.receiving.open.iter().find(|one| one.series == series);
+                let mark = kept.and_then(|one| one.mark).unwrap_or(r.below(3) as u32);
+                let content = self.contents.answer(r);
+                packet =
+                    self.packet(r, LOGIN, (0, 0), b'S', [None, Some(mark), Some(mark), Some(mark)], content).into();
+            }
+            if r.once_in(4) {
+                packet = damaged(r, &packet).into();
+            }
+        }
+        self.answer_with(series, &packet)
+    }
+
+    fn answer_with(&mut self, series: u16, packet: &[u8]) -> Result<(), String> {
+        let answer = self.world.answer(series, packet)?;
+        self.note("Answer", "answered", &answer);
+        if let (Ok(last), Kind::Honest) = (answer, self.kind) {
+            let Packet::Message(message) = read(packet) else { return Err("an answer that is no packet".to_string()) };
+            self.demand += 1;
+            self.history.answered(series, message.mark.unwrap_or(0), last)?;
+        }
+        Ok(())
+    }
+
+    fn send(&mut self, r: &mut Random, series: u16) -> Result<(), String> {
+        // How much it takes, to find outputs of exactly as many bytes.
+        let log = self.log(r);
+        let (mut copy, mut out) = (self.world.serving, std::mem::take(&mut self.world.written));
+        let takes = match copy.send(series, &self.world.logs[1][..log], usize::MAX, &mut out) {
+            Ok(Some(_)) => out.len(),
+            _ => r.below(40),
+        };
+        self.world.written = out;
+        let room = room(r, takes);
+        self.send_with(series, log, room).map(|_| ())
+    }
+
+    /// Gives whether a message was sent.
+    fn send_with(&mut self, series: u16, log: usize, room: usize) -> Result<bool, String> {
+        let answer = self.world.send(series, log, room)?;
+        let sent = matches!(answer, Ok(Some(_)));
+        self.note("Send", if sent { "sent" } else { "none" }, &answer);
+        if sent {
+            self.line.messages.push((series, cut_apart(&self.world.written)));
+        }
+        Ok(sent)
+    }
+
+    /// A message's packets, all or the first few. Otherwise any of them, damaged or made up.
+    fn run(&mut self, r: &mut Random) -> Result<(), String> {
+        if self.kind != Kind::Honest && r.once_in(3) {
+            let packet = match r.below(4) {
+                0 => {
+                    let form = r.pick(&FORMS);
+                    packet_input(r, form)
+                }
+                1 => r.pick(&[&[0, 2, 0, 0, 4, 0][..], &[1, 0, 0, 0], &[7, 0, 0, 1, 0], &[0, 2, 0, 0, 4, 1]]).to_vec(),
+                _ => self.made_up_piece(r),
+            };
+            return self.receive(r, &packet);
+        }
+        let Some((_, packets)) = late(r, &self.line.messages) else { return Ok(()) };
+        let count = if r.once_in(5) { r.within(1, packets.len()) } else { packets.len() };
+        for packet in &packets[..count] {
+            if self.kind != Kind::Honest && r.once_in(8) {
+                match r.below(3) {
+                    // Lost, damaged, doubled.
+                    0 => continue,
+                    1 => {
+                        let packet = damaged(r, packet);
+                        self.receive(r, &packet)?;
+                        continue;
+                    }
+                    _ => self.receive(r, packet)?,
+                }
+            }
+            self.receive(r, packet)?;
+        }
+        Ok(())
+    }
+
+    /// A packet around what the receiving end has.
+    fn made_up_piece(&self, r: &mut Random) -> Vec<u8> {
+        let series = self.series(r);
+        let kept = self.world.receiving.open.iter().find(|one| one.series == series).copied().unwrap_or_default();
+        let number = kept.last.wrapping_add(r.pick(&[0, 1, 1, 1, 1, 1, 1, 2, u32::MAX]));
+        let number = if r.once_in(20) { r.pick(&[0, 1, 1_000_000, 1_000_001, u32::MAX]) } else { number };
+        let content = match r.below(10) {
+            0 => plain(4074),
+            1 => vec![],
+            _ => plain(r.below(30)),
+        };
+        let (letter, tid) = (r.pick(b"SFFCCL"), r.pick(&[STRANGE, STRANGE, STRANGE, MATCHES]));
+        let mark = kept.mark;
+        self.packet(r, tid, (series, number), letter, [None, mark, mark, mark], &content)
+    }
+
+    /// A chain up to the most bytes that it may have, and around them.
+    fn made_up_chain(&mut self, r: &mut Random) -> Result<(), String> {
+        if !r.once_in(4) {
+            return Ok(());
+        }
+        let series = self.series(r);
+        let kept = self.world.receiving.open.iter().find(|one| one.series == series).copied().unwrap_or_default();
+        let of = (series, kept.last.wrapping_add(1));
+        for i in 0..8 {
+            let mut packet = vec![];
+            let header = Header { tid: STRANGE, series: of.0, number: of.1, mark: None };
+            write_packet(&mut packet, &header, if i == 0 { b'F' } else { b'C' }, &plain(4074));
+            self.receive(r, &packet)?;
+        }
+        let last = plain(r.pick(&[0, 121, 122, 123, 124, 4074]));
+        let letter = r.pick(b"CL");
+        let packet = self.packet(r, STRANGE, of, letter, [None; 4], &last);
+        self.receive(r, &packet)
+    }
+
+    fn receive(&mut self, r: &mut Random, packet: &[u8]) -> Result<(), String> {
+        let (all, parts) = (self.world.buffers[0].len(), self.world.receiving.open.len() * BUFFER);
+        let buffer = match r.below(24) {
+            0 => parts.saturating_sub(1),
+            1 => r.below(parts + 1),
+            2..=6 => parts,
+            _ => all,
+        };
+        self.receive_with(packet, buffer.min(all))
+    }
+
+    fn receive_with(&mut self, packet: &[u8], buffer: usize) -> Result<(), String> {
+        let answer = self.world.receive(packet, buffer)?;
+        let name = answer.map_or("", |taken| ["idle", "again", "held", "message"][usize::from(taken.answer)]);
+        self.note("Receive", name, &answer);
+        let (Ok(taken), Kind::Honest) = (answer, self.kind) else { return Ok(()) };
+        let Packet::Message(message) = read(packet) else { return Err("a packet sent that is no message".to_string()) };
+        self.demand += 1;
+        if taken.answer == HANDED_ON {
+            let bytes = if taken.origin == crate::ends::IN_PACKET { packet } else { &self.world.buffers[0] };
+            let content = taken.content.of(bytes);
+            self.history.handed_on(message.series, message.mark.unwrap_or(0), taken.tid, content)?;
+        }
+        self.history.reported(message.series, taken.last)
+    }
+
+    /// A login without a fault of the line.
+    fn whole_login(&mut self, r: &mut Random, series: u16) -> Result<(), String> {
+        let before = (self.line.logins.len(), self.line.answers.len());
+        self.ask(r, series)?;
+        if self.line.logins.len() > before.0 {
+            let packet = self.line.logins[before.0].1.clone();
+            self.login_with(r, series, &packet)?;
+        }
+        if self.line.answers.len() > before.1 {
+            let packet = self.line.answers[before.1].1.clone();
+            self.answer_with(series, &packet)?;
+        }
+        Ok(())
+    }
+
+    /// All that is left of the day arrives, with large buffers; then as much is reported as was published.
+    fn catch_up(&mut self) -> Result<(), String> {
+        let (log, all) = (self.world.logs[0].len(), self.world.buffers[0].len());
+        if all < self.world.receiving.open.len() * BUFFER {
+            return Ok(());
+        }
+        self.connect()?;
+        for one in self.world.serving.day.map_or(vec![], |day| day.open.to_vec()) {
+            let series = one.series;
+            if !self.world.receiving.open.iter().any(|kept| kept.series == series) {
+                continue;
+            }
+            let answer = self.world.ask(series, &self.contents.request, 5000)?;
+            self.note("Ask", "asked", &answer);
+            let packet = self.world.written.clone();
+            let answer = self.world.login(series, &packet, &self.contents.answer, 5000)?;
+            self.note("Login", "logged in", &answer);
+            let packet = self.world.written.clone();
+            self.answer_with(series, &packet)?;
+            while self.send_with(series, log, 33_210)? {
+                let (_, packets) = self.line.messages.pop().expect("the message just sent");
+                for packet in packets {
+                    self.receive_with(&packet, all)?;
+                }
+            }
+            self.demand += 1;
+            self.history.caught_up(series)?;
+        }
+        Ok(())
+    }
+
+    /// The log altered, or a state set that no call made.
+    fn alter(&mut self, r: &mut Random) {
+        let used = self.world.serving.day.map_or(0, |day| day.used).min(self.world.logs[0].len());
+        if used > 0 && !r.once_in(3) {
+            let at = if r.once_in(2) { r.below(used) } else { r.below(used.min(40)) };
+            let byte = self.world.logs[0][at] ^ (1 << r.below(8));
+            for log in &mut self.world.logs {
+                log[at] = byte;
+            }
+            return;
+        }
+        if let Some(day) = &mut self.world.serving.day {
+            let place = r.below(day.open.len());
+            let one = &mut day.open[place];
+            match r.below(6) {
+                0 => one.published = r.pick(&[999_998, 999_999, 1_000_000, 1_000_001, u32::MAX, 0]),
+                1 => one.next = Some(r.pick(&[0, 1, 2, 999_999, 1_000_000, u64::from(u32::MAX), 1 << 32, u64::MAX])),
+                2 => one.next = None,
+                3 => day.used = r.pick(&[0, 1, 15, 16, used, used + 1, usize::MAX]),
+                4 => day.mark = r.pick(&[0, 1, u32::MAX]),
+                _ => {}
+            }
+        }
+        if !self.world.receiving.open.is_empty() {
+            let place = r.below(self.world.receiving.open.len());
+            let one = &mut self.world.receiving.open[place];
+            match r.below(6) {
+                0 => one.last = r.pick(&[999_998, 999_999, 1_000_000, 1_000_001, u32::MAX - 1, u32::MAX]),
+                1 => one.mark = r.pick(&[None, Some(0), Some(u32::MAX)]),
+                2 => one.logged_in = r.once_in(2),
+                3 => {
+                    let held = r.pick(&[0, 6, 32_640, 32_767, 32_768, 32_769, usize::MAX - 5, usize::MAX]);
+                    one.chain = Some(Chain { tid: STRANGE, held });
+                }
+                4 => one.last = r.below(4) as u32,
+                _ => {}
+            }
+        }
+        self.world.level();
+    }
+}
