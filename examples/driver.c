@@ -78,14 +78,20 @@ static int read_bytes(struct line *line, uint8_t *bytes, size_t count) {
     return 1;
 }
 
-/* Reads one packet: its first four bytes, then as many as they say. Gives its length; 0: the line is broken. */
+/* Reads one packet: always as many bytes as are certainly missing, so its first four and then the rest, and never a byte
+ * of the next one. Gives its length; 0: the line is broken. What isn't a packet at all is left to the call that gets it:
+ * it refuses it. */
 static size_t read_packet(struct line *line, uint8_t packet[MOST_PACKET]) {
-    size_t size;
+    size_t size = 0;
+    struct ftd_packet read = ftd_read(packet, size);
 
-    if (!read_bytes(line, packet, 4))
-        return 0;
-    size = ftd_said_length(packet, 4);
-    return read_bytes(line, packet + 4, size - 4) ? size : 0;
+    while (read.answer == FTD_SHORT) {
+        if (!read_bytes(line, packet + size, read.missing))
+            return 0;
+        size += read.missing;
+        read = ftd_read(packet, size);
+    }
+    return size;
 }
 
 /* Writes so many bytes; 0: the line is broken. */

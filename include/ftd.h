@@ -120,7 +120,7 @@ struct ftd_written {
 
 /* What some bytes are. */
 enum ftd_answer {
-    FTD_SHORT = 0,   /* the front of a packet: bytes are missing */
+    FTD_SHORT = 0,   /* the front of a packet: bytes are missing, see missing */
     FTD_LINK = 1,    /* a link packet: type 0 or 1 with no body, as a heartbeat */
     FTD_SKIPPED = 2, /* a packet of type 2 or higher, or of type 0 with a body: to be passed over */
     FTD_MESSAGE = 3, /* a message packet: type 1 with a body */
@@ -130,6 +130,7 @@ enum ftd_answer {
 /* A packet that was read; places count from its first byte. The words in front say which answers have the member. */
 struct ftd_packet {
     size_t size;               /* link, skipped, message: bytes of the whole packet; the next one starts behind them */
+    size_t missing;            /* short: how many bytes are certainly missing, 1 to 65662; the packet has them all */
     struct ftd_span extension; /* link, skipped, message: its extension */
     struct ftd_span content;   /* message: its content; skipped: its body */
     uint32_t tid;              /* message: TID */
@@ -342,12 +343,16 @@ extern "C" {
 
 /* Reads the packet at the front of the bytes. Bytes behind it aren't looked at, so a run of packets is read by going on
  * by `size`. In a message packet the content is checked to be whole data fields (7), items aren't looked at.
- * Refusals: 1, 3, 2, 4, 5, 6, 7. */
+ * Refusals: 1, 3, 2, 4, 5, 6, 7.
+ *
+ * FTD_SHORT says how many bytes are certainly missing: up to the fourth byte, and with the four up to the packet's end. With
+ * fewer more it is short again; so many more never reach into the next packet, and with the four there they are enough. So
+ * a driver that begins with no bytes and always reads `missing` more needs two reads a packet, 4 bytes and then the rest
+ * (one where the four are the packet, or are refused), and never holds a byte of the next packet. */
 struct ftd_packet ftd_read(const uint8_t *bytes, size_t count);
 
 /* How many bytes the packet at the front of the bytes takes in all, as its first four say: 4 to 65794; 0 where count is
- * below 4. So a packet is read from a line in two steps: 4 bytes, then ftd_said_length(bytes, 4) - 4 more, if any.
- * Nothing else is looked at. */
+ * below 4. Nothing else is looked at. */
 size_t ftd_said_length(const uint8_t *bytes, size_t count);
 
 /* Of the bytes of a packet's extension: the first trade date (tag 5), where it has four bytes; and 1 where there is the

@@ -27,7 +27,7 @@ static const uint8_t skipped[7] = {7, 1, 0, 2, 9, 8, 8};
 static void sizes(void) {
     EXPECT(sizeof(struct ftd_span) == 16);
     EXPECT(sizeof(struct ftd_written) == 16);
-    EXPECT(sizeof(struct ftd_packet) == 64);
+    EXPECT(sizeof(struct ftd_packet) == 72);
     EXPECT(sizeof(struct ftd_date) == 8);
     EXPECT(sizeof(struct ftd_message) == 16);
     EXPECT(sizeof(struct ftd_size) == 24);
@@ -64,6 +64,8 @@ static void packets_read(void) {
     EXPECT(other.answer == FTD_SKIPPED && other.kind == 7 && other.size == 7 && other.content.start == 5 &&
            other.content.len == 2);
     EXPECT(ftd_read(dated, 33).answer == FTD_SHORT && ftd_read(dated, 33).size == 0);
+    EXPECT(p.missing == 0 && ftd_read(dated, 33).missing == 1 && ftd_read(dated, 4).missing == 30 &&
+           ftd_read(dated, 1).missing == 3 && ftd_read(dated, 0).missing == 4);
     EXPECT(ftd_said_length(dated, 4) == 34 && ftd_said_length(dated, 3) == 0);
     EXPECT(date.dated == 1 && date.date == 9 && ftd_trade_date(heart + 4, 2).dated == 0);
     EXPECT(ftd_keep_alive(heart + 4, 2) == 1 && ftd_keep_alive(dated + 4, 6) == 0);

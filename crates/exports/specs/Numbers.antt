@@ -80,12 +80,13 @@ paired f [] m = []
 paired f (x ∷ l) [] = []
 paired f (x ∷ l) (y ∷ m) = f x y ∷ paired f l m
 
--- ─── A packet: 0 short, 1 link, 2 skipped, 3 message, 4 refused; what an answer does not have is 0 ───
+-- ─── A packet: 0 short and how many bytes are missing, 1 link, 2 skipped, 3 message, 4 refused; the rest is 0 ───
 
-unfoldable pub plainNumbers : ℕ → ℕ → FtdPacket
-plainNumbers answer refusal =
+unfoldable pub plainNumbers : ℕ → ℕ → ℕ → FtdPacket
+plainNumbers answer missing refusal =
     record {
       size = 0;
+      missing = missing;
       extension = noSpan;
       content = noSpan;
       tid = 0;
@@ -104,6 +105,7 @@ unfoldable pub linkNumbers : ℕ → ℕ → Span → TradeDate → FtdPacket
 linkNumbers n kind e d =
     record {
       size = n;
+      missing = 0;
       extension = spanNumbers e;
       content = noSpan;
       tid = 0;
@@ -123,6 +125,7 @@ unfoldable pub skippedNumbers : ℕ → ℕ → Span → Span → FtdPacket
 skippedNumbers n kind e body =
     record {
       size = n;
+      missing = 0;
       extension = spanNumbers e;
       content = spanNumbers body;
       tid = 0;
@@ -141,6 +144,7 @@ unfoldable pub messageNumbers : ℕ → Header → Span → Span → TradeDate �
 messageNumbers n h e content d =
     record {
       size = n;
+      missing = 0;
       extension = spanNumbers e;
       content = spanNumbers content;
       tid = h .tid;
@@ -157,11 +161,11 @@ messageNumbers n h e content d =
 
 -- A link, skipped or message packet of n bytes.
 abbrev pub packetNumbers : ℕ → Packet → TradeDate → FtdPacket
-packetNumbers n Short d = plainNumbers 0 0
+packetNumbers n (Short k) d = plainNumbers 0 k 0
 packetNumbers n (Link kind e) d = linkNumbers n kind e d
 packetNumbers n (Skipped kind e body) d = skippedNumbers n kind e body
 packetNumbers n (Message h e content) d = messageNumbers n h e content d
-packetNumbers n (Refused r) d = plainNumbers 4 (numberOf r)
+packetNumbers n (Refused r) d = plainNumbers 4 0 (numberOf r)
 
 -- A packet with the trade date that it bears.
 abbrev pub datedNumbers : ℕ → Dated → FtdPacket

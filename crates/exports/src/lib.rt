@@ -57,6 +57,7 @@ pub struct FtdSpan {
 #[repr(C)]
 pub struct FtdPacket {
     pub size: usize,
+    pub missing: usize,
     pub extension: FtdSpan,
     pub content: FtdSpan,
     pub tid: u32,
@@ -116,12 +117,13 @@ pub(crate) fn span(s: Span) -> FtdSpan
     }
 }
 
-// An answer with no packet: short, or refused.
-fn plain(answer: u8, refusal: u8) -> FtdPacket
-    ensures { λ r. ⌜ r ≡ plainNumbers answer refusal ⌝ }
+// An answer with no packet: short and how many bytes are missing, or refused.
+fn plain(answer: u8, missing: usize, refusal: u8) -> FtdPacket
+    ensures { λ r. ⌜ r ≡ plainNumbers answer missing refusal ⌝ }
 {
     FtdPacket {
         size: 0,
+        missing: missing,
         extension: FtdSpan { start: 0, len: 0 },
         content: FtdSpan { start: 0, len: 0 },
         tid: 0,
@@ -143,6 +145,7 @@ fn link(n: usize, kind: u8, e: Span, d: TradeDate) -> FtdPacket
 {
     FtdPacket {
         size: n,
+        missing: 0,
         extension: span(e),
         content: FtdSpan { start: 0, len: 0 },
         tid: 0,
@@ -164,6 +167,7 @@ fn skipped(n: usize, kind: u8, e: Span, body: Span) -> FtdPacket
 {
     FtdPacket {
         size: n,
+        missing: 0,
         extension: span(e),
         content: span(body),
         tid: 0,
@@ -186,6 +190,7 @@ fn message(n: usize, h: Header, e: Span, content: Span, d: TradeDate) -> FtdPack
     let c = h.chain;
     FtdPacket {
         size: n,
+        missing: 0,
         extension: span(e),
         content: span(content),
         tid: h.tid,
@@ -206,7 +211,7 @@ fn numbers(n: usize, found: Packet, d: TradeDate) -> FtdPacket
     ensures { λ r. ⌜ r ≡ packetNumbers n found d ⌝ }
 {
     match found {
-        Packet::Short => plain(0, 0),
+        Packet::Short(missing) => plain(0, missing, 0),
         Packet::Link { kind, extension } => link(n, kind, extension, d),
         Packet::Skipped {
             kind,
@@ -218,7 +223,7 @@ fn numbers(n: usize, found: Packet, d: TradeDate) -> FtdPacket
             extension,
             content,
         } => message(n, header, extension, content, d),
-        Packet::Refused(r) => plain(4, number(r)),
+        Packet::Refused(r) => plain(4, 0, number(r)),
     }
 }
 

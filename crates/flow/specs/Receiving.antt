@@ -122,7 +122,7 @@ confirmWith e s h date content =
 
 -- What the reader refuses of the packet: 1, 2 and 4 to 7; its other answers are 12 before.
 abbrev pub confirmRead : Receiver → ℕ → List ℕ → TradeDate → Packet → Left Receiver Confirmed
-confirmRead e s p date Short = left e (NotIn NotOnePacket)
+confirmRead e s p date (Short n) = left e (NotIn NotOnePacket)
 confirmRead e s p date (Link kind extension) = left e (NotIn NotOnePacket)
 confirmRead e s p date (Skipped kind extension body) = left e (NotIn NotOnePacket)
 confirmRead e s p date (Message h extension c) = confirmWith e s h date (part p (c .start) (c .len))
@@ -200,7 +200,7 @@ receiveWith e h date at content buffer =
 
 -- What the reader makes of the packet: refusals 1 to 7; link and skipped packets are idle; short is 12 before.
 abbrev pub receiveRead : Receiver → List ℕ → List ℕ → TradeDate → Packet → Wrote Receiver Received
-receiveRead e p buffer date Short = wrote e (NotTaken NotOnePacket) buffer
+receiveRead e p buffer date (Short n) = wrote e (NotTaken NotOnePacket) buffer
 receiveRead e p buffer date (Link kind extension) = wrote e Idle buffer
 receiveRead e p buffer date (Skipped kind extension body) = wrote e Idle buffer
 receiveRead e p buffer date (Message h extension c) = receiveWith e h date c (part p (c .start) (c .len)) buffer

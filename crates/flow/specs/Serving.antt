@@ -156,7 +156,7 @@ loginWith e s h date asked content out =
 
 -- What the reader refuses of the packet: 1, 2 and 4 to 7; its other answers are 12 before.
 abbrev pub loginRead : Sender → ℕ → List ℕ → List ℕ → List ℕ → TradeDate → Packet → Wrote Sender LoggedIn
-loginRead e s p content out date Short = wrote e (NotIn NotOnePacket) out
+loginRead e s p content out date (Short n) = wrote e (NotIn NotOnePacket) out
 loginRead e s p content out date (Link kind extension) = wrote e (NotIn NotOnePacket) out
 loginRead e s p content out date (Skipped kind extension body) = wrote e (NotIn NotOnePacket) out
 loginRead e s p content out date (Message h extension c) = loginWith e s h date (part p (c .start) (c .len)) content out

@@ -225,7 +225,7 @@ afterConfirm v s p r =
 
 -- The series in the header of a packet.
 abbrev pub seriesIn : Packet → ℕ
-seriesIn Short = 0
+seriesIn (Short n) = 0
 seriesIn (Link kind extension) = 0
 seriesIn (Skipped kind extension body) = 0
 seriesIn (Accepted h extension content) = h .series

@@ -372,7 +372,7 @@ impl Receiver {
                 end: self,
                 answer: Received::Refused(r),
             },
-            Packet::Short => ReceiveStep {
+            Packet::Short(_) => ReceiveStep {
                 end: self,
                 answer: Received::Refused(Refusal::NotOnePacket),
             },

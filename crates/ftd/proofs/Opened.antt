@@ -4,7 +4,7 @@ use Rattle.ftd.specs.Runs.{front, runOf}
 use Rattle.ftd.specs.Tags.{tag, lengthRight, knownTags, countDate, goodTags, tagPlace, tradeDateOf}
 use Rattle.ftd.specs.Fields.{field, exactRun, shaped, oneIf, countOf, firstOf}
 use Rattle.ftd.specs.Packet.{saidLength, extensionOf, versionOf, tidOf, letterOf, seriesOf, messageNumberOf}
-use Rattle.ftd.specs.Packet.{fieldCountOf, contentLengthOf, contentOf, restMissing, wrongBody, isSkipped}
+use Rattle.ftd.specs.Packet.{fieldCountOf, contentLengthOf, contentOf, restMissing, missingOf, wrongBody, isSkipped}
 use Rattle.ftd.specs.Packet.{isLetter, chainOf, headerOf, acceptedOf, messageOf, wholeOf, readOf, withDate}
 use Rattle.ftd.specs.Packet.{datedOf, notOnePacket, noMessagePacket}
 use Rattle.ftd.specs.Write.{packetBytes, headerBytes, messageBytes}
@@ -18,14 +18,14 @@ use Rattle.ftd.specs.Signed.{signedOf, floatValue}
 use Rattle.ftd.specs.Composition.{appendixE, inRange, composed}
 use Rattle.ftd.specs.Resume.{resumeOf}
 use Rattle.ftd.specs.Login.{loginHeader, loginBytes}
-use Rattle.ftd.specs.Bench.{upToNine, twelfth, bench}
+use Rattle.ftd.specs.Bench.{upToNine, twelfth, missingRows, bench}
 
 unfoldable pub opened : Unit {0}
 unfolding be16Of be32Of put front runOf tag lengthRight knownTags countDate goodTags tagPlace tradeDateOf field exactRun
     saidLength extensionOf versionOf tidOf letterOf seriesOf messageNumberOf fieldCountOf contentLengthOf contentOf
-    restMissing wrongBody isSkipped isLetter chainOf headerOf acceptedOf messageOf wholeOf readOf withDate datedOf
+    restMissing missingOf wrongBody isSkipped isLetter chainOf headerOf acceptedOf messageOf wholeOf readOf withDate datedOf
     notOnePacket noMessagePacket packetBytes headerBytes messageBytes shaped piecesOf headerFor packetFor packetsOf
     packetForm enumerations table rowsOf isListed isNumber withoutPoint isFloat isDate isValue wrongWidth walkOf
     wrongItem checkOf itemOf itemBytes signedOf floatValue appendixE oneIf countOf inRange composed firstOf resumeOf
-    loginHeader loginBytes upToNine twelfth bench
+    loginHeader loginBytes upToNine twelfth missingRows bench
 opened = tt

@@ -25,7 +25,7 @@ use Rattle.ftd.specs.declared.packet.Packet.the-variants.{Refused as Ref
 
 -- Each answer of the reader: which one it is (0 short, 1 link, 2 skipped, 3 message, 4 refused), and its values.
 abbrev pub packetAnswer : Packet → List ℕ
-packetAnswer Short = 0 ∷ []
+packetAnswer (Short n) = 0 ∷ n ∷ []
 packetAnswer (Link kind extension) = 1 ∷ kind ∷ extension .start ∷ extension .len ∷ []
 packetAnswer (Skipped kind extension body) = 2 ∷ kind ∷ extension .start ∷ extension .len ∷ body .start ∷ body .len ∷ []
 packetAnswer (Message h extension content) =
@@ -33,8 +33,8 @@ packetAnswer (Message h extension content) =
     ∷ content .start ∷ content .len ∷ []
 packetAnswer (RefusedPacket r) = 4 ∷ numberOf r ∷ []
 
-abbrev pub shortAnswer : List ℕ
-shortAnswer = 0 ∷ []
+abbrev pub shortAnswer : ℕ → List ℕ
+shortAnswer n = 0 ∷ n ∷ []
 
 abbrev pub refusedAnswer : ℕ → List ℕ
 refusedAnswer n = 4 ∷ n ∷ []
@@ -51,7 +51,7 @@ checkAnswer (Refused r) value = refusedAnswer (numberOf r)
 
 -- ─── The table ───
 
--- An example's number in the paper, what the definitions answer, and what the paper says.
+-- An example's number in the paper (0: not numbered there), what the definitions answer, and what the paper says.
 pub record BenchRow : Type 0 where
   pub example : ℕ
   pub answer : List ℕ
@@ -88,21 +88,21 @@ prices n price b =
 -- In two lists, as the paper's order has P10 and P11, of the ends, between them.
 unfoldable pub upToNine : List BenchRow
 upToNine =
-    -- P1 no bytes
-    reads 1 [] shortAnswer
+    -- P1 no bytes: short, 4 missing (the numbers of short: 02, No. 1)
+    reads 1 [] (shortAnswer 4)
     -- P2 00 02 00 00 04 00: link
     ∷ reads 2 (0 ∷ 2 ∷ 0 ∷ 0 ∷ 4 ∷ 0 ∷ []) (1 ∷ 0 ∷ 4 ∷ 2 ∷ [])
-    -- P3 its first five
-    ∷ reads 3 (0 ∷ 2 ∷ 0 ∷ 0 ∷ 4 ∷ []) shortAnswer
-    -- P4 01 80 00 00: 1; 01 7F 00 00: short
+    -- P3 its first five: short, 1 missing
+    ∷ reads 3 (0 ∷ 2 ∷ 0 ∷ 0 ∷ 4 ∷ []) (shortAnswer 1)
+    -- P4 01 80 00 00: 1; 01 7F 00 00: short, 127 missing
     ∷ reads 4 (1 ∷ 128 ∷ 0 ∷ 0 ∷ []) (refusedAnswer 1)
-    ∷ reads 4 (1 ∷ 127 ∷ 0 ∷ 0 ∷ []) shortAnswer
+    ∷ reads 4 (1 ∷ 127 ∷ 0 ∷ 0 ∷ []) (shortAnswer 127)
     -- P5 00 02 00 00 04 01: 2
     ∷ reads 5 (0 ∷ 2 ∷ 0 ∷ 0 ∷ 4 ∷ 1 ∷ []) (refusedAnswer 2)
-    -- P6 body length 15: 3; 16: short; 4,096: short; 4,097: 3
+    -- P6 body length 15: 3; 16: short, 16 missing; 4,096: short, 4,096 missing; 4,097: 3
     ∷ reads 6 (1 ∷ 0 ∷ 0 ∷ 15 ∷ []) (refusedAnswer 3)
-    ∷ reads 6 (1 ∷ 0 ∷ 0 ∷ 16 ∷ []) shortAnswer
-    ∷ reads 6 (1 ∷ 0 ∷ 16 ∷ 0 ∷ []) shortAnswer
+    ∷ reads 6 (1 ∷ 0 ∷ 0 ∷ 16 ∷ []) (shortAnswer 16)
+    ∷ reads 6 (1 ∷ 0 ∷ 16 ∷ 0 ∷ []) (shortAnswer 4096)
     ∷ reads 6 (1 ∷ 0 ∷ 16 ∷ 1 ∷ []) (refusedAnswer 3)
     -- P7 the 20-byte packet: TID 0x2004, S, series 1, number 1, no field, no content
     ∷ reads 7 (samplePacket 1 83 0 0) (3 ∷ 4 ∷ 0 ∷ 8196 ∷ 83 ∷ 1 ∷ 1 ∷ 0 ∷ 20 ∷ 0 ∷ [])
@@ -124,8 +124,16 @@ twelfth =
     ∷ benchRow 12 (lettersOf (dataField 2034 ++ dataField 2035)) (70 ∷ 76 ∷ [])
     ∷ []
 
+-- Two more of short (02, No. 1).
+unfoldable pub missingRows : List BenchRow
+missingRows =
+    -- 01 80: short, 2 missing, though 1 will come; 02 7F FF FF: short, 65,662 missing
+    reads 0 (1 ∷ 128 ∷ []) (shortAnswer 2)
+    ∷ reads 0 (2 ∷ 127 ∷ 255 ∷ 255 ∷ []) (shortAnswer 65662)
+    ∷ []
+
 unfoldable pub bench : List BenchRow
-bench = upToNine ++ twelfth
+bench = upToNine ++ twelfth ++ missingRows
 
 -- ─── The test ───
 

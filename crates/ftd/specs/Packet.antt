@@ -101,6 +101,11 @@ headMissing p = ltb (length p) 4
 unfoldable pub restMissing : List ℕ → Bool
 restMissing p = ltb (length p) (saidLength p)
 
+-- How many bytes are certainly missing (02, No. 1): four less those there while the first four are not all there, then
+-- the rest of the packet.
+unfoldable pub missingOf : List ℕ → ℕ
+missingOf p = cond (headMissing p) (4 - length p) (saidLength p - length p)
+
 -- 12: fewer than four bytes, or not as many as the first four say. (Said of no bytes are 0, yet no bytes are not one
 -- packet.)
 unfoldable pub notOnePacket : List ℕ → Bool
@@ -207,15 +212,15 @@ wholeOf p =
 
 unfoldable pub readOf : List ℕ → Packet
 readOf p =
-    cond (headMissing p) Short
+    cond (headMissing p) (Short (missingOf p))
     (cond (longExtension p) (Refused LongExtension)
     (cond (wrongBody (kindOf p) (bodyLength p)) (Refused BodyLength)
-    (cond (restMissing p) Short
+    (cond (restMissing p) (Short (missingOf p))
     (wholeOf p))))
 
 -- A link packet and a message packet bear the trade date of their extension; nothing else bears one.
 abbrev pub bearsDate : Packet → Bool
-bearsDate Short = false
+bearsDate (Short n) = false
 bearsDate (Link kind extension) = true
 bearsDate (Skipped kind extension body) = false
 bearsDate (Message h extension content) = true
@@ -229,7 +234,7 @@ datedOf p = withDate (readOf p) (tradeDateOf (extensionOf p))
 
 -- Bytes are missing.
 abbrev pub isShort : Packet → Bool
-isShort Short = true
+isShort (Short n) = true
 isShort (Link kind extension) = false
 isShort (Skipped kind extension body) = false
 isShort (Message h extension content) = false
@@ -239,7 +244,7 @@ isShort (Refused r) = false
 
 -- The fields of a message packet, each with FID and length; bytes that are no message packet have none.
 abbrev pub fieldsWithin : List ℕ → Packet → List (List ℕ)
-fieldsWithin p Short = []
+fieldsWithin p (Short n) = []
 fieldsWithin p (Link kind extension) = []
 fieldsWithin p (Skipped kind extension body) = []
 fieldsWithin p (Message h extension content) = fieldsOf (part p (content .start) (content .len))
@@ -255,7 +260,7 @@ movedBy base (Field fid start len) = Field fid (base + start) len
 
 -- Field i, counted from 0: FID, place in the packet and length of its bytes without FID and length; else no field.
 abbrev pub fieldWithin : List ℕ → Packet → ℕ → FieldPlace
-fieldWithin p Short i = NoField
+fieldWithin p (Short n) i = NoField
 fieldWithin p (Link kind extension) i = NoField
 fieldWithin p (Skipped kind extension body) i = NoField
 fieldWithin p (Message h extension content) i =

@@ -10,8 +10,10 @@ ghost use Rattle.ftd.specs.Tags.{tradeDateOf};
 ghost use Rattle.ftd.specs.Packet.{saidIn, kindOf, extensionLength, bodyLength, notOnePacket, noMessagePacket};
 ghost use Rattle.ftd.specs.Packet.{wrongBody, isSkipped, isLetter, chainOf, chainLetter, headerOf, acceptedOf};
 ghost use Rattle.ftd.specs.Packet.{messageOf, wholeOf, readOf, extensionOf, bearsDate, withDate, datedOf};
-ghost use Rattle.ftd.specs.Packet.{movedBy, fieldOf, fieldBytes};
+ghost use Rattle.ftd.specs.Packet.{missingOf, movedBy, fieldOf, fieldBytes};
 ghost use Rattle.ftd.specs.Packet.Helpers.{SaysLengths, FitsIn};
+ghost use Rattle.ftd.specs.declared.tags.TradeDate.the-variants.{None};
+ghost use Rattle.ftd.specs.declared.packet.Packet.the-variants.{Short};
 use crate::bytes::be16;
 use crate::bytes::be32;
 use crate::bytes::size8;
@@ -56,8 +58,8 @@ pub struct Header {
 
 // What the bytes from the front of a slice are.
 pub enum Packet {
-    // Bytes are missing.
-    Short,
+    // Bytes are missing: so many for certain.
+    Short(usize),
     Link {
         kind: u8,
         extension: Span,
@@ -89,6 +91,20 @@ pub fn said_length(p: &[u8]) -> usize
         return 4 + size8(p[1]) + size16(be16(p, 2));
     }
     0
+}
+
+// How many bytes are certainly missing: up to the fourth, and with the four up to the packet's end; 0 where none is.
+pub fn missing(p: &[u8]) -> usize
+    ensures { λ r. ⌜ r ≡ missingOf (now (p .entry)) ⌝ }
+{
+    if 4 <= p.len() {
+        let said = said_length(p);
+        if p.len() < said {
+            return said - p.len();
+        }
+        return 0;
+    }
+    4 - p.len()
 }
 
 // A byte at a place; 0 where it is not there.
@@ -262,7 +278,7 @@ fn bears_date(packet: Packet) -> bool
     ensures { λ r. ⌜ r ≡ bearsDate packet ⌝ }
 {
     match packet {
-        Packet::Short => false,
+        Packet::Short(_) => false,
         Packet::Link {
             kind: _,
             extension: _,
@@ -337,16 +353,23 @@ fn read_whole(p: &[u8], kind: u8, ext: usize, body: usize) -> Dated
     }
 }
 
+// Bytes are missing: here alone short is made, with its number.
+fn short(p: &[u8]) -> Dated
+    ensures { λ r. ⌜ r ≡ withDate (Short (missingOf (now (p .entry)))) None ⌝ }
+{
+    Dated {
+        packet: Packet::Short(missing(p)),
+        date: TradeDate::None,
+    }
+}
+
 // What the bytes from the front on are, with the trade date of a link packet or a message packet: the tags are walked
 // once.
 pub fn read_dated(p: &[u8]) -> Dated
     ensures { λ r. ⌜ r ≡ datedOf (now (p .entry)) ⌝ }
 {
     if p.len() < 4 {
-        return Dated {
-            packet: Packet::Short,
-            date: TradeDate::None,
-        };
+        return short(p);
     }
     let kind = p[0];
     let ext = size8(p[1]);
@@ -364,10 +387,7 @@ pub fn read_dated(p: &[u8]) -> Dated
         };
     }
     if p.len() < 4 + ext + body {
-        return Dated {
-            packet: Packet::Short,
-            date: TradeDate::None,
-        };
+        return short(p);
     }
     read_whole(p, kind, ext, body)
 }
@@ -410,7 +430,7 @@ pub fn find_field(p: &[u8], i: usize) -> FieldPlace
             let n = content.len;
             moved(at, field_place(&p[at..at + n], i), n)
         }
-        Packet::Short => FieldPlace::NoField,
+        Packet::Short(_) => FieldPlace::NoField,
         Packet::Link {
             kind: _,
             extension: _,

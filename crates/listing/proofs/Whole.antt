@@ -23,7 +23,7 @@ never e = absurd (let z : _≡_ {A = ℕ} 0 1 = cc in omega arith)
 
 module _ (p : List ℕ) where
   said-there : (found : Packet) → Inside p found → goesOn found ≡ true → saidLength p ≤ length p
-  said-there Short i e = never e
+  said-there (Short n) i e = never e
   said-there (Link kind extension) i e = i .1
   said-there (Skipped kind extension body) i e = i .2
   said-there (Message h extension content) i e = i .2

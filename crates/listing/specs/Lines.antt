@@ -37,7 +37,7 @@ refusedText n = refused ++ tabbed n
 
 -- What stands behind the offset, for what was read of the bytes p.
 abbrev pub packetText : List ℕ → Packet → List ℕ
-packetText p Short = short
+packetText p (Short n) = short
 packetText p (Link kind extension) = linkText p kind (extension .start) (extension .len)
 packetText p (Skipped kind extension body) = skip
 packetText p (Message h extension content) =
@@ -59,7 +59,7 @@ lineOf capture more at =
 
 -- Another line follows the line of a packet that is there whole.
 abbrev pub goesOn : Packet → Bool
-goesOn Short = false
+goesOn (Short n) = false
 goesOn (Link kind extension) = true
 goesOn (Skipped kind extension body) = true
 goesOn (Message h extension content) = true

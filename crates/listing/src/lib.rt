@@ -159,7 +159,7 @@ fn put_packet(out: &mut [u8], at: usize, p: &[u8], found: Packet) -> usize
         × (r ≤ at + 37) ⌝ }
 {
     match found {
-        Packet::Short => put_word(out, at, b"short"),
+        Packet::Short(_) => put_word(out, at, b"short"),
         Packet::Link { kind, extension } => put_link(
             out,
             at,
@@ -221,7 +221,7 @@ fn goes_on(found: Packet) -> bool
     ensures { λ r. ⌜ r ≡ goesOn found ⌝ }
 {
     match found {
-        Packet::Short => false,
+        Packet::Short(_) => false,
         Packet::Link {
             kind: _,
             extension: _,

@@ -32,7 +32,7 @@ pub fn numbers(bytes: &[u8]) -> Packet {
     let mark = |mark: Option<u32>| (mark.unwrap_or(0), u8::from(mark.is_some()));
     let behind = |extension: &[u8]| Span { start: 4, len: extension.len() };
     match packet::read(bytes) {
-        packet::Packet::Short => Packet::default(),
+        packet::Packet::Short(missing) => Packet { missing, ..Packet::default() },
         packet::Packet::Refused(refusal) => Packet { answer: REFUSED, refusal, ..Packet::default() },
         packet::Packet::Link { kind, extension, mark: day, length } => {
             let (date, dated) = mark(day);

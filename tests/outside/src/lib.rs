@@ -38,6 +38,7 @@ impl Span {
 #[derive(Clone, Copy, Debug, Default, PartialEq, Eq)]
 pub struct Packet {
     pub size: usize,
+    pub missing: usize,
     pub extension: Span,
     pub content: Span,
     pub tid: u32,

@@ -21,7 +21,7 @@ pub fn lines(input: &[u8]) -> String {
     let mut at = 0;
     while at < input.len() {
         let length = match read(&input[at..]) {
-            Packet::Short => {
+            Packet::Short(_) => {
                 writeln!(text, "{at}\tshort").unwrap();
                 return text;
             }

@@ -23,7 +23,8 @@ pub fn u32_at(bytes: &[u8], at: usize) -> u32 {
 /// What bytes begin with. `length` is that of the whole packet; bytes behind it aren't looked at.
 #[derive(Clone, Copy, Debug, PartialEq, Eq)]
 pub enum Packet<'a> {
-    Short,
+    /// How many bytes are certainly missing.
+    Short(usize),
     /// Rows 1 to 7 of the refusal table.
     Refused(u8),
     /// Extension and body are kept unread.
@@ -61,7 +62,7 @@ pub struct MessagePacket<'a> {
 /// Reads the packet at the front of `bytes`. Rows 1 and 3 need four bytes alone; then short; then 2 and 4 to 7.
 pub fn read(bytes: &[u8]) -> Packet<'_> {
     if bytes.len() < 4 {
-        return Packet::Short;
+        return Packet::Short(4 - bytes.len());
     }
     let kind = bytes[0];
     let extension_length = usize::from(bytes[1]);
@@ -75,7 +76,7 @@ pub fn read(bytes: &[u8]) -> Packet<'_> {
     let body_at = 4 + extension_length;
     let length = body_at + body_length;
     if bytes.len() < length {
-        return Packet::Short;
+        return Packet::Short(length - bytes.len());
     }
     let extension = &bytes[4..body_at];
     let body = &bytes[body_at..length];

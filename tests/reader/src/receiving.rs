@@ -152,7 +152,7 @@ impl Receiving {
             Packet::Message(piece) => piece,
             Packet::Refused(row) => return Err(row),
             Packet::Link { .. } | Packet::Skipped { .. } => return Ok(Received::Idle),
-            Packet::Short => unreachable!("as many bytes as said"),
+            Packet::Short(_) => unreachable!("as many bytes as said"),
         };
         let place = self.place(piece.series).ok_or(13)?;
         let parts = self.open.len() * MOST_MESSAGE;

@@ -15,7 +15,7 @@ fn answer(bytes: &[u8]) -> u8 {
         Packet::Refused(row) => row,
         Packet::Skipped { .. } => 8,
         Packet::Message(_) => 9,
-        Packet::Short => 10,
+        Packet::Short(_) => 10,
     }
 }
 

@@ -28,16 +28,18 @@ fn packet(extension: &[u8], fields: &[Vec<u8>]) -> Vec<u8> {
 
 #[test]
 fn p1_to_p6() {
-    assert_eq!(read(&[]), Packet::Short);
+    assert_eq!(read(&[]), Packet::Short(4));
     let heart = [0, 2, 0, 0, 4, 0];
     assert_eq!(read(&heart), Packet::Link { kind: 0, extension: &[4, 0], mark: None, length: 6 });
-    assert_eq!(read(&heart[..5]), Packet::Short);
+    assert_eq!(read(&heart[..5]), Packet::Short(1));
     assert_eq!(read(&[1, 0x80, 0, 0]), Packet::Refused(1));
-    assert_eq!(read(&[1, 0x7F, 0, 0]), Packet::Short);
+    assert_eq!(read(&[1, 0x7F, 0, 0]), Packet::Short(127));
+    assert_eq!(read(&[1, 0x80]), Packet::Short(2));
+    assert_eq!(read(&[2, 0x7F, 0xFF, 0xFF]), Packet::Short(65_662));
     assert_eq!(read(&[0, 2, 0, 0, 4, 1]), Packet::Refused(2));
     assert_eq!(read(&[1, 0, 0, 15]), Packet::Refused(3));
-    assert_eq!(read(&[1, 0, 0, 16]), Packet::Short);
-    assert_eq!(read(&[1, 0, 0x10, 0]), Packet::Short);
+    assert_eq!(read(&[1, 0, 0, 16]), Packet::Short(16));
+    assert_eq!(read(&[1, 0, 0x10, 0]), Packet::Short(4096));
     assert_eq!(read(&[1, 0, 0x10, 1]), Packet::Refused(3));
 }
 
@@ -60,7 +62,7 @@ fn order_of_refusals() {
     bytes[1] = 2;
     assert_eq!(read(&bytes), Packet::Refused(3));
     bytes[3] = 17;
-    assert_eq!(read(&bytes), Packet::Short);
+    assert_eq!(read(&bytes), Packet::Short(19));
     bytes.extend([4, 1, 2, 0, 0, 0, 0, b's', 0, 0, 0, 0, 0, 0, 0, 1, 0, 0, 0]);
     assert_eq!(read(&bytes), Packet::Refused(2));
     bytes[5] = 0;
@@ -79,7 +81,7 @@ fn skipped_packets() {
     assert_eq!(read(&[2, 0x80, 0, 0]), Packet::Refused(1));
     assert_eq!(read(&[2, 1, 0, 0, 9]), Packet::Skipped { kind: 2, extension: &[9], body: &[], length: 5 });
     assert_eq!(read(&[0, 0, 0, 1, 9, 8]), Packet::Skipped { kind: 0, extension: &[], body: &[9], length: 5 });
-    assert_eq!(read(&[2, 0, 0, 1]), Packet::Short);
+    assert_eq!(read(&[2, 0, 0, 1]), Packet::Short(1));
 }
 
 #[test]

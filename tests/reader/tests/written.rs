@@ -105,7 +105,7 @@ fn said_lengths_and_tags() {
                 assert_eq!(keeps_alive(extension), tags(extension).any(|tag| tag.unwrap().0 == 4));
             }
             Packet::Skipped { length, .. } => assert_eq!(Some(length), said_length(&bytes)),
-            Packet::Short | Packet::Refused(_) => {}
+            Packet::Short(_) | Packet::Refused(_) => {}
         }
     }
 }

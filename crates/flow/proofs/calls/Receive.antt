@@ -191,7 +191,7 @@ pub data Received-as (e : Receiver) (p buffer : List ℕ) : Wrote Receiver Recei
 
 -- What the reader refuses has a number from 1 to 7.
 abbrev Low : Packet → Type 0
-Low Short = Unit
+Low (Short n) = Unit
 Low (Link kind extension) = Unit
 Low (Skipped kind extension body) = Unit
 Low (Message h extension c) = Unit
@@ -214,7 +214,7 @@ read-low p =
 
 read-as : (e : Receiver) (p buffer : List ℕ) (x : Packet) → datedOf p .packet ≡ x → Low x
     → Received-as e p buffer (receiveRead e p buffer (datedOf p .date) x)
-read-as e p buffer Short q l = unread NotOnePacket (omega arith)
+read-as e p buffer (Short n) q l = unread NotOnePacket (omega arith)
 read-as e p buffer (Link kind extension) q l = idles
 read-as e p buffer (Skipped kind extension body) q l = idles
 read-as e p buffer (Message h extension c) q l =

@@ -80,7 +80,7 @@ confirm-with e s h date content =
 
 confirm-read : (e : Receiver) (s : ℕ) (p : List ℕ) (date : TradeDate) (x : Packet)
     → Confirmed-as e s date (confirmRead e s p date x)
-confirm-read e s p date Short = refuses NotOnePacket
+confirm-read e s p date (Short n) = refuses NotOnePacket
 confirm-read e s p date (Link kind extension) = refuses NotOnePacket
 confirm-read e s p date (Skipped kind extension body) = refuses NotOnePacket
 confirm-read e s p date (Message h extension c) = confirm-with e s h date (part p (c .start) (c .len))

@@ -193,7 +193,7 @@ module _ (e : Sender) (s : ℕ) (h : Header) (date : TradeDate) (asked content o
 module _ (e : Sender) (s : ℕ) (p content out : List ℕ) where
   login-read : (q : Packet) → notOnePacket p ≡ false → noMessagePacket p ≡ false → datedOf p .packet ≡ q →
       LoginDone e s p content out (loginRead e s p content out (datedOf p .date) q)
-  login-read Short a b g = login-refused NotOnePacket
+  login-read (Short n) a b g = login-refused NotOnePacket
   login-read (Link kind extension) a b g = login-refused NotOnePacket
   login-read (Skipped kind extension body) a b g = login-refused NotOnePacket
   login-read (Message h x c) a b g =

@@ -45,7 +45,7 @@ module _ (e : Receiver) (s : ℕ) (p : List ℕ) where
   -- Neither a message packet nor a refusal.
   other-read : (date : TradeDate) (q : Packet) → OneOf (0 ∷ 1 ∷ 2 ∷ []) (tagOf the-type q)
       → left e (NotIn NotOnePacket) ≡ confirmRead e s p date q
-  other-read date = other-packet (confirmRead e s p date) _ refl (λ k x. refl) (λ k x b. refl)
+  other-read date = other-packet (confirmRead e s p date) _ (λ n. refl) (λ k x. refl) (λ k x b. refl)
 
   module _ (b : Bool) (k : b ≡ (notOnePacket p || noMessagePacket p)) where
     pub confirm-not-message : b ≡ true → Confirms e s p (refusing NotOnePacket)

@@ -35,10 +35,10 @@ pub as-part : (p : List ℕ) (c : Span) → take (c .start + c .len - c .start) 
 as-part p c = let n : c .start + c .len - c .start ≡ c .len = omega arith in rw n
 
 -- What holds of short, link and skipped packets holds of all but message packets and refusals.
-pub other-packet : {A : Type 0} (f : Packet → A) (y : A) → y ≡ f Short
+pub other-packet : {A : Type 0} (f : Packet → A) (y : A) → ((n : ℕ) → y ≡ f (Short n))
     → ((kind : ℕ) (x : Span) → y ≡ f (Link kind x)) → ((kind : ℕ) (x b : Span) → y ≡ f (Skipped kind x b))
     → (q : Packet) → OneOf (0 ∷ 1 ∷ 2 ∷ []) (tagOf the-type q) → y ≡ f q
-other-packet f y g h i Short k = g
+other-packet f y g h i (Short n) k = g n
 other-packet f y g h i (Link kind x) k = h kind x
 other-packet f y g h i (Skipped kind x b) k = i kind x b
 other-packet f y g h i (Message head x c) k = absurd (miss (0 ∷ 1 ∷ 2 ∷ []) 3 tt k)
@@ -61,7 +61,7 @@ module _ (e : Sender) (s : ℕ) (p content out : List ℕ) where
   -- Neither a message packet nor a refusal.
   other-read : (date : TradeDate) (q : Packet) → OneOf (0 ∷ 1 ∷ 2 ∷ []) (tagOf the-type q)
       → wrote e (NotIn NotOnePacket) out ≡ loginRead e s p content out date q
-  other-read date = other-packet (loginRead e s p content out date) _ refl (λ k x. refl) (λ k x b. refl)
+  other-read date = other-packet (loginRead e s p content out date) _ (λ n. refl) (λ k x. refl) (λ k x b. refl)
 
   module _ (b : Bool) (k : b ≡ (notOnePacket p || noMessagePacket p)) where
     pub not-message : b ≡ true → LogsIn e s p content out (refusing NotOnePacket) out

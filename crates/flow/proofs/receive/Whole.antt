@@ -46,7 +46,7 @@ module _ (e : Receiver) (p buffer : List ℕ) where
   -- A link packet or a skipped one.
   idle-read : (date : TradeDate) (q : Packet) → OneOf (1 ∷ 2 ∷ []) (tagOf the-type q)
       → wrote e Idle buffer ≡ receiveRead e p buffer date q
-  idle-read date Short k = absurd (miss (1 ∷ 2 ∷ []) 0 tt k)
+  idle-read date (Short n) k = absurd (miss (1 ∷ 2 ∷ []) 0 tt k)
   idle-read date (Link kind extension) k = refl
   idle-read date (Skipped kind extension body) k = refl
   idle-read date (Message h extension c) k = absurd (miss (1 ∷ 2 ∷ []) 3 tt k)
@@ -66,8 +66,8 @@ module _ (e : Receiver) (p buffer : List ℕ) where
       pub read-refused : (r : Refusal) → d .packet ≡ Unread r → Receives e p buffer (staying (NotTaken r)) buffer
       read-refused r x = receives _ _ (by-read _ (rw x))
 
-      pub read-short : d .packet ≡ Short → Receives e p buffer (staying (NotTaken NotOnePacket)) buffer
-      read-short x = receives _ _ (by-read _ (rw x))
+      pub read-short : (n : ℕ) → d .packet ≡ Short n → Receives e p buffer (staying (NotTaken NotOnePacket)) buffer
+      read-short n x = receives _ _ (by-read _ (rw x))
 
       pub read-idle : OneOf (1 ∷ 2 ∷ []) (tagOf the-type (d .packet)) → Receives e p buffer (staying Idle) buffer
       read-idle x = receives _ _ (by-read _ (idle-read (d .date) (d .packet) x))

@@ -7,7 +7,7 @@ use native.Mathlib.Omega.{arith}
 use lib.ListN.{length, take, drop}
 use Rattle.ftd.specs.Tags.{tradeDateOf, tagRunOf}
 use Rattle.ftd.specs.Packet.{kindOf, bodyLength, extensionLength, extensionOf, wrongBody, isSkipped, span}
-use Rattle.ftd.specs.Packet.{messageOf, wholeOf, readOf, bearsDate, withDate, datedOf}
+use Rattle.ftd.specs.Packet.{missingOf, messageOf, wholeOf, readOf, bearsDate, withDate, datedOf}
 use Rattle.ftd.specs.Packet.Helpers.{SaysLengths}
 use Rattle.ftd.specs.declared.refusal.Refusal.the-variants.{LongExtension, BrokenTag, BodyLength}
 use Rattle.ftd.specs.declared.tags.TagRun.{TagRun}
@@ -68,9 +68,13 @@ module _ (p : List ℕ) (ext body : ℕ) (said : SaysLengths p ext body) (kind :
           ) e
 
 module _ (p : List ℕ) where
-  pub dated-head-missing : length p < 4 → record { packet = Short; date = None } ≡ datedOf p
-  unfolding datedOf
-  dated-head-missing h = date-none (readOf p) _ _ (read-head-missing p h) refl
+  -- Short has no trade date, whatever the extension would say.
+  short-dated : Short (missingOf p) ≡ readOf p → (r : Dated) → r ≡ withDate (Short (missingOf p)) None → r ≡ datedOf p
+  unfolding datedOf withDate
+  short-dated s r e = rw (← s) e
+
+  pub dated-head-missing : length p < 4 → (r : Dated) → r ≡ withDate (Short (missingOf p)) None → r ≡ datedOf p
+  dated-head-missing h = short-dated (read-head-missing p h)
 
   module _ (four : 4 ≤ length p) (ext : ℕ) (x : ext ≡ extensionLength p) where
     pub dated-long : 127 < ext → record { packet = Refused LongExtension; date = None } ≡ datedOf p
@@ -84,10 +88,10 @@ module _ (p : List ℕ) where
       dated-body w = date-none (readOf p) _ _ (read-body p four ext x fits kind body n a m b wrong q w) refl
 
       module _ (right : wrong ≡ false) where
-        pub dated-rest-missing : length p < 4 + ext + body → record { packet = Short; date = None } ≡ datedOf p
-        unfolding datedOf
+        pub dated-rest-missing : length p < 4 + ext + body → (r : Dated) → r ≡ withDate (Short (missingOf p)) None
+            → r ≡ datedOf p
         dated-rest-missing w =
-            date-none (readOf p) _ _ (read-rest-missing p four ext x fits kind body n a m b wrong q right w) refl
+            short-dated (read-rest-missing p four ext x fits kind body n a m b wrong q right w)
 
         pub dated-there : 4 + ext + body ≤ length p → (r : Dated)
             → r ≡ withDate (wholeOf p) (tradeDateOf (extensionOf p)) → r ≡ datedOf p

@@ -21,9 +21,10 @@ use Rattle.ftd.specs.Packet.{headMissing, restMissing, longExtension, wr
 use Rattle.ftd.specs.Packet.{wrongVersion, isLetter, wrongLetter, wrongContentLength, wrongFields, chainOf, span}
 use Rattle.ftd.specs.Packet.{bodyStart, extensionSpan, contentSpan, headerOf, acceptedOf, messageOf, wholeOf}
 use Rattle.ftd.specs.Packet.{readOf, isShort, fieldsWithin, messageFields, movedBy, fieldWithin, fieldOf, partAt}
-use Rattle.ftd.specs.Packet.{fieldBytes}
+use Rattle.ftd.specs.Packet.{fieldBytes, missingOf, notOnePacket}
 use Rattle.ftd.specs.Packet.Helpers.{SaysLengths, FitsIn}
-use Rattle.ftd.specs.Packet.Laws.{IsMessage, IsLink, IsSkipped, Inside, InWidth, ReadLaws}
+use Rattle.ftd.specs.Packet.Laws.{IsMessage, IsLink, IsSkipped, IsCut, IsShort, Inside, InWidth, unnumbered}
+use Rattle.ftd.specs.Packet.Laws.{ShortLaws, ReadLaws}
 use Rattle.ftd.specs.declared.refusal.Refusal.{Refusal}
 use Rattle.ftd.specs.declared.refusal.Refusal.the-variants.{LongExtension, BrokenTag, BodyLength, Version}
 use Rattle.ftd.specs.declared.refusal.Refusal.the-variants.{ChainLetter, ContentLength, FieldRun}
@@ -37,7 +38,8 @@ use Rattle.ftd.proofs.runs.Laws.{run-whole}
 use Rattle.ftd.proofs.runs.Turns.{and-false}
 use Rattle.ftd.proofs.packet.Verdicts.{header-made, version-wrong, letter-wrong, length-wrong, fields-wrong}
 use Rattle.ftd.proofs.packet.Verdicts.{message-good, whole-skipped, whole-broken, whole-link, whole-message}
-use Rattle.ftd.proofs.packet.Verdicts.{body-bounds, body-least, read-long, read-body, read-there}
+use Rattle.ftd.proofs.packet.Verdicts.{body-bounds, body-least, read-head-missing, read-long, read-body}
+use Rattle.ftd.proofs.packet.Verdicts.{read-rest-missing, read-there, head-number, rest-number}
 
 -- A test decides between two answers: both cases are shown.
 pub by-test : {A : Type 0} (P : A → Type 0) (b : Bool) {x y : A} → (b ≡ true → P x) → (b ≡ false → P y) → P (cond b x y)
@@ -65,7 +67,8 @@ pub record Right (p : List ℕ) : Type 0 where
   pub fields : exactRun (contentOf p) (fieldCountOf p) ≡ true
 
 -- What holds of each answer, with what has led to it, holds of the reader's.
-pub read-cases : (p : List ℕ) (Q : Packet → Type 0) → Q Short → ((r : Refusal) → Q (Refused r))
+pub read-cases : (p : List ℕ) (Q : Packet → Type 0) → (IsShort p → Q (Short (missingOf p)))
+    → ((r : Refusal) → Q (Refused r))
     → (There p → isSkipped (kindOf p) (bodyLength p) ≡ true
     → Q (Skipped (kindOf p) (extensionSpan p) (span (bodyStart p) (bodyLength p))))
     → (There p → isSkipped (kindOf p) (bodyLength p) ≡ false → goodTags (extensionOf p) ≡ true → bodyLength p ≡ 0
@@ -73,10 +76,17 @@ pub read-cases : (p : List ℕ) (Q : Packet → Type 0) → Q Short → ((r : Re
     → (There p → Right p → Q (acceptedOf p)) → Q (readOf p)
 unfolding readOf restMissing wholeOf messageOf
 read-cases p Q short refused skipped link message =
-    by-test Q (headMissing p) (λ a. short) (λ a.
+    by-test Q (headMissing p) (λ a. short (inl (ltb-true (length p) 4 a))) (λ a.
     by-test Q (longExtension p) (λ b. refused LongExtension) (λ b.
     by-test Q (wrongBody (kindOf p) (bodyLength p)) (λ c. refused BodyLength) (λ c.
-    by-test Q (restMissing p) (λ d. short) (λ d.
+    by-test Q (restMissing p)
+    (λ d. short (inr (record {
+      four = ltb-false (length p) 4 a;
+      extension = ltb-false 127 (extensionLength p) b;
+      body = c;
+      rest = ltb-true (length p) (saidLength p) d;
+    })))
+    (λ d.
     let w : There p =
     record {
       four = ltb-false (length p) 4 a;
@@ -110,7 +120,7 @@ read-cases p Q short refused skipped link message =
 pub inside : (p : List ℕ) → Inside p (readOf p)
 unfolding acceptedOf saidLength
 inside p =
-    read-cases p (Inside p) tt (λ r. tt) (λ w s. (refl, refl, w .there)) (λ w s g z. (omega arith, w .there))
+    read-cases p (Inside p) (λ m. tt) (λ r. tt) (λ w s. (refl, refl, w .there)) (λ w s g z. (omega arith, w .there))
     (λ w r. (omega arith, omega (arith, r .least), w .there))
 
 -- ─── What was read, by its kind ───
@@ -124,7 +134,7 @@ pub record Accepted (p : List ℕ) (h : Header) (e c : Span) : Type 0 where
 
 -- Answers of two kinds differ.
 abbrev which : Packet → ℕ
-which Short = 0
+which (Short n) = 0
 which (Link kind extension) = 1
 which (Skipped kind extension body) = 2
 which (Message h extension content) = 3
@@ -133,7 +143,7 @@ which (Refused r) = 4
 pub accepted : (p : List ℕ) (h : Header) (x y : Span) → readOf p ≡ Message h x y → Accepted p h x y
 unfolding acceptedOf
 accepted p h x y =
-    read-cases p (λ z. z ≡ Message h x y → Accepted p h x y) (λ e. absurd (omega (arith, ap which e)))
+    read-cases p (λ z. z ≡ Message h x y → Accepted p h x y) (λ m e. absurd (omega (arith, ap which e)))
     (λ r e. absurd (omega (arith, ap which e)))
     (λ w s e. absurd (omega (arith, ap which e))) (λ w s g z e. absurd (omega (arith, ap which e)))
     (λ w r e. record { whole = w; right = r; header = cc; extent = cc; content = cc })
@@ -149,7 +159,7 @@ pub record Linked (p : List ℕ) (kind : ℕ) (e : Span) : Type 0 where
 pub linked : (p : List ℕ) (kind : ℕ) (x : Span) → readOf p ≡ Link kind x → Linked p kind x
 unfolding acceptedOf
 linked p kind x =
-    read-cases p (λ z. z ≡ Link kind x → Linked p kind x) (λ e. absurd (omega (arith, ap which e)))
+    read-cases p (λ z. z ≡ Link kind x → Linked p kind x) (λ m e. absurd (omega (arith, ap which e)))
     (λ r e. absurd (omega (arith, ap which e)))
     (λ w s e. absurd (omega (arith, ap which e)))
     (λ w s g z e. record { whole = w; plain = s; tags = g; body = z; type = cc; extent = cc })
@@ -165,7 +175,7 @@ pub record Passed (p : List ℕ) (kind : ℕ) (e b : Span) : Type 0 where
 pub passed : (p : List ℕ) (kind : ℕ) (x y : Span) → readOf p ≡ Skipped kind x y → Passed p kind x y
 unfolding acceptedOf
 passed p kind x y =
-    read-cases p (λ z. z ≡ Skipped kind x y → Passed p kind x y) (λ e. absurd (omega (arith, ap which e)))
+    read-cases p (λ z. z ≡ Skipped kind x y → Passed p kind x y) (λ m e. absurd (omega (arith, ap which e)))
     (λ r e. absurd (omega (arith, ap which e)))
     (λ w s e. record { whole = w; skipped = s; type = cc; extent = cc; body = cc })
     (λ w s g z e. absurd (omega (arith, ap which e))) (λ w r e. absurd (omega (arith, ap which e)))
@@ -441,6 +451,169 @@ stays p q =
     P : Packet → Type 0
     P x = isShort x ≡ false → readOf (p ++ q) ≡ x
 
+-- ─── Bytes still missing ───
+
+-- Short, and what has led to it.
+pub record Missing (p : List ℕ) (n : ℕ) : Type 0 where
+  pub cut : IsShort p
+  pub number : n ≡ missingOf p
+
+pub missing : (p : List ℕ) (n : ℕ) → readOf p ≡ Short n → Missing p n
+unfolding acceptedOf
+missing p n =
+    read-cases p (λ z. z ≡ Short n → Missing p n)
+    (λ m e. record { cut = m; number = cc })
+    (λ r e. absurd (omega (arith, ap which e))) (λ w s e. absurd (omega (arith, ap which e)))
+    (λ w s g z e. absurd (omega (arith, ap which e))) (λ w r e. absurd (omega (arith, ap which e)))
+
+module _ (p : List ℕ) where
+  short-read : IsShort p → readOf p ≡ Short (missingOf p)
+  unfolding saidLength
+  short-read (inl h) = sym (read-head-missing p h)
+  short-read (inr c) =
+      sym (read-rest-missing p (c .four) _ refl (c .extension) _ _ _ refl refl refl _ refl (c .body) (c .rest))
+
+  pub exactly : (readOf p ≡ Short (missingOf p)) ↔ IsShort p
+  exactly = (λ e. missing p (missingOf p) e .cut, short-read)
+
+  whole-there : isShort (wholeOf p) ≡ false
+  unfolding wholeOf messageOf acceptedOf
+  whole-there =
+      by-test P (isSkipped (kindOf p) (bodyLength p)) (λ a. refl) (λ a.
+      by-test P (brokenTag p) (λ b. refl) (λ b.
+      by-test P (isLink p) (λ c. refl) (λ c.
+      by-test P (wrongVersion p) (λ d. refl) (λ d.
+      by-test P (wrongLetter p) (λ e. refl) (λ e.
+      by-test P (wrongContentLength p) (λ f. refl) (λ f.
+      by-test P (wrongFields p) (λ g. refl) (λ g. refl)))))))
+    where
+      P : Packet → Type 0
+      P x = isShort x ≡ false
+
+  pub unmoved : (short : Packet) → cond (isShort (readOf p)) short (readOf p) ≡ unnumbered short p
+  unfolding readOf
+  unmoved short =
+      go (headMissing p) (longExtension p) (wrongBody (kindOf p) (bodyLength p)) (restMissing p) (wholeOf p) whole-there
+    where
+      chosen : Packet → Bool → Bool → Bool → Bool → Packet → Packet
+      chosen s a b c d x = cond a s (cond b (Refused LongExtension) (cond c (Refused BodyLength) (cond d s x)))
+
+      go : (a b c d : Bool) (x : Packet) → isShort x ≡ false
+          → cond (isShort (chosen (Short (missingOf p)) a b c d x)) short (chosen (Short (missingOf p)) a b c d x)
+          ≡ chosen short a b c d x
+      go true b c d x w = refl
+      go false true c d x w = refl
+      go false false true d x w = refl
+      go false false false true x w = refl
+      go false false false false x w = rw w
+
+pub head : (p : List ℕ) → length p < 4 → readOf p ≡ Short (4 - length p)
+head p h = rw (head-number p h) (short-read p (inl h))
+
+pub rest : (p : List ℕ) (n : ℕ) → 4 ≤ length p → readOf p ≡ Short n → length p + n ≡ saidLength p
+rest p n four e = let m = missing p n e in go (m .cut) (m .number)
+  where
+    go : IsShort p → n ≡ missingOf p → length p + n ≡ saidLength p
+    go (inl h) k = absurd (omega arith)
+    go (inr c) k = omega (arith, c .rest, rest-number p four)
+
+pub least : (p : List ℕ) (n : ℕ) → readOf p ≡ Short n → 1 ≤ n
+least p n e = let m = missing p n e in rw (m .number) (go (m .cut))
+  where
+    go : IsShort p → 1 ≤ missingOf p
+    go (inl h) = rw (← (head-number p h)) (omega arith)
+    go (inr c) = rw (← (rest-number p (c .four))) (omega (arith, c .rest))
+
+pub most : (p : List ℕ) (n : ℕ) → Bytes p → readOf p ≡ Short n → n ≤ 65662
+unfolding saidLength
+most p n b e = let m = missing p n e in rw (m .number) (go (m .cut))
+  where
+    go : IsShort p → missingOf p ≤ 65662
+    go (inl h) = rw (← (head-number p h)) (omega arith)
+    go (inr c) = rw (← (rest-number p (c .four))) (omega (arith, c .four, c .extension, be16-width p b 2))
+
+-- With bytes behind them: what the first four say stays, and so do the tests on them.
+module _ (p more : List ℕ) where
+  size : length (p ++ more) ≡ length p + length more
+  size = length-append p more
+
+  module _ (four : 4 ≤ length p) where
+    said-stays : saidLength (p ++ more) ≡ saidLength p
+    unfolding saidLength
+    said-stays = let s = said-same p more four in rw (← (s .0), ← (s .1))
+
+    tests-stay : IsCut p → (4 ≤ length (p ++ more)) × (extensionLength (p ++ more) ≤ 127)
+        × (wrongBody (kindOf (p ++ more)) (bodyLength (p ++ more)) ≡ false)
+    tests-stay c =
+        let s = said-same p more four in (
+          omega (arith, size),
+          rw (← (s .0)) (c .extension),
+          rw (← (kind-same p more four), ← (s .1)) (c .body),
+        )
+
+    cut-stays : IsCut p → length (p ++ more) < saidLength p → IsCut (p ++ more)
+    cut-stays c h =
+        let t = tests-stay c in record { four = t .0; extension = t .1; body = t .2; rest = rw said-stays h }
+
+    cut-ends : IsCut p → saidLength p ≤ length (p ++ more) → There (p ++ more)
+    cut-ends c h =
+        let t = tests-stay c in record { four = t .0; extension = t .1; right = t .2; there = rw said-stays h }
+
+  module _ (n : ℕ) (e : readOf p ≡ Short n) where
+    pub again : length more < n → readOf (p ++ more) ≡ Short (n - length more)
+    again h = let m = missing p n e in go (m .cut) (m .number)
+      where
+        go : IsShort p → n ≡ missingOf p → readOf (p ++ more) ≡ Short (n - length more)
+        go (inl f) k =
+            let few : length (p ++ more) < 4 = omega (arith, size, head-number p f) in
+            short-read (p ++ more) (inl few) ∙ ap Short (omega (arith, size, head-number p f, head-number (p ++ more) few))
+        go (inr c) k =
+            let a = rest-number p (c .four) in
+            let c2 = cut-stays (c .four) c (omega (arith, size, a)) in
+            short-read (p ++ more) (inr c2)
+            ∙ ap Short (omega (arith, size, a, said-stays (c .four), rest-number (p ++ more) (c2 .four)))
+
+    pub enough : 4 ≤ length p → n ≤ length more → isShort (readOf (p ++ more)) ≡ false
+    enough four h = let m = missing p n e in go (m .cut) (m .number)
+      where
+        go : IsShort p → n ≡ missingOf p → isShort (readOf (p ++ more)) ≡ false
+        go (inl f) k = absurd (omega arith)
+        go (inr c) k =
+            rw (there-read (p ++ more) (cut-ends four c (omega (arith, size, rest-number p four)))) (whole-there (p ++ more))
+
+    pub one : 4 ≤ length p → length more ≡ n → notOnePacket (p ++ more) ≡ false
+    unfolding notOnePacket
+    one four h =
+        let r = rest p n four e in
+        rw (
+          le-ltb (length (p ++ more)) 4 (omega (arith, size)),
+          eq-eqb (length (p ++ more)) (saidLength (p ++ more)) (omega (arith, size, said-stays four)),
+        )
+
+    pub within : length p + n ≤ saidLength (p ++ more)
+    unfolding saidLength
+    within = let m = missing p n e in go (m .cut) (m .number)
+      where
+        go : IsShort p → n ≡ missingOf p → length p + n ≤ saidLength (p ++ more)
+        go (inl f) k = omega (arith, head-number p f)
+        go (inr c) k = omega (arith, c .rest, rest-number p (c .four), said-stays (c .four))
+
+short-laws : ShortLaws
+short-laws =
+    record {
+      exactly = exactly;
+      only = λ p n e. missing p n e .number;
+      head = head;
+      rest = rest;
+      unmoved = unmoved;
+      least = least;
+      most = most;
+      again = again;
+      enough = λ p more n four e h. enough p more n e four h;
+      one = λ p more n four e h. one p more n e four h;
+      within = within;
+    }
+
 -- ─── A value of the header fits its width ───
 
 pub widths : (p : List ℕ) (h : Header) (x y : Span) → Bytes p → readOf p ≡ Message h x y → InWidth h
@@ -530,7 +703,7 @@ module _ (p : List ℕ) (i : ℕ) where
     where
       go : (x : Packet) → readOf p ≡ x → i < length (fieldsWithin p x)
           → Found p (getD (fieldsWithin p x) i []) (fieldWithin p x i)
-      go Short e k = absurd (omega arith)
+      go (Short n) e k = absurd (omega arith)
       go (Link kind extension) e k = absurd (omega arith)
       go (Skipped kind extension body) e k = absurd (omega arith)
       go (Message h x y) e k = in-message h x y e k
@@ -542,7 +715,7 @@ module _ (p : List ℕ) (i : ℕ) where
     where
       go : (x : Packet) → length (fieldsWithin p x) ≤ i
           → (fieldWithin p x i ≡ NoField) × (partAt p (fieldWithin p x i) ≡ [])
-      go Short k = (refl, refl)
+      go (Short n) k = (refl, refl)
       go (Link kind extension) k = (refl, refl)
       go (Skipped kind extension body) k = (refl, refl)
       go (Message h x y) k = (rw e, rw e)
@@ -600,6 +773,7 @@ read-laws =
       link-only = link-only;
       skipped = skipped;
       skipped-only = skipped-only;
+      short = short-laws;
       stays = stays;
       inside = inside;
       widths = widths;

@@ -4,7 +4,7 @@ use mathlib.Core.Path.{_≡_, refl, sym, _∙_}
 use mathlib.Core.List.{List}
 use mathlib.Core.Bool.{Bool, true, false, _&&_, _||_}
 use native.Mathlib.Omega.{arith}
-use borrow.Author.Tests.{lt-ltb, le-ltb, eq-eqb, ne-eqb, ltb-false, eqb-true, eqb-false}
+use borrow.Author.Tests.{lt-ltb, le-ltb, le-leb, eq-eqb, ne-eqb, ltb-false, eqb-true, eqb-false}
 use lib.ListN.{length, getD, take, drop}
 use lib.Dec.{ltb, eqb}
 use Rattle.ftd.specs.Bytes.{be16Of, be32Of}
@@ -12,8 +12,8 @@ use Rattle.ftd.specs.Tags.{goodTags}
 use Rattle.ftd.specs.Fields.{exactRun}
 use Rattle.ftd.specs.Packet.{kindOf, bodyLength, extensionLength, extensionOf, versionOf, tidOf, letterOf}
 use Rattle.ftd.specs.Packet.{seriesOf, messageNumberOf, fieldCountOf, contentLengthOf, contentOf, wrongBody}
-use Rattle.ftd.specs.Packet.{isSkipped, restMissing, saidLength, isLetter, span, chainOf, headerOf, acceptedOf}
-use Rattle.ftd.specs.Packet.{messageOf, wholeOf, readOf}
+use Rattle.ftd.specs.Packet.{isSkipped, restMissing, missingOf, saidLength, saidIn, isLetter, span, chainOf}
+use Rattle.ftd.specs.Packet.{headerOf, acceptedOf, messageOf, wholeOf, readOf}
 use Rattle.ftd.specs.Packet.Helpers.{SaysLengths}
 use Rattle.ftd.specs.declared.refusal.Refusal.the-variants.{LongExtension, BrokenTag, BodyLength, Version}
 use Rattle.ftd.specs.declared.refusal.Refusal.the-variants.{ChainLetter, ContentLength, FieldRun}
@@ -116,8 +116,27 @@ pub body-least : (kind body : ℕ) (skipped : Bool) → skipped ≡ isSkipped ki
     → 16 ≤ body
 body-least kind body skipped s n w z = body-bounds kind body skipped s n w z .1
 
+-- How many bytes are missing.
 module _ (p : List ℕ) where
-  pub read-head-missing : length p < 4 → Short ≡ readOf p
+  pub head-number : length p < 4 → 4 - length p ≡ missingOf p
+  unfolding missingOf
+  head-number h = rw (lt-ltb (length p) 4 h)
+
+  module _ (four : 4 ≤ length p) where
+    pub rest-number : saidLength p - length p ≡ missingOf p
+    unfolding missingOf
+    rest-number = rw (le-ltb (length p) 4 four)
+
+    module _ (n : ℕ) (s : n ≡ saidIn p) where
+      pub said-number : n - length p ≡ missingOf p
+      unfolding saidIn
+      said-number = rw (s, le-leb 4 (length p) four) rest-number
+
+      pub no-number : n ≤ length p → 0 ≡ missingOf p
+      no-number h = rw (← said-number) (omega arith)
+
+module _ (p : List ℕ) where
+  pub read-head-missing : length p < 4 → Short (missingOf p) ≡ readOf p
   unfolding readOf
   read-head-missing h = rw (lt-ltb (length p) 4 h)
 
@@ -133,7 +152,7 @@ module _ (p : List ℕ) where
       read-body w = rw (le-ltb (length p) 4 four, ← x, le-ltb 127 ext fits, ← m, ← b, ← a, ← q, w)
 
       module _ (right : wrong ≡ false) where
-        pub read-rest-missing : length p < 4 + ext + body → Short ≡ readOf p
+        pub read-rest-missing : length p < 4 + ext + body → Short (missingOf p) ≡ readOf p
         unfolding readOf restMissing saidLength
         read-rest-missing w =
             rw (

@@ -24,7 +24,7 @@ fn packets(capture: &[u8], mut take: impl FnMut(&Packet)) -> usize {
         at += match packet {
             Packet::Skipped { length, .. } | Packet::Link { length, .. } => length,
             Packet::Message(m) => m.length,
-            Packet::Short | Packet::Refused(_) => panic!("a valid capture"),
+            Packet::Short(_) | Packet::Refused(_) => panic!("a valid capture"),
         };
         take(&packet);
         count += 1;

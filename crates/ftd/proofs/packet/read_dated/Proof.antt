@@ -5,6 +5,9 @@ use Rattle.ftd.proofs.packet.Dates.{dated-head-missing, dated-long, dat
 use Rattle.ftd.proofs.packet.read_dated.Statement.{statement}
 use Rattle.ftd.proofs.packet.read_dated.Tie as tie
 
+short-requires : tie.Need-short-requires
+short-requires c κs = search needs
+
 returns : tie.Need-returns
 returns c = search (needs, dated-head-missing)
 
@@ -38,6 +41,9 @@ add-if4 c = search needs
 add-if4-2 : tie.Need-add-if4-2
 add-if4-2 c = search needs
 
+short-requires-2 : tie.Need-short-requires-2
+short-requires-2 c κs = search needs
+
 returns-4 : tie.Need-returns-4
 returns-4 c = search (needs, dated-rest-missing)
 
@@ -57,6 +63,7 @@ pub read-dated-spec : {M : Type 1} → statement M
 read-dated-spec =
     tie.close
     (tie.spec
+    short-requires
     returns
     shared-slice-read-kind
     shared-slice-read-size8
@@ -68,6 +75,7 @@ read-dated-spec =
     returns-3
     add-if4
     add-if4-2
+    short-requires-2
     returns-4
     read-whole-requires
     returns-5)
