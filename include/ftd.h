@@ -100,6 +100,7 @@ enum ftd_limit {
     FTD_REQUEST_CONTENT = 4068,  /* content bytes given to ftd_request_login, which puts 12 behind them */
     FTD_MOST_CONTENT = 32768,    /* content bytes of a message; bytes of the reassembly buffer for each series */
     FTD_MOST_PACKETS = 17,       /* packets of a message */
+    FTD_MOST_PACKET = 4106,      /* bytes of one of them, as ftd_send writes it */
     FTD_MOST_OUTPUT = 33210,     /* bytes of all packets of a message: an output that is always large enough */
     FTD_LOG_HEAD = 16            /* bytes that a message takes in the log besides its content */
 };

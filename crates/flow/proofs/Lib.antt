@@ -12,3 +12,4 @@ pub mod first
 pub mod second
 pub mod Agreement
 pub mod bench
+pub mod Biggest

@@ -7,6 +7,7 @@ pub mod Promises
 pub mod World
 pub mod Agreement
 pub mod Bench
+pub mod Biggest
 pub mod Helpers
 pub mod LoginHelpers
 pub mod ReceiveHelpers

@@ -1,6 +1,7 @@
 // The two ends of a flow (01, "The serving end", "The receiving end"): their states, and what each call answers.
 ghost use Rattle.flow.specs.Agreement.{Agreement};
 ghost use Rattle.flow.specs.Bench.{Bench};
+ghost use Rattle.flow.specs.Biggest.{Biggest};
 
 pub mod limits; // the limits of both
 pub mod series; // series in a list
@@ -21,4 +22,9 @@ pub fn keeps_agreement()
 // The bench examples P1 to P12, as a promise: the definitions answer what the paper says.
 pub fn keeps_bench()
     ensures { λ _. ⌜ Bench ⌝ }
+{}
+
+// The biggest message there is, as a promise.
+pub fn keeps_biggest()
+    ensures { λ _. ⌜ Biggest ⌝ }
 {}

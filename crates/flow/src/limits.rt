@@ -9,3 +9,10 @@ pub struct Limits {
     pub content: usize,
     pub login: usize,
 }
+
+// The most that a message of the serving end takes: packets; bytes of one packet; bytes of all.
+pub struct Most {
+    pub packets: usize,
+    pub packet: usize,
+    pub output: usize,
+}

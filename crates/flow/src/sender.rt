@@ -12,12 +12,14 @@ ghost use Rattle.ftd.specs.Fields.{shaped, mostContent};
 ghost use Rattle.flow.specs.declared.series.SeriesPlace.the-variants.{At};
 ghost use Rattle.flow.specs.Ends.{freshSender, senderLimits, filled, newSeries, indexOf, sender, daySeries};
 ghost use Rattle.flow.specs.Ends.{isServed, placeOf};
+ghost use Rattle.flow.specs.Biggest.{senderMost};
 ghost use Rattle.flow.specs.Helpers.{Finds, unpublished, SendsAs, nextAt};
 ghost use Rattle.flow.specs.Promises.{OpensDay, Publishes, Sends, LogsIn};
 ghost use Rattle.flow.specs.Serving.{sendEntry};
 use crate::days::is_up_to;
 use crate::header::not_one_message;
 use crate::limits::Limits;
+use crate::limits::Most;
 use crate::log::EntryPlace;
 use crate::log::find_entry;
 use crate::log::put_entry;
@@ -143,6 +145,11 @@ impl Sender {
     pub const MOST_CONTENT: usize = ftd::fields::MOST_CONTENT;
     // At most so many bytes of the answer's content: one packet holds it.
     pub const ANSWER_CONTENT: usize = ftd::fields::PACKET_CONTENT;
+    // At most so many packets a message, so many bytes a packet, and so many bytes all packets of a message: an output
+    // of as many is never too small for Send.
+    pub const MOST_PACKETS: usize = ftd::chain::MOST_PACKETS;
+    pub const MOST_PACKET: usize = ftd::fields::PACKET_CONTENT + ftd::chain::OVERHEAD;
+    pub const MOST_OUTPUT: usize = ftd::fields::MOST_CONTENT + ftd::chain::MOST_PACKETS * ftd::chain::OVERHEAD;
 
     // The limits, as a promise.
     pub fn limits() -> Limits
@@ -153,6 +160,17 @@ impl Sender {
             messages: Sender::MOST_MESSAGES,
             content: Sender::MOST_CONTENT,
             login: Sender::ANSWER_CONTENT,
+        }
+    }
+
+    // The most that a message takes, as a promise.
+    pub fn most() -> Most
+        ensures { λ r. ⌜ r ≡ senderMost ⌝ }
+    {
+        Most {
+            packets: Sender::MOST_PACKETS,
+            packet: Sender::MOST_PACKET,
+            output: Sender::MOST_OUTPUT,
         }
     }
 

@@ -2,7 +2,7 @@
 -- order.
 pub mod Helpers
 pub mod Laws
-use Prim.Native.Nat.{ℕ, _+_, _-_}
+use Prim.Native.Nat.{ℕ, _+_, _-_, _*_}
 use mathlib.Core.List.{List, [], _∷_, _++_}
 use mathlib.Core.Bool.{Bool, true, false, cond}
 use lib.ListN.{length}
@@ -11,6 +11,8 @@ use Rattle.ftd.specs.Bytes.{joined}
 use Rattle.ftd.specs.Fields.{fieldsOf, shaped, mostContent, packetContent}
 use Rattle.ftd.specs.Write.{messageBytes, Verdict, fine, refuse, other}
 use Rattle.ftd.specs.Tags.{extensionBytes, tagsFor}
+use Rattle.ftd.specs.declared.tags.TradeDate.{TradeDate}
+use Rattle.ftd.specs.declared.tags.TradeDate.the-variants.{At}
 use Rattle.ftd.specs.declared.refusal.Refusal.the-variants.{FieldRun}
 use Rattle.ftd.specs.declared.packet.Chain.{Chain}
 use Rattle.ftd.specs.declared.packet.Chain.the-variants.{Single, First, Middle, Last}
@@ -93,3 +95,23 @@ sizeAnswer m content =
     cond (shaped content mostContent)
     (Takes (record { packets = length (packetsOf m content); bytes = length (joined (packetsOf m content)) }))
     (Refused FieldRun)
+
+-- ─── The most that a message takes (02, No. 5) ───
+
+-- A packet's bytes besides its content: the first four, the tags that an end writes, the message's header.
+unfoldable pub overheadOf : TradeDate → ℕ
+overheadOf d = 4 + length (extensionBytes (tagsFor d)) + 16
+
+-- With a trade date; every trade date takes as many.
+unfoldable pub overhead : ℕ
+overhead = overheadOf (At 0)
+
+-- Packets of a message (`ChainLaws.few`); bytes of one of them, and of all.
+abbrev pub mostPackets : ℕ
+mostPackets = 17
+
+abbrev pub mostPacket : ℕ
+mostPacket = overhead + packetContent
+
+abbrev pub mostOutput : ℕ
+mostOutput = mostContent + mostPackets * overhead

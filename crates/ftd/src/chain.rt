@@ -26,6 +26,11 @@ use crate::tags::tags_len;
 use crate::write::Written;
 use crate::write::put_head;
 
+// A packet's bytes besides its content, with a trade date: the first four, tag 0x05 with its data, the message's header.
+pub const OVERHEAD: usize = 4 + 6 + 16;
+// At most so many packets a message.
+pub const MOST_PACKETS: usize = 17;
+
 // What all packets of a message bear: the trade date, if any, TID, series and number.
 pub struct Message {
     pub date: TradeDate,

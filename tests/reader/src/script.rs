@@ -231,6 +231,7 @@ pub fn whole_script() -> (Script, usize) {
     let mut s = Script::new(LOG, CHAIN);
     serving::examples(&mut s);
     receiving::examples(&mut s);
+    serving::biggest(&mut s);
     let from = s.calls.len();
     faulty_line(&mut s, 2_000_000_000);
     serving::last_marks(&mut s);

@@ -4,6 +4,7 @@ use mathlib.Core.Path.{_≡_, refl, sym, ap, _∙_}
 use mathlib.Core.List.{List, [], _∷_, _++_, map, append-assoc, append-nil}
 use mathlib.Core.Bool.{Bool, true, false, _&&_}
 use native.Mathlib.Omega.{arith}
+use native.Mathlib.Nat.{zero-mul, suc-mul}
 use borrow.Author.Tests.{le-ltb, leb-true, leb-false, eq-eqb}
 use lib.ListN.{length, getD, take, length-append, length-take}
 use lib.Seq.{getD-take}
@@ -16,7 +17,8 @@ use Rattle.ftd.specs.Fields.{field, fieldsOf, exactRun, allSmall, shaped
 use Rattle.ftd.specs.Packet.{notOnePacket, noMessagePacket, span, readOf, datedOf}
 use Rattle.ftd.specs.Write.{packetBytes, messageBytes, fine, messageVerdict}
 use Rattle.ftd.specs.Chain.{Piece, noFields, withField, pack, piecesOf, chainAt, headerFor, packetFor, isNil}
-use Rattle.ftd.specs.Chain.{framed, packetsOf}
+use Rattle.ftd.specs.Chain.{framed, packetsOf, overheadOf, overhead}
+use Rattle.ftd.specs.Chain.Helpers.{sizeOf}
 use Rattle.ftd.specs.Chain.Laws.{packetForm, pieceAtPlace, packetAtPlace, letterAt, ChainLaws}
 use Rattle.ftd.specs.declared.tags.TradeDate.{TradeDate}
 use Rattle.ftd.specs.declared.tags.TradeDate.the-variants.{None, At}
@@ -32,8 +34,8 @@ use Rattle.ftd.proofs.runs.Heads.{front-whole}
 use Rattle.ftd.proofs.runs.Joined.{Entry, Entries, run-of, Local, run-entries}
 use Rattle.ftd.proofs.packet.Laws.{by-test}
 use Rattle.ftd.proofs.write.Laws.{message-back, message-places, dated-back, message-one}
-use Rattle.ftd.proofs.write.Puts.{length-packet}
-use Rattle.ftd.proofs.chain.Pieces.{shaped-facts, framed-count, pieces-some}
+use Rattle.ftd.proofs.write.Puts.{length-packet, length-message}
+use Rattle.ftd.proofs.chain.Pieces.{shaped-facts, framed-count, framed-size, pieces-some}
 use Rattle.ftd.proofs.chain.Singles.{exact-shaped, one-piece}
 
 -- ─── The trade date ───
@@ -343,6 +345,41 @@ unfolding packetsOf
 cut-back m content =
     run-of packetForm some-packet (framed m true (piecesOf content)) (framed-entries m true (piecesOf content))
 
+-- ─── What packets take ───
+
+overhead-is : (d : TradeDate) → overheadOf d ≡ 4 + length (extensionBytes (tagsFor d)) + 16
+unfolding overheadOf
+overhead-is d = refl
+
+size-around : (d : TradeDate) (ps : List Piece)
+    → sizeOf (length (extensionBytes (tagsFor d))) ps
+    ≡ length (joined (map (λ (p : Piece). p .bytes) ps)) + length ps * overheadOf d
+size-around d [] = rw (zero-mul (overheadOf d)) refl
+size-around d (p ∷ ps) =
+    rw (
+      length-append (p .bytes) (joined (map (λ (x : Piece). x .bytes) ps)),
+      suc-mul (length ps) (overheadOf d),
+      size-around d ps,
+    )
+    (omega (arith, overhead-is d))
+
+takes : (m : Message) (content : List ℕ) (limit : ℕ) → shaped content limit ≡ true
+    → length (joined (packetsOf m content)) ≡ length content + length (packetsOf m content) * overheadOf (m .date)
+unfolding packetsOf
+takes m content limit s =
+    framed-size m true (piecesOf content) ∙ size-around (m .date) (piecesOf content)
+    ∙ rw (pieces-joined content limit s, framed-count m true (piecesOf content))
+
+packet-takes : (m : Message) (content : List ℕ) (i : ℕ) → i < length (packetsOf m content)
+    → length (packetAtPlace m content i) ≡ overheadOf (m .date) + length (pieceAtPlace content i .bytes)
+unfolding packetFor
+packet-takes m content i h = rw (packet-at m content i h, length-message, overhead-is) (omega arith)
+
+around : (d : TradeDate) → overheadOf d ≤ overhead
+unfolding overheadOf overhead
+around None = omega arith
+around (At d) = omega arith
+
 -- ─── Tags ───
 
 tag-follows : (t : Tag) (r : List ℕ) → tag .head + tag .follow (tagBytes t ++ r) ≡ 2 + length (t .value)
@@ -381,6 +418,9 @@ chain-laws =
       piece-whole = λ content limit i s h. good-at (piecesOf content) i (pieces-good content limit s) h;
       as-many = as-many;
       few = few;
+      packet-takes = packet-takes;
+      takes = takes;
+      around = around;
       read-back = read-back;
       trade-date-back = trade-date-back;
       piece-back = piece-back;

@@ -1,6 +1,6 @@
 -- What holds of the packets of a message (01, "Message packet", demand 2): nothing is lost, no field is split, each
 -- packet is read back as what was meant, and the packets are found again in what was written by their first four bytes.
-use Prim.Native.Nat.{ℕ, _+_, _≤_, _<_}
+use Prim.Native.Nat.{ℕ, _+_, _*_, _≤_, _<_}
 use mathlib.Core.Path.{_≡_}
 use mathlib.Core.List.{List, [], _∷_, _++_, map}
 use mathlib.Core.Bool.{true, false}
@@ -11,7 +11,8 @@ use Rattle.ftd.specs.Runs.{Form, runOf}
 use Rattle.ftd.specs.Tags.{tag, goodTags, tradeDateOf, Tag, tagBytes, tagsFor, extensionBytes}
 use Rattle.ftd.specs.Fields.{fieldsOf, exactRun, shaped, mostContent, packetContent}
 use Rattle.ftd.specs.Packet.{extensionLength, bodyLength, notOnePacket, noMessagePacket, span, readOf, datedOf}
-use Rattle.ftd.specs.Chain.{Piece, noFields, piecesOf, chainAt, headerFor, packetsOf}
+use Rattle.ftd.specs.Chain.{Piece, noFields, piecesOf, chainAt, headerFor, packetsOf, overheadOf, overhead}
+use Rattle.ftd.specs.Chain.{mostPackets}
 use Rattle.ftd.specs.declared.tags.TradeDate.{TradeDate}
 use Rattle.ftd.specs.declared.chain.Message.{Message}
 use Rattle.ftd.specs.declared.packet.Chain.{Chain}
@@ -54,7 +55,14 @@ pub record ChainLaws : Type 0 where
   pub as-many : (m : Message) (content : List ℕ)
       → (length (packetsOf m content) ≡ length (piecesOf content)) × (0 < length (packetsOf m content))
   -- Two neighbours have more than 4,080 bytes together, so that a message has at most 17.
-  pub few : (content : List ℕ) → length content ≤ mostContent → length (piecesOf content) ≤ 17
+  pub few : (content : List ℕ) → length content ≤ mostContent → length (piecesOf content) ≤ mostPackets
+  -- A packet takes its piece and so many bytes around it, a message its content and as many around each packet; without a
+  -- trade date no more than with one.
+  pub packet-takes : (m : Message) (content : List ℕ) (i : ℕ) → i < length (packetsOf m content)
+      → length (packetAtPlace m content i) ≡ overheadOf (m .date) + length (pieceAtPlace content i .bytes)
+  pub takes : (m : Message) (content : List ℕ) (limit : ℕ) → shaped content limit ≡ true
+      → length (joined (packetsOf m content)) ≡ length content + length (packetsOf m content) * overheadOf (m .date)
+  pub around : (d : TradeDate) → overheadOf d ≤ overhead
   -- Each packet, with anything behind it, is read back: TID, series and number of the message, the letter of its place,
   -- its piece and the trade date.
   pub read-back : (m : Message) (content : List ℕ) (limit i : ℕ) (q : List ℕ) → shaped content limit ≡ true

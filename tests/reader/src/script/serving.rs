@@ -59,6 +59,20 @@ fn openings(s: &mut Script) {
     s.publish(300, STRANGE, &[], "published 1");
 }
 
+/// The biggest message there is (02, No. 5): each field a packet of its own, 17 packets of 33,210 bytes together; an output of one
+/// byte less is too small.
+pub fn biggest(s: &mut Script) {
+    let answer = right(ANSWER);
+    let mut content: Vec<u8> = (0..8).flat_map(|_| [plain(0), plain(4069)].concat()).collect();
+    content.extend(plain(114));
+    s.open(1_000_000_000, &[9], "opened");
+    s.publish(9, STRANGE, &content, "published 1");
+    s.login(9, ROOM, &asking(None, Some((9, 1))), &answer, &format!("login {}", 26 + answer.len()));
+    s.send(9, 33_209, "refused 18");
+    s.send(9, 33_210, "sent 33210");
+    s.send(9, 33_210, "none");
+}
+
 /// Marks up to the highest; no day comes behind it.
 pub fn last_marks(s: &mut Script) {
     s.open(u32::MAX - 1, &[9], "opened");
