@@ -148,8 +148,11 @@ impl Sender {
     // At most so many packets a message, so many bytes a packet, and so many bytes all packets of a message: an output
     // of as many is never too small for Send.
     pub const MOST_PACKETS: usize = ftd::chain::MOST_PACKETS;
+
     pub const MOST_PACKET: usize = ftd::fields::PACKET_CONTENT + ftd::chain::OVERHEAD;
-    pub const MOST_OUTPUT: usize = ftd::fields::MOST_CONTENT + ftd::chain::MOST_PACKETS * ftd::chain::OVERHEAD;
+
+    pub const MOST_OUTPUT: usize = ftd::fields::MOST_CONTENT
+        + ftd::chain::MOST_PACKETS * ftd::chain::OVERHEAD;
 
     // The limits, as a promise.
     pub fn limits() -> Limits

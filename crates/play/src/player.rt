@@ -1,8 +1,8 @@
 // The player of a script: a line is a call of an end, and its answer is printed as a line.
 ghost use mathlib.Core.Path.{_≡_};
-ghost use Prim.Native.Nat.{_+_, _*_, _<_, _≤_};
+ghost use Prim.Native.Nat.{_≤_};
 ghost use mathlib.Core.Bool.{true, false};
-ghost use lib.ListN.{length, replicate, take};
+ghost use lib.ListN.{length, replicate};
 ghost use Rattle.play.specs.Played.{freshPlayer, withSender, withReceiver, countedPlayer, badLine, Shows, Plays};
 ghost use Rattle.play.specs.Played.{layoutTurn, startTurn, readyTurn, callTurn, lacksRoom, playTurn, Fits};
 use crate::calls::Call;

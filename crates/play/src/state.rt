@@ -1,10 +1,11 @@
 // Both ends as lines, for people.
 ghost use mathlib.Core.Path.{_≡_};
-ghost use Prim.Native.Nat.{_+_, _*_, _≤_};
+ghost use Prim.Native.Nat.{_+_, _≤_};
 ghost use lib.ListN.{length};
 ghost use Rattle.listing.specs.Text.{WroteText, decimalOf};
 ghost use Rattle.play.specs.State.{dateText, shownPlaces, servingLine, nextText, servedLine, servedLines};
-ghost use Rattle.play.specs.State.{receivingLine, loginText, chainText, keptText, liveText, keptLine, keptLines, stateLines};
+ghost use Rattle.play.specs.State.{receivingLine, loginText, chainText, keptText, liveText, keptLine};
+ghost use Rattle.play.specs.State.{keptLines, stateLines};
 use crate::text::put_numbered;
 use flow::receiver::KeptSeries;
 use flow::receiver::LiveSeries;

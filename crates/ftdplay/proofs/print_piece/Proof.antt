@@ -30,9 +30,10 @@ loop-less c = search (needs, less)
 
 loop-again : tie.Need-loop-again Inv-loop μ-loop
 loop-again c =
-    let i = c .before .before .before .before .before .before .before .before .before .before .before .before .before .before .before .before .before .before .before .before .before .before .before .before .loop .inv in
-    let t = c .before .before .before .before .before .before .before .before .before .before .before .before .before .before .before .before .before .before .before .before .before .take-line in (
-      omega (arith, i .0, t .ensures .1),
+    let k = c .before .before .before .before .before .before .before .before .before .before .before .before in
+    let t = k .before .before .before .before .before .before .before .before .before in
+    let i = t .before .before .before .loop .inv in (
+      omega (arith, i .0, t .take-line .ensures .1),
       omega (arith, i .1),
       omega (arith, i .2),
       omega (arith, i .3),

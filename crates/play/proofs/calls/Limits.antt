@@ -16,8 +16,9 @@ use Rattle.play.specs.declared.calls.Verb.the-variants.{Connect as Names
 use Rattle.play.specs.declared.calls.Verb.the-variants.{Answer as NamesAnswer, Receive as NamesReceive}
 use Rattle.play.specs.declared.calls.Verb.the-variants.{State as NamesState}
 use Rattle.play.specs.declared.calls.Call.{Call}
-use Rattle.play.specs.declared.calls.Call.the-variants.{Bad, OpenDay, Login, Send, OpenEnd, Connect, Ask, Receive, State}
-use Rattle.play.specs.Words.{endOf, mostNamed}
+use Rattle.play.specs.declared.calls.Call.the-variants.{Bad, OpenDay, Login, Send, OpenEnd, Connect}
+use Rattle.play.specs.declared.calls.Call.the-variants.{Ask, Receive, State}
+use Rattle.play.specs.Words.{endOf}
 use Rattle.play.specs.Calls.{verbOf, buffersWith, openDayWith, publishWith, loginCallWith, sendWith, openEndWith}
 use Rattle.play.specs.Calls.{askWith, answerWith, plainCall, namedCall, callOf, Limited}
 

@@ -67,7 +67,8 @@ module _ (p : Player) (r : Played) (t t′ : List ℕ) where
   pub publish-played : (s tid : ℕ) (content said log part : List ℕ)
       → ShowsPublish p s tid content (take (p .log) log) part r t t′ → content ≡ said
       → PlaysPublish p s tid said log (part ++ drop (p .log) log) r t t′
-  publish-played s tid content said log part h e = (rw e at (h .0), rw e at (ap (λ (l : List ℕ). l ++ drop (p .log) log) (h .1)))
+  publish-played s tid content said log part h e =
+      (rw e at (h .0), rw e at (ap (λ (l : List ℕ). l ++ drop (p .log) log) (h .1)))
 
   pub login-played : (s n room : ℕ) (packet content said given out : List ℕ)
       → ShowsLogin p s packet content n out r t t′ → n ≡ room → packet ≡ said → content ≡ given

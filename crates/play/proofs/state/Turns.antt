@@ -1,25 +1,20 @@
 -- The state's lines, one behind the other, over plain variables. Assumes nothing.
 use Prim.Native.Nat.{ℕ, _+_, _<_, _≤_}
-use mathlib.Core.Path.{_≡_, refl}
-use mathlib.Core.List.{List, []}
+use mathlib.Core.Path.{_≡_}
+use mathlib.Core.List.{List}
 use mathlib.Core.Bool.{Bool, true, false}
 use native.Mathlib.Numerals.{add-one}
 use native.Mathlib.Omega.{arith}
 use lib.ListN.{length}
 use Rattle.ftd.specs.declared.tags.TradeDate.{TradeDate}
 use Rattle.ftd.specs.declared.tags.TradeDate.the-variants.{None, At}
-use Rattle.flow.specs.declared.sender.DaySeries.{DaySeries}
 use Rattle.flow.specs.declared.sender.Place.{Place}
-use Rattle.flow.specs.declared.sender.Sender.{Sender}
-use Rattle.flow.specs.declared.receiver.KeptSeries.{KeptSeries}
-use Rattle.flow.specs.declared.receiver.LiveSeries.{LiveSeries}
-use Rattle.flow.specs.declared.receiver.Receiver.{Receiver}
 use Rattle.listing.specs.Text.{WroteText, decimalOf}
 use Rattle.listing.proofs.Numbers.{digits-most}
 use Rattle.listing.proofs.Texts.{wrote-both, put-none}
 use Rattle.play.specs.Lines.{numbered, none}
-use Rattle.play.specs.State.{dateText, linesUpTo, shownPlaces, servedAt, servedLine, servedLines, keptAt, keptLine}
-use Rattle.play.specs.State.{keptLines, nextText, outWord, loginText, isIn, isOut, chainText, chainWord, noChain}
+use Rattle.play.specs.State.{dateText, linesUpTo, shownPlaces, nextText, outWord, loginText, isIn, isOut}
+use Rattle.play.specs.State.{chainText, chainWord, noChain}
 
 -- A number of eight bytes has at most 20 digits.
 pub decimal-fits : (x at m : ℕ) → x < 18446744073709551616 → at + 20 ≤ m → at + length (decimalOf x) ≤ m

@@ -1,7 +1,7 @@
 -- The words behind the first one, over plain variables. Assumes nothing.
 use Prim.Native.Nat.{ℕ, zero, suc, _+_, _-_, _<_, _≤_}
 use mathlib.Core.Path.{_≡_, refl, sym, _∙_}
-use mathlib.Core.List.{List, [], _∷_, _++_}
+use mathlib.Core.List.{List, [], _++_}
 use mathlib.Core.Bool.{Bool, true, false, cond}
 use native.Mathlib.Nat.{add-sub-cancel-left}
 use native.Mathlib.Numerals.{add-one}
@@ -10,8 +10,8 @@ use borrow.Author.Tests.{lt-ltb, le-ltb}
 use lib.ListN.{length, take, drop, getD, set, drop-of-length-le, length-append, length-take, length-drop}
 use lib.Seq.{drop-cons, set-at, append-snoc, take-at}
 use lib.Dec.{eqb, ltb}
-use Rattle.play.specs.Words.{upToSpace, endOf, numberIn, saysBytes, nextEnd, endAt, argument, hasArguments, allBytes}
-use Rattle.play.specs.Words.{mostNamed, seriesBehind, seriesCount, seriesAt, seriesFrom}
+use Rattle.play.specs.Words.{upToSpace, endOf, numberIn, saysBytes, nextEnd, endAt, argument, hasArguments}
+use Rattle.play.specs.Words.{allBytes, mostNamed, seriesBehind, seriesCount, seriesAt, seriesFrom}
 
 -- ─── Where words end ───
 

@@ -80,7 +80,9 @@ module _ (l o w v : List ℕ) (n : ℕ) (e : w ≡ v) (q : o ≡ put l 0 (saidBy
         ∙ append-assoc (saidBytes w) (saidBytes x) (drop (length (saidBytes w ++ saidBytes x)) l))
 
     pub both-front : take n o₂ ≡ saidBytes v
-    both-front = rw (joined, ← e) (take-at (saidBytes w) (saidBytes x ++ drop (length (saidBytes w ++ saidBytes x)) l) n (sym z))
+    both-front =
+        rw (joined, ← e)
+        (take-at (saidBytes w) (saidBytes x ++ drop (length (saidBytes w ++ saidBytes x)) l) n (sym z))
 
     pub both-behind : take ((n + m) - n) (drop n o₂) ≡ saidBytes y
     both-behind =

@@ -1,7 +1,8 @@
 -- `calls::named_call` meets its contract. Assumes nothing.
 use borrow.Author.Needs.{needs}
-use Rattle.play.proofs.calls.Rows.{names-buffers, names-day, names-publish, names-login, names-send, names-end, names-connect}
-use Rattle.play.proofs.calls.Rows.{names-ask, names-answer, names-receive, names-state}
+use Rattle.play.proofs.calls.Rows.{names-buffers, names-day, names-publish, names-login, names-send}
+use Rattle.play.proofs.calls.Rows.{names-end, names-connect, names-ask, names-answer, names-receive}
+use Rattle.play.proofs.calls.Rows.{names-state}
 use Rattle.play.proofs.calls.named_call.Statement.{statement}
 use Rattle.play.proofs.calls.named_call.Tie as tie
 

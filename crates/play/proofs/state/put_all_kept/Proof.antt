@@ -46,12 +46,13 @@ loop-less c = search needs
 
 loop-again : tie.Need-loop-again Inv-loop μ-loop
 loop-again c =
-    let l = c .before .before .before .before .before .before .before .loop in
-    let s = c .before .before .before .before .before .before .before .before .before .before .before .before .args .receiver in (
+    let k = c .before .before .before .before .before .before .before in
+    let s = k .before .before .before .before .before .args .receiver in (
       search needs,
       search needs,
       search needs,
-      lines-turn (keptAt (s .kept .series) (s .live .series)) (l .i) (omega arith) (l .inv .3) (c .before .before .put-kept .ensures .0),
+      lines-turn (keptAt (s .kept .series) (s .live .series)) (k .loop .i) (omega arith) (k .loop .inv .3)
+          (c .before .before .put-kept .ensures .0),
     )
 
 same-length : tie.Need-same-length Inv-loop μ-loop

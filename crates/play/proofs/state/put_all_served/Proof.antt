@@ -46,12 +46,13 @@ loop-less c = search needs
 
 loop-again : tie.Need-loop-again Inv-loop μ-loop
 loop-again c =
-    let l = c .before .before .before .before .before .before .before .loop in
-    let s = c .before .before .before .before .before .before .before .before .before .before .before .before .args .sender in (
+    let k = c .before .before .before .before .before .before .before in
+    let s = k .before .before .before .before .before .args .sender in (
       search needs,
       search needs,
       search needs,
-      lines-turn (servedAt (s .day .series) (s .seat .places)) (l .i) (omega arith) (l .inv .3) (c .before .before .put-served .ensures .0),
+      lines-turn (servedAt (s .day .series) (s .seat .places)) (k .loop .i) (omega arith) (k .loop .inv .3)
+          (c .before .before .put-served .ensures .0),
     )
 
 same-length : tie.Need-same-length Inv-loop μ-loop

@@ -17,7 +17,10 @@ same-length c = search needs
 
 returns : tie.Need-returns
 unfolding keptLine
-returns c = (wrote-both (omega arith) (c .before .before .before .before .before .before .put-kept-text .ensures .0) (c .before .before .put-live-text .ensures .0), search needs)
+returns c =
+    let s2 = c .before .before in
+    let s1 = s2 .before .before .before .before in
+    (wrote-both (omega arith) (s1 .put-kept-text .ensures .0) (s2 .put-live-text .ensures .0), search needs)
 
 pub put-kept-spec : {M : Type 1} → statement M
 put-kept-spec =

@@ -38,7 +38,19 @@ same-length c = search needs
 
 returns : tie.Need-returns
 unfolding keptText
-returns c = (rw (← (c .before .before .before .before .before .before .before .before .before .before .before .before .before .before .before .before .before .before .before .before .before .size16 .ensures .0), ← (c .before .before .before .size32 .ensures .0)) (wrote-both (omega arith) (wrote-both (omega arith) (wrote-both (omega arith) (wrote-both (omega arith) (c .before .before .before .before .before .before .before .before .before .before .before .before .before .before .before .before .before .before .before .before .put-numbered .ensures .0) (c .before .before .before .before .before .before .before .before .before .before .before .before .before .before .before .before .put-byte .ensures)) (c .before .before .before .before .before .before .before .before .before .before .before .before .put-date .ensures .0)) (c .before .before .before .before .before .before .before .before .put-byte2 .ensures)) (c .before .before .put-numbered2 .ensures .0)), search needs)
+returns c =
+    let s5 = c .before .before in
+    let s4 = s5 .before .before .before .before .before .before in
+    let s3 = s4 .before .before .before .before in
+    let s2 = s3 .before .before .before .before in
+    let s1 = s2 .before .before .before .before in
+    let t2 = wrote-both (omega arith) (s1 .put-numbered .ensures .0) (s2 .put-byte .ensures) in
+    let t3 = wrote-both (omega arith) t2 (s3 .put-date .ensures .0) in
+    let t4 = wrote-both (omega arith) t3 (s4 .put-byte2 .ensures) in (
+      rw (← (s1 .before .size16 .ensures .0), ← (s5 .before .size32 .ensures .0))
+          (wrote-both (omega arith) t4 (s5 .put-numbered2 .ensures .0)),
+      search needs,
+    )
 
 pub put-kept-text-spec : {M : Type 1} → statement M
 put-kept-text-spec =

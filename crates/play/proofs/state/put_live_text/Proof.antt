@@ -21,7 +21,12 @@ same-length c = search needs
 
 returns : tie.Need-returns
 unfolding liveText wordLine
-returns c = (wrote-both (omega arith) (wrote-both (omega arith) (c .before .before .before .before .before .before .before .before .before .before .put-login .ensures .0) (c .before .before .before .before .before .before .put-chain .ensures .0)) (c .before .before .put-byte .ensures), search needs)
+returns c =
+    let s3 = c .before .before in
+    let s2 = s3 .before .before .before .before in
+    let s1 = s2 .before .before .before .before in
+    let t2 = wrote-both (omega arith) (s1 .put-login .ensures .0) (s2 .put-chain .ensures .0) in
+    (wrote-both (omega arith) t2 (s3 .put-byte .ensures), search needs)
 
 pub put-live-text-spec : {M : Type 1} → statement M
 put-live-text-spec =

@@ -21,7 +21,10 @@ same-length c = search needs
 
 returns : tie.Need-returns
 unfolding receivingLine wordLine
-returns c = (wrote-both (omega arith) (c .before .before .before .before .before .before .put-numbered .ensures .0) (c .before .before .put-byte .ensures), search needs)
+returns c =
+    let s2 = c .before .before in
+    let s1 = s2 .before .before .before .before in
+    (wrote-both (omega arith) (s1 .put-numbered .ensures .0) (s2 .put-byte .ensures), search needs)
 
 pub put-receiving-spec : {M : Type 1} → statement M
 put-receiving-spec =

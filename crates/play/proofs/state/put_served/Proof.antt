@@ -45,7 +45,22 @@ same-length c = search needs
 
 returns : tie.Need-returns
 unfolding servedLine wordLine
-returns c = (rw (← (c .before .before .before .before .before .before .before .before .before .before .before .before .before .before .before .before .before .before .before .before .before .before .before .before .before .before .size16 .ensures .0), ← (c .before .before .before .before .before .before .before .before .before .before .before .before .before .before .before .before .size32 .ensures .0)) (wrote-both (omega arith) (wrote-both (omega arith) (wrote-both (omega arith) (wrote-both (omega arith) (wrote-both (omega arith) (c .before .before .before .before .before .before .before .before .before .before .before .before .before .before .before .before .before .before .before .before .before .before .before .before .before .put-numbered .ensures .0) (c .before .before .before .before .before .before .before .before .before .before .before .before .before .before .before .before .before .before .before .before .before .put-byte .ensures)) (c .before .before .before .before .before .before .before .before .before .before .before .before .before .before .before .put-numbered2 .ensures .0)) (c .before .before .before .before .before .before .before .before .before .before .put-word .ensures)) (c .before .before .before .before .before .before .put-next .ensures .0)) (c .before .before .put-byte2 .ensures)), search needs)
+returns c =
+    let s6 = c .before .before in
+    let s5 = s6 .before .before .before .before in
+    let s4 = s5 .before .before .before .before in
+    let s3 = s4 .before .before .before .before .before in
+    let s2 = s3 .before .before .before .before .before .before in
+    let s1 = s2 .before .before .before .before in
+    let p = s1 .before .before .before .before .before .pre in
+    let t2 = wrote-both (omega (arith, p)) (s1 .put-numbered .ensures .0) (s2 .put-byte .ensures) in
+    let t3 = wrote-both (omega (arith, p)) t2 (s3 .put-numbered2 .ensures .0) in
+    let t4 = wrote-both (omega (arith, p)) t3 (s4 .put-word .ensures) in
+    let t5 = wrote-both (omega (arith, p)) t4 (s5 .put-next .ensures .0) in (
+      rw (← (s1 .before .size16 .ensures .0), ← (s3 .before .size32 .ensures .0))
+          (wrote-both (omega (arith, p)) t5 (s6 .put-byte2 .ensures)),
+      search needs,
+    )
 
 pub put-served-spec : {M : Type 1} → statement M
 put-served-spec =

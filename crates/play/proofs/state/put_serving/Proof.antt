@@ -33,7 +33,18 @@ same-length c = search needs
 
 returns : tie.Need-returns
 unfolding servingLine wordLine
-returns c = (wrote-both (omega arith) (wrote-both (omega arith) (wrote-both (omega arith) (wrote-both (omega arith) (wrote-both (omega arith) (c .before .before .before .before .before .before .before .before .before .before .before .before .before .before .before .before .before .before .before .before .before .before .put-word .ensures) (c .before .before .before .before .before .before .before .before .before .before .before .before .before .before .before .before .before .before .put-byte .ensures)) (c .before .before .before .before .before .before .before .before .before .before .before .before .before .before .put-date .ensures .0)) (c .before .before .before .before .before .before .before .before .before .before .put-byte2 .ensures)) (c .before .before .before .before .before .before .put-number .ensures .0)) (c .before .before .put-byte3 .ensures), search needs)
+returns c =
+    let s6 = c .before .before in
+    let s5 = s6 .before .before .before .before in
+    let s4 = s5 .before .before .before .before in
+    let s3 = s4 .before .before .before .before in
+    let s2 = s3 .before .before .before .before in
+    let s1 = s2 .before .before .before .before in
+    let t2 = wrote-both (omega arith) (s1 .put-word .ensures) (s2 .put-byte .ensures) in
+    let t3 = wrote-both (omega arith) t2 (s3 .put-date .ensures .0) in
+    let t4 = wrote-both (omega arith) t3 (s4 .put-byte2 .ensures) in
+    let t5 = wrote-both (omega arith) t4 (s5 .put-number .ensures .0) in
+    (wrote-both (omega arith) t5 (s6 .put-byte3 .ensures), search needs)
 
 pub put-serving-spec : {M : Type 1} → statement M
 put-serving-spec =

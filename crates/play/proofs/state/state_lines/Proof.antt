@@ -23,7 +23,14 @@ same-length c = search needs
 
 returns : tie.Need-returns
 unfolding stateLines
-returns c = (wrote-both (omega arith) (wrote-both (omega arith) (wrote-both (omega arith) (c .before .before .before .before .before .before .before .before .before .before .before .before .before .before .put-serving .ensures .0) (c .before .before .before .before .before .before .before .before .before .before .put-all-served .ensures .0)) (c .before .before .before .before .before .before .put-receiving .ensures .0)) (c .before .before .put-all-kept .ensures .0), search needs)
+returns c =
+    let s4 = c .before .before in
+    let s3 = s4 .before .before .before .before in
+    let s2 = s3 .before .before .before .before in
+    let s1 = s2 .before .before .before .before in
+    let t2 = wrote-both (omega arith) (s1 .put-serving .ensures .0) (s2 .put-all-served .ensures .0) in
+    let t3 = wrote-both (omega arith) t2 (s3 .put-receiving .ensures .0) in
+    (wrote-both (omega arith) t3 (s4 .put-all-kept .ensures .0), search needs)
 
 pub state-lines-spec : {M : Type 1} → statement M
 state-lines-spec =

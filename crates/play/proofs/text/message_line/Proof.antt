@@ -20,7 +20,12 @@ same-length c = search needs
 
 returns : tie.Need-returns
 unfolding messageLine wordLine
-returns c = (wrote-both (omega arith) (wrote-both (omega arith) (c .before .before .before .before .before .before .before .before .before .before .put-message .ensures .0) (c .before .before .before .before .before .before .put-content .ensures .0)) (c .before .before .put-byte .ensures), search needs)
+returns c =
+    let s3 = c .before .before in
+    let s2 = s3 .before .before .before .before in
+    let s1 = s2 .before .before .before .before in
+    let t2 = wrote-both (omega arith) (s1 .put-message .ensures .0) (s2 .put-content .ensures .0) in
+    (wrote-both (omega arith) t2 (s3 .put-byte .ensures), search needs)
 
 pub message-line-spec : {M : Type 1} → statement M
 message-line-spec =

@@ -29,7 +29,17 @@ same-length c = search needs
 
 returns : tie.Need-returns
 unfolding messageStart
-returns c = (rw (← (c .before .before .before .before .before .before .before .before .before .before .before .before .before .before .before .size32 .ensures .0)) (wrote-both (omega arith) (wrote-both (omega arith) (wrote-both (omega arith) (c .before .before .before .before .before .before .before .before .before .before .before .before .before .before .put-numbered .ensures .0) (c .before .before .before .before .before .before .before .before .before .before .put-byte .ensures)) (c .before .before .before .before .before .before .put-hex .ensures .0)) (c .before .before .put-byte2 .ensures)), search needs)
+returns c =
+    let s4 = c .before .before in
+    let s3 = s4 .before .before .before .before in
+    let s2 = s3 .before .before .before .before in
+    let s1 = s2 .before .before .before .before in
+    let t2 = wrote-both (omega arith) (s1 .put-numbered .ensures .0) (s2 .put-byte .ensures) in
+    let t3 = wrote-both (omega arith) t2 (s3 .put-hex .ensures .0) in (
+      rw (← (s1 .before .size32 .ensures .0))
+          (wrote-both (omega arith) t3 (s4 .put-byte2 .ensures)),
+      search needs,
+    )
 
 pub put-message-spec : {M : Type 1} → statement M
 put-message-spec =

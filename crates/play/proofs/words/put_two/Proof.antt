@@ -25,12 +25,12 @@ same-length c = search needs
 
 returns : tie.Need-returns
 returns c =
-    let p = c .before .before .before .before .before .before .before .put-bytes in
-    let q = c .before .before .put-bytes2 in (
+    let q = c .before .before in
+    let p = q .before .before .before .before .before in (
       search (needs, both-room),
       search (needs, both-front),
-      both-behind _ _ _ _ _ (c .before .before .before .before .before .before .before .before .argument .ensures) (p .ensures .0) (p .ensures .1) _ _ _ _
-          (c .before .before .before .argument2 .ensures) (q .ensures .0) (q .ensures .1),
+      both-behind _ _ _ _ _ (p .before .argument .ensures) (p .put-bytes .ensures .0) (p .put-bytes .ensures .1) _ _ _ _
+          (q .before .argument2 .ensures) (q .put-bytes2 .ensures .0) (q .put-bytes2 .ensures .1),
     )
 
 pub put-two-spec : {M : Type 1} → statement M

@@ -32,9 +32,11 @@ call-of-requires c κs = search needs
 
 play-call-requires : tie.Need-play-call-requires
 play-call-requires c κs =
-    let a = c .before .before .before .before .before .before .before .before .before .before .before .before .before .before .before .before .before .args in
-    said-room (a .self) (a .line .now) _ _ _ _ _ _ (c .before .before .before .before .before .before .before .before .before .before .lacks-room .ensures) (c .before .before .before .before .before .before .before .before .before .if1 .left) _ (a .len) _
-    (c .before .before .before .before .before .before .before .before .counted .ensures) (c .before .before .before .before .before .call-of .ensures)
+    let k = c .before .before .before .before .before in
+    let l = k .before .before .before .before .before in
+    let a = l .before .before .before .before .before .before .before .args in
+    said-room (a .self) (a .line .now) _ _ _ _ _ _ (l .lacks-room .ensures) (k .before .before .before .before .if1 .left)
+    _ (a .len) _ (k .before .before .before .counted .ensures) (k .call-of .ensures)
 
 same-length-2 : tie.Need-same-length-2
 same-length-2 c = search needs

@@ -1,8 +1,10 @@
 -- `player::Player::play_ready` meets its contract. Assumes nothing.
 use borrow.Author.Needs.{needs}
-use Rattle.play.proofs.calls.Limits.{day-limit, end-limit, login-limit, send-limit, ask-limit, room-text, room-out}
-use Rattle.play.proofs.player.Plays.{ready-bad, ready-buffers, ready-day, ready-publish, ready-login, ready-send, ready-end}
-use Rattle.play.proofs.player.Plays.{ready-connect, ready-ask, ready-answer, ready-receive, ready-state}
+use Rattle.play.proofs.calls.Limits.{day-limit, end-limit, login-limit, send-limit, ask-limit}
+use Rattle.play.proofs.calls.Limits.{room-text, room-out}
+use Rattle.play.proofs.player.Plays.{ready-bad, ready-buffers, ready-day, ready-publish, ready-login}
+use Rattle.play.proofs.player.Plays.{ready-send, ready-end, ready-connect, ready-ask, ready-answer}
+use Rattle.play.proofs.player.Plays.{ready-receive, ready-state}
 use Rattle.play.proofs.player.Player.play_ready.Statement.{statement}
 use Rattle.play.proofs.player.Player.play_ready.Tie as tie
 
