@@ -13,3 +13,4 @@ pub mod second
 pub mod Agreement
 pub mod bench
 pub mod Biggest
+pub mod Bufferful

@@ -8,6 +8,9 @@ pub mod World
 pub mod Agreement
 pub mod Bench
 pub mod Biggest
+pub mod Several
+pub mod Bufferful
+pub mod SeveralHelpers
 pub mod Helpers
 pub mod LoginHelpers
 pub mod ReceiveHelpers

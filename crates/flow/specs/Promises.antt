@@ -14,10 +14,13 @@ use Rattle.flow.specs.declared.receiver.OpenStep.{OpenStep as OpenEndSte
 use Rattle.flow.specs.declared.receiver.Requested.{Requested}
 use Rattle.flow.specs.declared.receiver.ConfirmStep.{ConfirmStep}
 use Rattle.flow.specs.declared.receiver.ReceiveStep.{ReceiveStep}
+use Rattle.flow.specs.declared.several.ReceiveSeveralStep.{ReceiveSeveralStep}
+use Rattle.flow.specs.declared.several.PublishSeveralStep.{PublishSeveralStep}
 use Rattle.flow.specs.Answers.{Said, openedSaid, publishedSaid, loginSaid, sentSaid, requestedSaid, confirmedSaid}
 use Rattle.flow.specs.Answers.{receivedSaid}
 use Rattle.flow.specs.Serving.{openDayOf, publishOf, loginOf, sendOf}
 use Rattle.flow.specs.Receiving.{openEndOf, connectOf, requestLoginOf, confirmLoginOf, receiveOf}
+use Rattle.flow.specs.Several.{Repeated, Took, receiving, receiveSeveralOf, publishing, publishSeveralOf}
 
 -- An answer is the definition's: the paper's word of it, and the enum.
 abbrev pub Answers : {A : Type 0} → (A → Said) → A → A → Type 0
@@ -73,3 +76,22 @@ Receives e packet buffer r after =
     (r .end ≡ meant .end) × (receivedSaid packet after (r .answer) ≡ receivedSaid packet (meant .bytes) (meant .answer))
     × (r .answer ≡ meant .answer)
     × (after ≡ meant .bytes)
+
+-- ─── A bufferful (02, No. 8) ───
+
+-- What a call for several leaves, of the bytes given: the end, its answer, how many bytes it took, and the lent bytes.
+abbrev pub LeavesSeveral : {E A B : Type 0} → Repeated E A B → Took E B → List ℕ → E → B → ℕ → List ℕ → Type 0
+LeavesSeveral R meant bytes end answer taken after =
+    (end ≡ meant .end)
+    × (R .told bytes after answer ≡ R .told bytes (meant .bytes) (meant .answer))
+    × (answer ≡ meant .answer)
+    × (taken ≡ meant .taken)
+    × (after ≡ meant .bytes)
+
+abbrev pub ReceivesSeveral : Receiver → List ℕ → List ℕ → ReceiveSeveralStep → List ℕ → Type 0
+ReceivesSeveral e packets buffer r after =
+    LeavesSeveral receiving (receiveSeveralOf e packets buffer) packets (r .end) (r .answer) (r .taken) after
+
+abbrev pub PublishesSeveral : Sender → List ℕ → List ℕ → PublishSeveralStep → List ℕ → Type 0
+PublishesSeveral e records log r after =
+    LeavesSeveral publishing (publishSeveralOf e records log) records (r .end) (r .answer) (r .taken) after

@@ -2,6 +2,7 @@
 ghost use Rattle.flow.specs.Agreement.{Agreement};
 ghost use Rattle.flow.specs.Bench.{Bench};
 ghost use Rattle.flow.specs.Biggest.{Biggest};
+ghost use Rattle.flow.specs.Bufferful.{Bufferful};
 
 pub mod limits; // the limits of both
 pub mod series; // series in a list
@@ -13,6 +14,7 @@ mod confirm; // the receiving end's Answer
 pub mod sender; // the serving end
 mod receive; // the receiving end's Receive
 pub mod receiver; // the receiving end
+pub mod several; // a bufferful of packets, or of records
 
 // Demand 3, as a promise.
 pub fn keeps_agreement()
@@ -27,4 +29,9 @@ pub fn keeps_bench()
 // The biggest message there is, as a promise.
 pub fn keeps_biggest()
     ensures { λ _. ⌜ Biggest ⌝ }
+{}
+
+// A bufferful is so many single calls, as a promise.
+pub fn keeps_bufferful()
+    ensures { λ _. ⌜ Bufferful ⌝ }
 {}

@@ -13,6 +13,7 @@ pub mod plain;
 pub mod receiving;
 pub mod script;
 pub mod serving;
+pub mod several;
 pub mod start;
 #[rustfmt::skip]
 pub mod tables;
