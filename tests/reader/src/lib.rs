@@ -1,6 +1,8 @@
 //! An independent reader of the FTD protocol (JR/T 0016-2004), for tests. It is written from the papers alone and
 //! shares no code, table or generated file with the program that it tests.
 
+pub mod book;
+pub mod book_cases;
 pub mod cut;
 pub mod few;
 pub mod generate;

@@ -1,0 +1,2 @@
+-- Laws of what a field says.
+pub mod Reading

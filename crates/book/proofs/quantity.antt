@@ -1,0 +1,2 @@
+-- Laws of quantities.
+pub mod Increments

@@ -1,0 +1,178 @@
+-- Worked examples of request No. 2, computed over the definitions; the others are run by the program `bookcheck`.
+use Prim.Native.Nat.{ℕ, suc, _-_}
+use mathlib.Core.List.{List, [], _∷_, _++_}
+use mathlib.Core.Bool.{Bool, true, false, cond, _&&_}
+use lib.IntN.{ℤ, pos, negsuc}
+use lib.Dec.{T}
+use Rattle.ftd.specs.Bytes.{bytes32, joined}
+use Rattle.ftd.specs.Refusal.{numberOf}
+use Rattle.ftd.specs.Fields.{fieldWith}
+use Rattle.ftd.specs.Signed.Write.{floatBytes}
+use Rattle.ftd.specs.Bench.{same}
+use Rattle.book.specs.declared.levels.Level.{Level}
+use Rattle.book.specs.declared.sums.Mean.{Mean}
+use Rattle.book.specs.declared.sums.Mean.the-variants.{NoMean, Price}
+use Rattle.book.specs.declared.calls.Book.{Book}
+use Rattle.book.specs.declared.calls.Outcome.{Outcome}
+use Rattle.book.specs.declared.calls.Outcome.the-variants.{Done, Refused}
+use Rattle.book.specs.declared.calls.Step.{Step}
+use Rattle.book.specs.Levels.{used}
+use Rattle.book.specs.Calls.{started, takeOf, bookMean}
+
+-- ─── Messages ───
+
+-- The contract `cu0405`.
+abbrev pub code : List ℕ
+code = 99 ∷ 117 ∷ 48 ∷ 52 ∷ 48 ∷ 53 ∷ 32 ∷ 32 ∷ 32 ∷ 32 ∷ []
+
+-- Fields by kind, side, minus, units and volume.
+abbrev pub quotationField : ℕ → ℕ → Bool → ℕ → ℕ → List ℕ
+quotationField kind side negative units v =
+    fieldWith 0x000D
+    (code ++ (0 ∷ kind ∷ side ∷ (floatBytes 4 12 negative units ++ (bytes32 v ++ bytes32 0))))
+
+abbrev pub matchField : Bool → ℕ → ℕ → List ℕ
+matchField negative units v = fieldWith 0x000A (code ++ (0 ∷ 0 ∷ (floatBytes 4 12 negative units ++ (bytes32 v ++ (0 ∷ [])))))
+
+-- B=v@u, B+v@u, B-v@u, S=v@u, Mv@u of the readings, u in units.
+abbrev pub bid : ℕ → ℕ → List ℕ
+bid v u = quotationField 1 0 false u v
+
+abbrev pub bidMore : ℕ → ℕ → List ℕ
+bidMore v u = quotationField 0 0 false u v
+
+abbrev pub bidLess : ℕ → ℕ → List ℕ
+bidLess v u = quotationField 0 0 false u (4294967296 - v)
+
+abbrev pub ask : ℕ → ℕ → List ℕ
+ask v u = quotationField 1 1 false u v
+
+abbrev pub met : ℕ → ℕ → List ℕ
+met v u = matchField false u v
+
+abbrev pub metBelow : ℕ → ℕ → List ℕ
+metBelow v u = matchField true u v
+
+-- A message, and what the paper says of it: the answer (0: done) and what is shown then.
+pub record Line : Type 0 where
+  pub tid : ℕ
+  pub fields : List (List ℕ)
+  pub paper : List ℕ
+
+abbrev pub quotes : List (List ℕ) → List ℕ → Line
+quotes fs paper = record { tid = 0x2001; fields = fs; paper = paper }
+
+abbrev pub meets : List (List ℕ) → List ℕ → Line
+meets fs paper = record { tid = 0x2002; fields = fs; paper = paper }
+
+-- ─── What is shown, as numbers ───
+
+-- A sign (1: minus) and a size.
+abbrev pub signed : ℤ → List ℕ
+signed (pos n) = 0 ∷ n ∷ []
+signed (negsuc n) = 1 ∷ suc n ∷ []
+
+-- The levels of a side up to the first place that is not used: 1, quantity and price of each, and 0.
+abbrev pub levelsShown : List Level → List ℕ
+levelsShown [] = 0 ∷ []
+levelsShown (l ∷ ls) = cond (used l) (1 ∷ l .quantity ∷ (signed (l .price) ++ levelsShown ls)) (0 ∷ [])
+
+abbrev pub meanShown : Mean → List ℕ
+meanShown NoMean = 0 ∷ []
+meanShown (Price p) = 1 ∷ signed p
+
+abbrev pub answerShown : Outcome → ℕ
+answerShown Done = 0
+answerShown (Refused r) = numberOf r
+
+abbrev pub stepShown : Step → List ℕ
+stepShown s =
+    answerShown (s .answer)
+    ∷ (levelsShown (s .book .buying .levels) ++ (levelsShown (s .book .selling .levels) ++ meanShown (bookMean (s .book))))
+
+-- Answer, buying, selling, mean, as the paper has them: no level, one level.
+abbrev pub says : ℕ → List ℕ → List ℕ → List ℕ → List ℕ
+says answer buying selling mean = answer ∷ (buying ++ (selling ++ mean))
+
+abbrev pub none : List ℕ
+none = 0 ∷ []
+
+abbrev pub level : ℕ → ℕ → List ℕ
+level v u = 1 ∷ v ∷ 0 ∷ u ∷ 0 ∷ []
+
+abbrev pub mean : ℕ → List ℕ
+mean u = 1 ∷ 0 ∷ u ∷ []
+
+abbrev pub meanBelow : ℕ → List ℕ
+meanBelow u = 1 ∷ 1 ∷ u ∷ []
+
+-- ─── The table: rows of the readings, p = 123.4500 ───
+
+abbrev pub p : ℕ
+p = 1234500
+
+unfoldable pub examples : List (List Line)
+examples =
+    -- 2 increments, 22 below zero
+    (quotes (bid 10 p ∷ []) (says 0 (level 10 p) none none)
+    ∷ quotes (bidLess 3 p ∷ []) (says 0 (level 7 p) none none)
+    ∷ quotes (bidLess 8 p ∷ []) (says 22 (level 7 p) none none)
+    ∷ quotes (bidLess 7 p ∷ []) (says 0 none none none)
+    ∷ quotes (bidLess 1 p ∷ []) (says 22 none none none)
+    ∷ [])
+    -- 3 absolute ones are unsigned, 22 above 4,294,967,295
+    ∷ (quotes (bid 4294967295 p ∷ []) (says 0 (level 4294967295 p) none none)
+    ∷ quotes (bidMore 1 p ∷ []) (says 22 (level 4294967295 p) none none)
+    ∷ [])
+    -- 4 a match on both sides
+    ∷ (quotes (bid 5 p ∷ ask 3 p ∷ []) (says 0 (level 5 p) (level 3 p) none)
+    ∷ meets (met 3 p ∷ []) (says 0 (level 2 p) none (mean p))
+    ∷ [])
+    -- 5 more than one of two sides has
+    ∷ (quotes (bid 10 p ∷ ask 3 p ∷ []) (says 0 (level 10 p) (level 3 p) none)
+    ∷ meets (met 5 p ∷ []) (says 22 (level 10 p) (level 3 p) none)
+    ∷ [])
+    -- 6 a price that was quoted once has no level
+    ∷ (quotes (bid 5 p ∷ []) (says 0 (level 5 p) none none)
+    ∷ meets (met 5 p ∷ []) (says 0 none none (mean p))
+    ∷ meets (met 3 p ∷ []) (says 0 none none (mean p))
+    ∷ quotes (bidMore 2 p ∷ []) (says 0 (level 2 p) none (mean p))
+    ∷ [])
+    -- 7 the same in one message
+    ∷ (quotes (bid 5 p ∷ []) (says 0 (level 5 p) none none)
+    ∷ meets (met 5 p ∷ met 3 p ∷ []) (says 0 none none (mean p))
+    ∷ [])
+    -- 9 nothing is left of a refused message
+    ∷ (quotes (bid 10 10000 ∷ bidLess 1 20000 ∷ []) (says 22 none none none)
+    ∷ meets (met 1 10000 ∷ met 1000001 20000 ∷ []) (says 24 none none none)
+    ∷ [])
+    -- 11 field by field
+    ∷ (quotes (bid 5 p ∷ []) (says 0 (level 5 p) none none)
+    ∷ meets (met 1000001 10000 ∷ met 9 p ∷ []) (says 24 (level 5 p) none none)
+    ∷ meets (met 9 p ∷ met 1000001 10000 ∷ []) (says 22 (level 5 p) none none)
+    ∷ [])
+    -- 16 and 17 the mean, cut toward zero
+    ∷ (meets (met 5 p ∷ met 3 1234600 ∷ []) (says 0 none none (mean 1234537)) ∷ [])
+    ∷ (meets (metBelow 1 1 ∷ []) (says 0 none none (meanBelow 1))
+    ∷ meets (met 1 0 ∷ []) (says 0 none none (mean 0))
+    ∷ meets (metBelow 1 4 ∷ []) (says 0 none none (meanBelow 1))
+    ∷ [])
+    -- 18 no mean without volume
+    ∷ (meets (met 0 p ∷ []) (says 0 none none none) ∷ meets (met 1 0 ∷ []) (says 0 none none (mean 0)) ∷ [])
+    ∷ []
+
+-- ─── The test ───
+
+abbrev pub rightAfter : Book → List Line → Bool
+rightAfter b [] = true
+rightAfter b (l ∷ ls) =
+    same (stepShown (takeOf b (l .tid) (joined (l .fields)))) (l .paper)
+    && rightAfter (takeOf b (l .tid) (joined (l .fields)) .book) ls
+
+abbrev pub allRight : List (List Line) → Bool
+allRight [] = true
+allRight (ls ∷ rest) = rightAfter (started code) ls && allRight rest
+
+-- Each call of each row is answered, and shows, what the paper says.
+abbrev pub Examples : Type 0
+Examples = T (allRight examples)

@@ -1,0 +1,36 @@
+-- The sums of price times volume and of volumes over the day's matches, and their mean (request No. 2).
+use mathlib.Core.Bool.{Bool, true, cond}
+use lib.IntN.{ℤ, pos, negsuc, _+ℤ_, _*ℤ_}
+use lib.Signed.{ltZ, quotZ}
+use Rattle.book.specs.declared.levels.Level.{Level}
+use Rattle.book.specs.declared.sums.Sums.{Sums}
+use Rattle.book.specs.declared.sums.Totals.{Totals}
+use Rattle.book.specs.declared.sums.Totals.the-variants.{Over, Both}
+use Rattle.book.specs.declared.sums.Total.{Total}
+use Rattle.book.specs.declared.sums.Total.the-variants.{Beyond, Within}
+use Rattle.book.specs.declared.sums.Mean.{Mean}
+use Rattle.book.specs.declared.sums.Mean.the-variants.{NoMean, Price}
+
+abbrev pub noSums : Sums
+noSums = record { turnover = pos 0; volume = pos 0 }
+
+-- A sum beyond 9,000,000,000,000,000,000 on either side of zero.
+unfoldable pub beyond : ℤ → Bool
+beyond z = cond (ltZ (pos 9000000000000000000) z) true (ltZ z (negsuc 8999999999999999999))
+
+-- A sum with what is added to it, or refusal 24. The sum itself is never beyond the limit in a book (BookAgreement).
+unfoldable pub addedTo : ℤ → ℤ → Total
+addedTo sum x = cond (beyond sum) Beyond (cond (beyond (sum +ℤ x)) Beyond (Within (sum +ℤ x)))
+
+abbrev pub bothOf : Total → Total → Totals
+bothOf Beyond t = Over
+bothOf (Within turnover) Beyond = Over
+bothOf (Within turnover) (Within volume) = Both (record { turnover = turnover; volume = volume })
+
+-- Both sums with a match: price times volume, with its sign, and volume.
+unfoldable pub summedWith : Sums → Level → Totals
+summedWith s o = bothOf (addedTo (s .turnover) (o .price *ℤ pos (o .quantity))) (addedTo (s .volume) (pos (o .quantity)))
+
+-- The mean match price: the sum of price times volume over the sum of volumes, cut toward zero; none without volume.
+unfoldable pub meanOf : ℤ → ℤ → Mean
+meanOf sum volume = cond (ltZ (pos 0) volume) (Price (quotZ sum volume)) NoMean
