@@ -18,7 +18,7 @@ noSums = record { turnover = pos 0; volume = pos 0 }
 unfoldable pub beyond : ℤ → Bool
 beyond z = cond (ltZ (pos 9000000000000000000) z) true (ltZ z (negsuc 8999999999999999999))
 
--- A sum with what is added to it, or refusal 24. The sum itself is never beyond the limit in a book (BookAgreement).
+-- A sum with what is added to it, or refusal 24. The sum itself is never beyond the limit in a book that calls made.
 unfoldable pub addedTo : ℤ → ℤ → Total
 addedTo sum x = cond (beyond sum) Beyond (cond (beyond (sum +ℤ x)) Beyond (Within (sum +ℤ x)))
 
