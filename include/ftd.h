@@ -1,11 +1,12 @@
-/* The FTD flow repeater (JR/T 0016-2004) for C and C++: packets, data fields and items, and the two ends of a flow.
+/* The FTD flow repeater (JR/T 0016-2004) for C and C++: packets, data fields and items, the two ends of a flow, and the
+ * trading calendar.
  *
  * The library is libftd.a, for x86-64 Linux; README.md has the lines that build and link it. Of other libraries it
  * needs memcpy and memset alone. It keeps no state, takes no memory from the heap and at most 5000 bytes of stack,
  * makes no system call and always returns: each call has an answer for any bytes and numbers, and is proved to give the
  * answer, the state and every byte of every buffer that its definition says (crates/exports/specs, crates/flow/specs,
- * crates/ftd/specs). As calls share nothing, threads need no lock. examples/driver.c is a driver of both ends, to be
- * read along with this header.
+ * crates/calendar/specs, crates/ftd/specs). As calls share nothing, threads need no lock. examples/driver.c is a driver
+ * of both ends, to be read along with this header.
  *
  * THE TERMS
  * A flow is a list of messages, numbered from 1 in each series and day. A series is a number from 1 up that both sides
@@ -38,12 +39,12 @@
  * Bytes are lent as a pointer and a count. A call reads and writes only within what it is lent, and keeps no pointer.
  * Where the count is 0 the pointer may be null. What a call writes to (output, log, buffer) must not overlap what it
  * reads.
- * A state (struct ftd_sender, struct ftd_receiver) is given and answered by value: the caller keeps `end` of the answer
- * from then on, also of a refusal. It is plain data with no pointer; it may be copied, compared member by member and
- * laid away. Any values of its members are a state.
+ * A state (struct ftd_sender, struct ftd_receiver, struct ftd_calendar) is given and answered by value: the caller
+ * keeps `end` or `calendar` of the answer from then on, also of a refusal. It is plain data with no pointer; it may be
+ * copied, compared member by member and laid away. Any values of its members are a state.
  * `refusal` is 0, or a number of enum ftd_refusal: then the call did nothing, state and buffers are as they were (one
  * exception is said at ftd_receive). Where more than one refusal applies, the answer is the one that stands first in
- * the call's list below. What an answer doesn't have is 0: of a refusal all but `refusal`, `answer` and `end`.
+ * the call's list below. What an answer doesn't have is 0: of a refusal all but `refusal`, `answer` and the state.
  */
 #ifndef FTD_H
 #define FTD_H
@@ -64,7 +65,8 @@ enum ftd_refusal {
     FTD_FIELD_RUN = 7,       /* the content isn't whole data fields, or not as many as the packet says; content given to
                                 a call: also a field of more than 4074 bytes, or too many bytes in all */
     FTD_FIELD_LENGTH = 8,    /* a data field with a known FID has another length than its items together */
-    FTD_ITEM = 9,            /* an item is no value of its type */
+    FTD_ITEM = 9,            /* an item is no value of its type; a Date is all spaces, or a real date of the years 1601
+                                to 9999 */
     FTD_COMPOSITION = 10,    /* make-up: a data field occurs too seldom or too often for its message; in a login also:
                                 another TID than 0x0016, not one packet (S), a start field too many */
     FTD_OPENING = 11,        /* not 1 to 8 differing series from 1 up, a trade date that isn't above the present one, a
@@ -81,6 +83,9 @@ enum ftd_refusal {
     FTD_WRONG_START = 19,    /* the login wants number 0, or one above those published and the next */
     FTD_DAMAGED_LOG = 20,    /* the log isn't as the last call left it */
     FTD_DAY_FULL = 21,       /* 1000000 messages are published in the series */
+    FTD_SESSIONS = 26,       /* ftd_set_calendar: more than 8 sessions, one without a second or with an end above 86400,
+                                two that overlap, numbers that aren't three for each */
+    FTD_HOLIDAY = 27,        /* ftd_set_calendar: more than 32 holidays, or one that isn't a real date */
     FTD_NOT_PLAIN = 255      /* ftd_write_plain alone: neither a link packet nor a skipped one; not in the table */
 };
 
@@ -102,7 +107,9 @@ enum ftd_limit {
     FTD_MOST_PACKETS = 17,       /* packets of a message */
     FTD_MOST_PACKET = 4106,      /* bytes of one of them, as ftd_send writes it */
     FTD_MOST_OUTPUT = 33210,     /* bytes of all packets of a message: an output that is always large enough */
-    FTD_LOG_HEAD = 16            /* bytes that a message takes in the log besides its content */
+    FTD_LOG_HEAD = 16,           /* bytes that a message takes in the log besides its content */
+    FTD_MOST_SESSIONS = 8,       /* sessions of a calendar */
+    FTD_MOST_HOLIDAYS = 32       /* holidays of a calendar */
 };
 
 /* A part of lent bytes. */
@@ -195,7 +202,7 @@ enum ftd_kind {
     FTD_TEXT = 5,     /* a String: start, len */
     FTD_NUMBER = 6,   /* value, negative */
     FTD_FLOAT = 7,    /* value, negative; value counts units of the item's last decimal place: 12.50 is 1250 */
-    FTD_DAY = 8,      /* a Date: year, month, day */
+    FTD_DAY = 8,      /* a Date: year, month, day, a real date */
     FTD_UNUSED = 9    /* a Date of spaces */
 };
 
@@ -204,9 +211,9 @@ struct ftd_item {
     size_t start;     /* where the text starts in the field's bytes; when written, not looked at */
     size_t len;       /* how many bytes it has without trailing spaces; when written, not looked at */
     uint64_t value;   /* without the sign */
-    uint16_t year;    /* 0 to 9999 */
+    uint16_t year;    /* 1601 to 9999 */
     uint8_t month;    /* 1 to 12 */
-    uint8_t day;      /* 1 to 31, in each month */
+    uint8_t day;      /* 1 to the month's length, 29 February in leap years alone */
     uint8_t kind;     /* enum ftd_kind; when written, any other number is FTD_NO_VALUE */
     uint8_t negative; /* 1: below zero; when written, any number but 0 */
 };
@@ -334,6 +341,27 @@ struct ftd_received {
     uint8_t answer;          /* enum ftd_receive_answer */
     uint8_t origin;          /* message: enum ftd_origin, which of the two holds the content */
     uint8_t refusal;
+};
+
+/* ---- The trading calendar: state and answers ---- */
+
+/* A session is three numbers: its first second of the day, its last, and 0, or any other number where it is late. It
+ * runs from the first second up to but without the last, so that 32400, 36900 is 9:00:00 to 10:14:59; the last is at
+ * most 86400, and no session runs over midnight. A holiday is a date as the number YYYYMMDD: 20240101. */
+struct ftd_calendar {
+    uint32_t sessions[3 * FTD_MOST_SESSIONS]; /* three numbers each; an unused place is 0, 0, 0 */
+    uint32_t holidays[FTD_MOST_HOLIDAYS];     /* an unused place is 0 */
+};
+
+struct ftd_calendar_step {
+    struct ftd_calendar calendar;
+    uint8_t refusal;
+};
+
+/* What a time is. */
+struct ftd_trade_time {
+    uint32_t date;  /* inside: the trade date, YYYYMMDD */
+    uint8_t inside; /* 1: inside a session; 0: outside */
 };
 
 #ifdef __cplusplus
@@ -491,6 +519,29 @@ struct ftd_confirmed ftd_confirm_login(struct ftd_receiver end, uint16_t series,
  * Refusals: 12, 1, 3, 2, 4, 5, 6, 7, 13, 14, 15, 16, 17, 18. From 15 on the series' open chain is dropped, in `end`. */
 struct ftd_received ftd_receive(struct ftd_receiver end, const uint8_t *packet, size_t packet_len,
                                 uint8_t *buffer, size_t buffer_len);
+
+/* ---- The trading calendar ---- */
+
+/* A calendar with neither session nor holiday: every time is outside. */
+struct ftd_calendar ftd_calendar_fresh(void);
+
+/* Set: up to 8 sessions, three numbers each (struct ftd_calendar), and up to 32 holidays, both in any order, in place
+ * of those before. `session_numbers` is how many numbers are lent, three times the sessions; `holiday_count` how many
+ * holidays. Two sessions may touch but not overlap, late or not. Holidays may fall on a weekend, and stand twice.
+ * Refusals: 26, 27. */
+struct ftd_calendar_step ftd_set_calendar(struct ftd_calendar calendar,
+                                          const uint32_t *sessions, size_t session_numbers,
+                                          const uint32_t *holidays, size_t holiday_count);
+
+/* Ask: whether a time, in seconds since 1970 UTC, is inside a session, and its trade date. Day and second are taken in
+ * China time, UTC plus 8 hours all the year. Sessions, late ones too, run from Monday to Friday but for holidays. The
+ * trade date is the day's own; that of a late session is the next day from Monday to Friday that is no holiday: Friday
+ * night belongs to Monday. The calendar stays as it is, and isn't answered. */
+struct ftd_trade_time ftd_ask_calendar(struct ftd_calendar calendar, uint32_t seconds);
+
+/* The China date, YYYYMMDD, of a trade date of the flow (tag 5), taken as seconds since 1970 UTC. No calendar is asked:
+ * it is the date of that second, whether or not there is trade. (The two ends only compare such numbers.) */
+uint32_t ftd_mark_date(uint32_t mark);
 
 #ifdef __cplusplus
 }

@@ -70,6 +70,9 @@ expect "type 0x01 with a body of 4,096 is refused with 3, not as a message packe
 fresh_reader
 change "$work/tests/reader/src/start.rs" 'START_FIELD: u32 = 0x0004' 'START_FIELD: u32 = 0x0005'
 expect "the start field has another FID" "$root/target/lib"
+fresh_reader
+change "$work/tests/reader/src/calendar.rs" '(day + 1..).find' '(day + 1..day + 47).find'
+expect "the next trading day is looked for among 46 days" "$root/target/lib"
 
 echo "- the models of the ends"
 fresh_reader
@@ -92,8 +95,10 @@ expect "an entry's zero bytes may be any" "$root/target/lib" calls
 fresh_library() {
     rm -rf "$work/library"
     mkdir -p "$work/library/crates" "$work/library/target"
-    cp -R "$root/crates/ftd" "$root/crates/flow" "$root/crates/exports" "$work/library/crates/"
-    printf 'ftd:\nflow: ftd\nexports: ftd flow\n' >"$work/library/crates.txt"
+    for crate in ftd flow calendar exports; do
+        cp -R "$root/crates/$crate" "$work/library/crates/"
+    done
+    printf 'ftd:\nflow: ftd\ncalendar: ftd\nexports: ftd flow calendar\n' >"$work/library/crates.txt"
     # What is proved of ftd is taken over where ftd isn't changed.
     cp -R "$root/target/rlib" "$root/target/stamp" "$work/library/target/"
 }

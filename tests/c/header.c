@@ -46,6 +46,9 @@ static void sizes(void) {
     EXPECT(sizeof(struct ftd_receiver_opened) == 272);
     EXPECT(sizeof(struct ftd_confirmed) == 272);
     EXPECT(sizeof(struct ftd_received) == 296);
+    EXPECT(sizeof(struct ftd_calendar) == 224);
+    EXPECT(sizeof(struct ftd_calendar_step) == 228);
+    EXPECT(sizeof(struct ftd_trade_time) == 8);
 }
 
 /* ---- Packets ---- */
@@ -402,6 +405,99 @@ static void refusals_of_receiving(void) {
     EXPECT(ftd_confirm_login(receiver, 3, output, 26 + sizeof answer).refusal == FTD_OUT_OF_LINE);
 }
 
+/* ---- The trading calendar ---- */
+
+/* Four sessions, the first late, and eight holidays. */
+static const uint32_t hours[12] = {75600, 86400, 1, 32400, 36900, 0, 37800, 41400, 0, 48600, 54000, 0};
+static const uint32_t closed[8] = {20240101, 20240212, 20240213, 20240214, 20240215, 20240216, 20240404, 20240405};
+
+/* What ftd_set_calendar says of one session and one holiday; refused, the calendar is as it was. */
+static uint8_t set_one(uint32_t first, uint32_t last, uint32_t late, uint32_t holiday) {
+    const uint32_t session[3] = {first, last, late};
+    struct ftd_calendar fresh = ftd_calendar_fresh(), before = ftd_set_calendar(fresh, hours, 12, closed, 8).calendar;
+    struct ftd_calendar_step step = ftd_set_calendar(before, session, 3, &holiday, 1);
+
+    if (step.refusal != 0)
+        EXPECT(memcmp(&step.calendar, &before, sizeof before) == 0);
+    return step.refusal;
+}
+
+static void calendar_set(void) {
+    static const uint32_t overlap[6] = {100, 200, 0, 0, 101, 1}, touch[6] = {100, 200, 0, 0, 100, 1};
+    uint32_t many[3 * (FTD_MOST_SESSIONS + 1)], days[FTD_MOST_HOLIDAYS + 1];
+    struct ftd_calendar fresh = ftd_calendar_fresh();
+    struct ftd_calendar_step step = ftd_set_calendar(fresh, hours, 12, closed, 8);
+    uint32_t i;
+
+    for (i = 0; i <= FTD_MOST_SESSIONS; i++) {
+        many[3 * i] = 100 * i;
+        many[3 * i + 1] = 100 * i + 100;
+        many[3 * i + 2] = i % 2;
+    }
+    for (i = 0; i <= FTD_MOST_HOLIDAYS; i++)
+        days[i] = 20240101;
+    EXPECT(fresh.sessions[0] == 0 && fresh.sessions[23] == 0 && fresh.holidays[0] == 0 && fresh.holidays[31] == 0);
+    EXPECT(step.refusal == 0 && memcmp(step.calendar.sessions, hours, sizeof hours) == 0);
+    EXPECT(memcmp(step.calendar.holidays, closed, sizeof closed) == 0);
+    EXPECT(step.calendar.sessions[12] == 0 && step.calendar.sessions[23] == 0 && step.calendar.holidays[8] == 0);
+    EXPECT(set_one(86399, 86400, 0, 20240229) == 0 && set_one(0, 86400, 1, 16010101) == 0);
+    EXPECT(set_one(100, 100, 0, 20240101) == FTD_SESSIONS && set_one(75600, 9000, 1, 20240101) == FTD_SESSIONS);
+    EXPECT(set_one(86399, 86401, 0, 20240101) == FTD_SESSIONS && set_one(100, 100, 0, 20230229) == FTD_SESSIONS);
+    EXPECT(set_one(0, 100, 0, 20230229) == FTD_HOLIDAY && set_one(0, 100, 0, 21000229) == FTD_HOLIDAY);
+    EXPECT(set_one(0, 100, 0, 16001231) == FTD_HOLIDAY && set_one(0, 100, 0, 100000101) == FTD_HOLIDAY);
+    EXPECT(set_one(0, 100, 0, 0) == FTD_HOLIDAY && set_one(0, 100, 0, 99991231) == 0);
+    EXPECT(ftd_set_calendar(fresh, touch, 6, closed, 8).refusal == 0);
+    EXPECT(ftd_set_calendar(fresh, overlap, 6, closed, 8).refusal == FTD_SESSIONS);
+    EXPECT(ftd_set_calendar(fresh, hours, 11, closed, 8).refusal == FTD_SESSIONS);
+    EXPECT(ftd_set_calendar(fresh, many, 24, days, FTD_MOST_HOLIDAYS).refusal == 0);
+    EXPECT(ftd_set_calendar(fresh, many, 27, days, FTD_MOST_HOLIDAYS + 1).refusal == FTD_SESSIONS);
+    EXPECT(ftd_set_calendar(fresh, many, 24, days, FTD_MOST_HOLIDAYS + 1).refusal == FTD_HOLIDAY);
+}
+
+/* The trade date of a time, 0 where it is outside. */
+static uint32_t asked(struct ftd_calendar calendar, uint32_t seconds) {
+    struct ftd_trade_time time = ftd_ask_calendar(calendar, seconds);
+
+    EXPECT(time.inside == (time.date != 0));
+    return time.date;
+}
+
+static void calendar_asked(void) {
+    static const uint32_t always[3] = {0, 86400, 0}, late[3] = {0, 86400, 1};
+    struct ftd_calendar fresh = ftd_calendar_fresh();
+    struct ftd_calendar k = ftd_set_calendar(fresh, hours, 12, closed, 8).calendar, l;
+    uint32_t days[FTD_MOST_HOLIDAYS], day, n = 0;
+
+    EXPECT(asked(k, 1707397199) == 0 && asked(k, 1707397200) == 20240209);        /* Thursday 20:59:59, 21:00:00 */
+    EXPECT(asked(k, 1707483600) == 20240219 && asked(k, 1707494399) == 20240219); /* Friday before the holidays */
+    EXPECT(asked(k, 1707494400) == 0 && asked(k, 1707699600) == 0);               /* Saturday 0:00:00, a holiday */
+    EXPECT(asked(k, 1708088400) == 0 && asked(k, 1708261200) == 0);        /* nights of a holiday and of a Sunday */
+    EXPECT(asked(k, 1708304399) == 0 && asked(k, 1708304400) == 20240219); /* Monday 9:00:00 */
+    EXPECT(asked(k, 1708308899) == 20240219 && asked(k, 1708308900) == 0); /* 10:14:59, 10:15:00 */
+    EXPECT(asked(k, 1712152800) == 20240408 && asked(k, 1703858400) == 20240102);
+    EXPECT(asked(k, 0) == 0 && asked(k, 3600) == 19700101 && asked(k, 520563600) == 19860701);
+    EXPECT(asked(k, 4294818000) == 21060208 && asked(k, UINT32_MAX) == 0);
+    EXPECT(asked(fresh, 1708304400) == 0);
+    l = ftd_set_calendar(fresh, always, 3, NULL, 0).calendar;
+    EXPECT(asked(l, 0) == 19700101 && asked(l, 1704470399) == 20240105 && asked(l, 1704470400) == 0);
+    /* All weekdays from the 4th of January 2024, a Thursday, to the 16th of February. */
+    for (day = 4; day <= 47; day++)
+        if (day % 7 != 6 && day % 7 != 0)
+            days[n++] = day <= 31 ? 20240100 + day : 20240200 + day - 31;
+    EXPECT(n == FTD_MOST_HOLIDAYS);
+    l = ftd_set_calendar(fresh, late, 3, days, n).calendar;
+    EXPECT(asked(l, 1704254400) == 20240219); /* Wednesday the 3rd: 47 days on */
+}
+
+static void marks(void) {
+    EXPECT(ftd_mark_date(0) == 19700101 && ftd_mark_date(57599) == 19700101 && ftd_mark_date(57600) == 19700102);
+    EXPECT(ftd_mark_date(951753599) == 20000228 && ftd_mark_date(951753600) == 20000229);
+    EXPECT(ftd_mark_date(951839999) == 20000229 && ftd_mark_date(951840000) == 20000301);
+    EXPECT(ftd_mark_date(1704038399) == 20231231 && ftd_mark_date(1704038400) == 20240101);
+    EXPECT(ftd_mark_date(2147483648u) == 20380119 && ftd_mark_date(UINT32_MAX) == 21060207);
+    EXPECT(ftd_mark_date(4107513599u) == 21000228 && ftd_mark_date(4107513600u) == 21000301);
+}
+
 /* ---- Null pointers, and states of any values ---- */
 
 static void nulls_below(void) {
@@ -452,14 +548,26 @@ static void nulls_at_the_ends(void) {
     EXPECT(ftd_receive(receiver, heart, sizeof heart, NULL, 0).answer == FTD_RECEIVE_IDLE);
 }
 
+static void nulls_in_a_calendar(void) {
+    struct ftd_calendar fresh = ftd_calendar_fresh();
+    struct ftd_calendar k = ftd_set_calendar(fresh, hours, 12, closed, 8).calendar;
+    struct ftd_calendar_step step = ftd_set_calendar(k, NULL, 0, NULL, 0);
+
+    EXPECT(step.refusal == 0 && memcmp(&step.calendar, &fresh, sizeof fresh) == 0);
+    EXPECT(memcmp(ftd_set_calendar(k, hours, 12, NULL, 0).calendar.sessions, k.sessions, sizeof k.sessions) == 0);
+    EXPECT(memcmp(ftd_set_calendar(k, NULL, 0, closed, 8).calendar.holidays, k.holidays, sizeof k.holidays) == 0);
+}
+
 /* No call goes wrong on a state that none has made: all bytes are 255, so that each count and place is too high. */
 static void any_state(void) {
     struct ftd_sender sender;
     struct ftd_receiver receiver;
+    struct ftd_calendar calendar;
     uint8_t bytes[34];
 
     memset(&sender, 255, sizeof sender);
     memset(&receiver, 255, sizeof receiver);
+    memset(&calendar, 255, sizeof calendar);
     memcpy(bytes, dated, sizeof bytes);
     bytes[15] = 'C';
     bytes[16] = bytes[17] = 255;
@@ -472,6 +580,10 @@ static void any_state(void) {
     EXPECT(ftd_receive(receiver, bytes, sizeof bytes, buffer, sizeof buffer).refusal == FTD_OTHER_DAY);
     EXPECT(ftd_request_login(receiver, 65535, request, sizeof request, login, sizeof login).refusal == 0);
     EXPECT(ftd_connect(receiver).series[7].login == 0 && ftd_connect(receiver).series[7].last == UINT32_MAX);
+    EXPECT(asked(calendar, 1708304400) == 0);
+    memset(calendar.sessions, 0, 4);
+    EXPECT(asked(calendar, 1708304400) == 20240220); /* from second 0 on, late */
+    EXPECT(ftd_set_calendar(calendar, NULL, 0, NULL, 0).calendar.holidays[31] == 0);
 }
 
 int main(void) {
@@ -487,8 +599,12 @@ int main(void) {
     flow();
     refusals_of_serving();
     refusals_of_receiving();
+    calendar_set();
+    calendar_asked();
+    marks();
     nulls_below();
     nulls_at_the_ends();
+    nulls_in_a_calendar();
     any_state();
     if (!failed)
         printf("header: ok\n");

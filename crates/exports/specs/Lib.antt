@@ -3,4 +3,5 @@ pub mod Numbers
 pub mod Items
 pub mod Serving
 pub mod Receiving
+pub mod Trading
 pub mod Laws

@@ -11,6 +11,7 @@ use Rattle.ftd.specs.Write.{packetBytes, headerBytes, messageBytes}
 use Rattle.ftd.specs.Chain.{piecesOf, headerFor, packetFor, packetsOf}
 use Rattle.ftd.specs.Chain.Laws.{packetForm}
 use Rattle.ftd.specs.Table.{enumerations, table, rowsOf}
+use Rattle.ftd.specs.Gregorian.{leapYear, months, monthDays, realDate}
 use Rattle.ftd.specs.Values.{isListed, isNumber, withoutPoint, isFloat, isDate, isValue}
 use Rattle.ftd.specs.Items.{wrongWidth, walkOf, wrongItem, checkOf}
 use Rattle.ftd.specs.Places.{itemOf, itemBytes}
@@ -25,7 +26,8 @@ unfolding be16Of be32Of put front runOf tag lengthRight knownTags countDate good
     saidLength extensionOf versionOf tidOf letterOf seriesOf messageNumberOf fieldCountOf contentLengthOf contentOf
     restMissing missingOf wrongBody isSkipped isLetter chainOf headerOf acceptedOf messageOf wholeOf readOf withDate datedOf
     notOnePacket noMessagePacket packetBytes headerBytes messageBytes shaped piecesOf headerFor packetFor packetsOf
-    packetForm enumerations table rowsOf isListed isNumber withoutPoint isFloat isDate isValue wrongWidth walkOf
+    packetForm enumerations table rowsOf leapYear months monthDays realDate
+    isListed isNumber withoutPoint isFloat isDate isValue wrongWidth walkOf
     wrongItem checkOf itemOf itemBytes signedOf floatValue appendixE oneIf countOf inRange composed firstOf resumeOf
     loginHeader loginBytes upToNine twelfth missingRows bench
 opened = tt

@@ -10,6 +10,7 @@ pub mod Composition
 pub mod Resume
 pub mod Login
 pub mod Table
+pub mod Gregorian
 pub mod Values
 pub mod Items
 pub mod Content

@@ -8,6 +8,7 @@ use lib.ListN.{length, getD, take, drop}
 use lib.Dec.{leb, ltb, eqb}
 use Rattle.ftd.specs.Table.{charKind, wordKind, intKind, stringKind, numberKind, floatKind, dateKind, firstListed}
 use Rattle.ftd.specs.Table.{lastListed, enumerations}
+use Rattle.ftd.specs.Gregorian.{realDate}
 
 -- ─── Classes of bytes ───
 
@@ -69,20 +70,19 @@ digitOf b = cond (isDigit b) (b - 0x30) 0
 abbrev pub twoDigits : ℕ → ℕ → ℕ
 twoDigits a b = digitOf a * 10 + digitOf b
 
+abbrev pub yearOf : List ℕ → ℕ
+yearOf l = twoDigits (getD l 0 0) (getD l 1 0) * 100 + twoDigits (getD l 2 0) (getD l 3 0)
+
 abbrev pub monthOf : List ℕ → ℕ
 monthOf l = twoDigits (getD l 4 0) (getD l 5 0)
 
 abbrev pub dayDigits : List ℕ → ℕ
 dayDigits l = twoDigits (getD l 6 0) (getD l 7 0)
 
--- Month 01 to 12, day 01 to 31.
-abbrev pub rightDay : ℕ → ℕ → Bool
-rightDay month day = (leb 1 month && leb month 12) && (leb 1 day && leb day 31)
-
--- All spaces, or YYYYMMDD with month 01 to 12 and day 01 to 31.
+-- All spaces, or YYYYMMDD with a real date (02, No. 7).
 unfoldable pub isDate : List ℕ → Bool
 isDate l =
-    eqb (length l) 8 && (every isSpace l || (every isDigit l && rightDay (monthOf l) (dayDigits l)))
+    eqb (length l) 8 && (every isSpace l || (every isDigit l && realDate (yearOf l) (monthOf l) (dayDigits l)))
 
 -- ─── An item ───
 

@@ -4,17 +4,20 @@ ghost use Prim.Native.Nat.{_≤_};
 ghost use lib.ListN.{length};
 ghost use Rattle.ftd.specs.Bytes.{put};
 ghost use Rattle.ftd.specs.Write.{writtenAnswer, writtenOutput, fitVerdict};
-ghost use Rattle.ftd.specs.Values.{monthOf, dayDigits};
-ghost use Rattle.ftd.specs.Dates.{yearOf, dateValue, dateBytes, dateFits};
-use crate::bytes::wide16;
+ghost use Rattle.ftd.specs.Values.{yearOf, monthOf, dayDigits};
+ghost use Rattle.ftd.specs.Dates.{dateValue, dateBytes, dateFits};
+ghost use Rattle.ftd.specs.Dates.Examples.{DateExamples};
+use crate::bytes::number16;
+use crate::bytes::wide32;
+use crate::gregorian::is_real;
 use crate::refusal::Refusal;
 use crate::signed::put_digits;
 use crate::texts::put_spaces;
 use crate::values::Class;
 use crate::values::all_in;
 use crate::values::is_date;
-use crate::values::right_day;
 use crate::values::two_digits;
+use crate::values::year;
 use crate::write::Written;
 
 // A value: all spaces for unused, or a day; or none where the bytes are not one.
@@ -22,14 +25,6 @@ pub enum Date {
     NoDate,
     Unused,
     Day { year: u16, month: u8, day: u8 },
-}
-
-// The year in the first four of eight bytes.
-fn year(s: &[u8]) -> u16
-    requires { ⌜ length (now s) ≡ 8 ⌝ }
-    ensures { λ r. ⌜ r ≡ yearOf (now (s .entry)) ⌝ }
-{
-    wide16(two_digits(s[0], s[1])) * 100 + wide16(two_digits(s[2], s[3]))
 }
 
 // The day in eight bytes.
@@ -65,10 +60,7 @@ fn date_fits(v: Date) -> bool
         Date::NoDate => false,
         Date::Unused => true,
         Date::Day { year, month, day } => {
-            if year <= 9999 {
-                return right_day(month, day);
-            }
-            false
+            return is_real(number16(year), wide32(month), wide32(day));
         }
     }
 }
@@ -109,3 +101,8 @@ pub fn write_date(out: &mut [u8], v: Date) -> Written
     }
     Written::Refused(Refusal::Item)
 }
+
+// The worked examples of the date item, as a promise.
+pub fn keeps_date_examples()
+    ensures { λ _. ⌜ DateExamples ⌝ }
+{}

@@ -15,6 +15,7 @@ pub mod login; // login packets
 pub mod items; // the items of a content's fields
 pub mod table; // the table of Appendix D
 pub mod kinds; // the kinds of items' types
+pub mod gregorian; // real dates: leap years and months
 pub mod values; // which bytes are a value of an item's type
 pub mod content; // the content check as one
 pub mod mode; // the mode of a message type

@@ -5,10 +5,15 @@ ghost use mathlib.Core.Path.{_≡_};
 ghost use Prim.Native.Nat.{_+_, _-_, _<_, _≤_};
 ghost use lib.ListN.{length, take, drop};
 ghost use Rattle.ftd.specs.Table.{firstListed, lastListed};
-ghost use Rattle.ftd.specs.Values.{every, isListed, isNumber, isFloat, digitOf, twoDigits, rightDay, isDate};
-ghost use Rattle.ftd.specs.Values.{isValue};
+ghost use Rattle.ftd.specs.Values.{every, isListed, isNumber, isFloat, digitOf, twoDigits, yearOf, isDate};
+ghost use Rattle.ftd.specs.Values.{monthOf, dayDigits, isValue};
+ghost use Rattle.ftd.specs.Gregorian.{realDate};
 ghost use Rattle.ftd.specs.Values.Helpers.{inClass};
+use crate::bytes::number16;
 use crate::bytes::size8;
+use crate::bytes::wide16;
+use crate::bytes::wide32;
+use crate::gregorian::is_real;
 use crate::kinds::ACTION_FLAG;
 use crate::kinds::CHAR;
 use crate::kinds::DATE;
@@ -231,6 +236,24 @@ pub(crate) fn two_digits(a: u8, b: u8) -> u8
     digit(a) * 10 + digit(b)
 }
 
+// The year in the first four of eight bytes.
+pub(crate) fn year(s: &[u8]) -> u16
+    requires { ⌜ length (now s) ≡ 8 ⌝ }
+    ensures { λ r. ⌜ r ≡ yearOf (now (s .entry)) ⌝ }
+{
+    wide16(two_digits(s[0], s[1])) * 100 + wide16(two_digits(s[2], s[3]))
+}
+
+// Eight bytes name a real date.
+fn is_real_day(s: &[u8]) -> bool
+    requires { ⌜ length (now s) ≡ 8 ⌝ }
+    ensures { λ r. ⌜ r ≡ realDate (yearOf (now (s .entry))) (monthOf (now (s .entry))) (dayDigits (now (s .entry))) ⌝ }
+{
+    let month = wide32(two_digits(s[4], s[5]));
+    let day = wide32(two_digits(s[6], s[7]));
+    is_real(number16(year(s)), month, day)
+}
+
 // The bytes are a Date.
 pub fn is_date(s: &[u8]) -> bool
     ensures { λ r. ⌜ r ≡ isDate (now (s .entry)) ⌝ }
@@ -242,25 +265,9 @@ pub fn is_date(s: &[u8]) -> bool
         return true;
     }
     if all_in(Class::Digit, s, 0, 8) {
-        return right_day(two_digits(s[4], s[5]), two_digits(s[6], s[7]));
+        return is_real_day(s);
     }
     false
-}
-
-// Month 01 to 12, day 01 to 31.
-pub(crate) fn right_day(month: u8, day: u8) -> bool
-    ensures { λ r. ⌜ r ≡ rightDay month day ⌝ }
-{
-    if month < 1 {
-        return false;
-    }
-    if 12 < month {
-        return false;
-    }
-    if day < 1 {
-        return false;
-    }
-    day <= 31
 }
 
 // A byte is listed by an enumeration, or 0.

@@ -1,5 +1,5 @@
 -- The call that a script's line says: its words, parted by one space each.
-use Prim.Native.Nat.{ℕ, _≤_}
+use Prim.Native.Nat.{ℕ, _-_, _*_, _≤_}
 use mathlib.Core.List.{List, [], _∷_}
 use mathlib.Core.Bool.{Bool, cond}
 use lib.ListN.{take}
@@ -11,15 +11,24 @@ use Rattle.play.specs.declared.calls.Verb.the-variants.{Publish as Names
 use Rattle.play.specs.declared.calls.Verb.the-variants.{Send as NamesSend, OpenEnd as NamesOpenEnd}
 use Rattle.play.specs.declared.calls.Verb.the-variants.{Connect as NamesConnect, Ask as NamesAsk}
 use Rattle.play.specs.declared.calls.Verb.the-variants.{Answer as NamesAnswer, Receive as NamesReceive}
-use Rattle.play.specs.declared.calls.Verb.the-variants.{State as NamesState}
+use Rattle.play.specs.declared.calls.Verb.the-variants.{State as NamesState, Calendar as NamesCalendar}
+use Rattle.play.specs.declared.calls.Verb.the-variants.{Mark as NamesMark}
 use Rattle.play.specs.declared.calls.Call.{Call}
 use Rattle.play.specs.declared.calls.Call.the-variants.{Bad, Buffers, OpenDay, Publish, Login, Send, OpenEnd}
 use Rattle.play.specs.declared.calls.Call.the-variants.{Connect, Ask, Answer, Receive, State}
+use Rattle.play.specs.declared.calls.Call.the-variants.{SetCalendar, AskTime, MarkDate}
 use Rattle.play.specs.Words.{endOf, numberIn, tidIn, sameWord, argument, hasForm, mostNamed, seriesCount}
+use Rattle.play.specs.Words.{mostTimes, mostDates, mostListed, wordCount}
 
 -- ─── The first word ───
 
--- `ropen`, `connect`, `ask`, `answer`, `receive`, `state`.
+-- `calendar`, `mark`.
+unfoldable pub tradingVerbOf : List ℕ → Verb
+tradingVerbOf word =
+    cond (sameWord word (99 ∷ 97 ∷ 108 ∷ 101 ∷ 110 ∷ 100 ∷ 97 ∷ 114 ∷ [])) NamesCalendar
+    (cond (sameWord word (109 ∷ 97 ∷ 114 ∷ 107 ∷ [])) NamesMark Unknown)
+
+-- `ropen`, `connect`, `ask`, `answer`, `receive`, `state`, or one of those.
 unfoldable pub endVerbOf : List ℕ → Verb
 endVerbOf word =
     cond (sameWord word (114 ∷ 111 ∷ 112 ∷ 101 ∷ 110 ∷ [])) NamesOpenEnd
@@ -27,7 +36,7 @@ endVerbOf word =
     (cond (sameWord word (97 ∷ 115 ∷ 107 ∷ [])) NamesAsk
     (cond (sameWord word (97 ∷ 110 ∷ 115 ∷ 119 ∷ 101 ∷ 114 ∷ [])) NamesAnswer
     (cond (sameWord word (114 ∷ 101 ∷ 99 ∷ 101 ∷ 105 ∷ 118 ∷ 101 ∷ [])) NamesReceive
-    (cond (sameWord word (115 ∷ 116 ∷ 97 ∷ 116 ∷ 101 ∷ [])) NamesState Unknown)))))
+    (cond (sameWord word (115 ∷ 116 ∷ 97 ∷ 116 ∷ 101 ∷ [])) NamesState (tradingVerbOf word))))))
 
 -- `buffers`, `sopen`, `publish`, `login`, `send`, or one of those.
 unfoldable pub verbOf : List ℕ → Verb
@@ -72,6 +81,21 @@ askWith right series room =
 unfoldable pub answerWith : Bool → ℕ → Call
 answerWith right series = cond right (cond (ltb 65535 series) Bad (Answer series)) Bad
 
+-- Seconds of four bytes, alone in their line; a line of another form is another call.
+unfoldable pub timeWith : Bool → ℕ → Call → Call
+timeWith alone seconds other = cond alone (cond (ltb 4294967295 seconds) Bad (AskTime seconds)) other
+
+-- At most 16 sessions of three numbers each; the numbers left are holidays, at most 64.
+unfoldable pub calendarWith : ℕ → ℕ → Call
+calendarWith sessions count =
+    cond (ltb mostTimes sessions) Bad
+    (cond (ltb mostListed count) Bad
+    (cond (ltb count (3 * sessions)) Bad
+    (cond (ltb mostDates (count - 3 * sessions)) Bad (SetCalendar sessions (count - 3 * sessions)))))
+
+unfoldable pub markWith : Bool → ℕ → Call
+markWith right mark = cond right (cond (ltb 4294967295 mark) Bad (MarkDate mark)) Bad
+
 -- A call without numbers.
 unfoldable pub plainCall : Bool → Call → Call
 plainCall right call = cond right call Bad
@@ -91,17 +115,21 @@ namedCall line NamesLogin = loginCallWith (hasForm line 2 2) (numberAt line 0) (
 namedCall line NamesSend = sendWith (hasForm line 2 0) (numberAt line 0) (numberAt line 1)
 namedCall line NamesOpenEnd = openEndWith (seriesCount line 0)
 namedCall line NamesConnect = plainCall (hasForm line 0 0) Connect
-namedCall line NamesAsk = askWith (hasForm line 2 1) (numberAt line 0) (numberAt line 1)
+namedCall line NamesAsk =
+    timeWith (hasForm line 1 0) (numberAt line 0)
+    (askWith (hasForm line 2 1) (numberAt line 0) (numberAt line 1))
 namedCall line NamesAnswer = answerWith (hasForm line 1 1) (numberAt line 0)
 namedCall line NamesReceive = plainCall (hasForm line 0 1) Receive
 namedCall line NamesState = plainCall (hasForm line 0 0) State
+namedCall line NamesCalendar = calendarWith (numberAt line 0) (wordCount line 1)
+namedCall line NamesMark = markWith (hasForm line 1 0) (numberAt line 0)
 
 unfoldable pub callOf : List ℕ → Call
 callOf line = namedCall line (verbOf (take (endOf line 0) line))
 
 -- ─── What a call keeps to ───
 
--- An output and the series of an opening are within their limits.
+-- An output, the series of an opening and the numbers of a calendar are within their limits.
 abbrev pub Limited : Call → Type 0
 Limited Bad = Unit {0}
 Limited (Buffers log chain) = Unit {0}
@@ -115,3 +143,6 @@ Limited (Ask series room) = room ≤ 65536
 Limited (Answer series) = Unit {0}
 Limited Receive = Unit {0}
 Limited State = Unit {0}
+Limited (SetCalendar sessions holidays) = (sessions ≤ mostTimes) × (holidays ≤ mostDates)
+Limited (AskTime seconds) = Unit {0}
+Limited (MarkDate mark) = Unit {0}

@@ -28,6 +28,11 @@ use Rattle.flow.specs.declared.receiver.Confirmed.the-variants.{Refused as NotC
 use Rattle.flow.specs.declared.receiver.Received.{Received}
 use Rattle.flow.specs.declared.receiver.Received.the-variants.{Idle, Duplicate, Partial, Complete}
 use Rattle.flow.specs.declared.receiver.Received.the-variants.{Refused as NotTaken}
+use Rattle.calendar.specs.declared.trading.SetAnswer.{SetAnswer}
+use Rattle.calendar.specs.declared.trading.SetAnswer.the-variants.{Done as IsSet}
+use Rattle.calendar.specs.declared.trading.SetAnswer.the-variants.{Refused as NotSet}
+use Rattle.calendar.specs.declared.trading.TradeTime.{TradeTime}
+use Rattle.calendar.specs.declared.trading.TradeTime.the-variants.{Outside, Inside}
 use Rattle.flow.specs.Answers.{contentIn}
 use Rattle.listing.specs.Text.{decimalOf, hexOf, hex8Of, newline, refused}
 
@@ -90,6 +95,18 @@ held = 104 ∷ 101 ∷ 108 ∷ 100 ∷ []
 abbrev pub message : List ℕ
 message = 109 ∷ 101 ∷ 115 ∷ 115 ∷ 97 ∷ 103 ∷ 101 ∷ []
 
+abbrev pub set : List ℕ
+set = 115 ∷ 101 ∷ 116 ∷ []
+
+abbrev pub inside : List ℕ
+inside = 105 ∷ 110 ∷ 115 ∷ 105 ∷ 100 ∷ 101 ∷ []
+
+abbrev pub outside : List ℕ
+outside = 111 ∷ 117 ∷ 116 ∷ 115 ∷ 105 ∷ 100 ∷ 101 ∷ []
+
+abbrev pub date : List ℕ
+date = 100 ∷ 97 ∷ 116 ∷ 101 ∷ []
+
 unfoldable pub refusedLine : Refusal → List ℕ
 refusedLine r = wordLine (numbered refused (numberOf r))
 
@@ -139,3 +156,19 @@ receivedLine p buffer (Duplicate k) = wordLine (numbered again k)
 receivedLine p buffer (Partial k) = wordLine (numbered held k)
 receivedLine p buffer (Complete last tid origin at) = messageLine last tid (contentIn p buffer origin at)
 receivedLine p buffer (NotTaken r) = refusedLine r
+
+-- ─── The calendar's answers ───
+
+-- `set`, or `refused` and the number.
+abbrev pub setLine : SetAnswer → List ℕ
+setLine IsSet = wordLine set
+setLine (NotSet r) = refusedLine r
+
+-- `inside` and the trade date, or `outside`.
+abbrev pub timeLine : TradeTime → List ℕ
+timeLine Outside = wordLine outside
+timeLine (Inside d) = wordLine (numbered inside d)
+
+-- `date` and the date.
+abbrev pub dateLine : ℕ → List ℕ
+dateLine d = wordLine (numbered date d)

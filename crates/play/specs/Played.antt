@@ -10,26 +10,37 @@ use Rattle.flow.specs.declared.receiver.Receiver.{Receiver}
 use Rattle.flow.specs.Ends.{freshSender, freshReceiver}
 use Rattle.flow.specs.Serving.{openDayOf, publishOf, loginOf, sendOf}
 use Rattle.flow.specs.Receiving.{openEndOf, connectOf, requestLoginOf, confirmLoginOf, receiveOf}
+use Rattle.calendar.specs.declared.trading.Calendar.{Calendar}
+use Rattle.calendar.specs.Calendar.{freshCalendar, setOf, askOf, markDate}
 use Rattle.listing.specs.Text.{WroteText}
 use Rattle.play.specs.declared.player.Player.{Player}
 use Rattle.play.specs.declared.player.Played.{Played}
 use Rattle.play.specs.declared.calls.Call.{Call}
 use Rattle.play.specs.declared.calls.Call.the-variants.{Bad, Buffers, OpenDay, Publish, Login, Send, OpenEnd}
 use Rattle.play.specs.declared.calls.Call.the-variants.{Connect, Ask, Answer, Receive, State}
-use Rattle.play.specs.Words.{argument, saidBytes, seriesFrom}
+use Rattle.play.specs.declared.calls.Call.the-variants.{SetCalendar, AskTime, MarkDate}
+use Rattle.play.specs.Words.{argument, saidBytes, seriesFrom, wordsFrom}
 use Rattle.play.specs.Calls.{callOf, Limited}
 use Rattle.play.specs.Lines.{wordLine, numbered, openedLine, publishedLine, loginAnswerLine, sentLine}
-use Rattle.play.specs.Lines.{connected, requestedLine, confirmedLine, receivedLine}
+use Rattle.play.specs.Lines.{connected, requestedLine, confirmedLine, receivedLine, setLine, timeLine, dateLine}
 use Rattle.play.specs.State.{stateLines}
 
 -- ─── The player ───
 
--- No line was given, no buffer is laid out, and the ends are fresh.
+-- No line was given, no buffer is laid out, and the ends and the calendar are fresh.
 abbrev pub freshPlayer : Player
 freshPlayer =
-    record { lines = 0; ready = false; log = 0; chain = 0; sender = freshSender; receiver = freshReceiver }
+    record {
+      lines = 0;
+      ready = false;
+      log = 0;
+      chain = 0;
+      sender = freshSender;
+      receiver = freshReceiver;
+      calendar = freshCalendar;
+    }
 
--- The player with another serving end, with another receiving end.
+-- The player with another serving end, with another receiving end, with another calendar.
 abbrev pub withSender : Player → Sender → Player
 withSender p e =
     record {
@@ -39,6 +50,7 @@ withSender p e =
       chain = p .chain;
       sender = e;
       receiver = p .receiver;
+      calendar = p .calendar;
     }
 
 abbrev pub withReceiver : Player → Receiver → Player
@@ -50,6 +62,19 @@ withReceiver p e =
       chain = p .chain;
       sender = p .sender;
       receiver = e;
+      calendar = p .calendar;
+    }
+
+abbrev pub withCalendar : Player → Calendar → Player
+withCalendar p c =
+    record {
+      lines = p .lines;
+      ready = p .ready;
+      log = p .log;
+      chain = p .chain;
+      sender = p .sender;
+      receiver = p .receiver;
+      calendar = c;
     }
 
 -- The buffers are laid out, with these lengths.
@@ -62,6 +87,7 @@ laidOut p log chain =
       chain = chain;
       sender = p .sender;
       receiver = p .receiver;
+      calendar = p .calendar;
     }
 
 -- A line more; behind 4,294,967,295 lines they are counted no further.
@@ -75,6 +101,7 @@ countedPlayer p =
       chain = p .chain;
       sender = p .sender;
       receiver = p .receiver;
+      calendar = p .calendar;
     })
     p
 
@@ -144,6 +171,17 @@ ShowsReceive p packet buffer buffer′ r before after =
 abbrev pub ShowsState : Player → Played → List ℕ → List ℕ → Type 0
 ShowsState p r before after = Shows p (stateLines (p .sender) (p .receiver)) r before after
 
+abbrev pub ShowsCalendar : Player → List ℕ → List ℕ → Played → List ℕ → List ℕ → Type 0
+ShowsCalendar p sessions holidays r before after =
+    let m = setOf (p .calendar) sessions holidays in
+    Shows (withCalendar p (m .calendar)) (setLine (m .answer)) r before after
+
+abbrev pub ShowsTime : Player → ℕ → Played → List ℕ → List ℕ → Type 0
+ShowsTime p seconds r before after = Shows p (timeLine (askOf (p .calendar) seconds)) r before after
+
+abbrev pub ShowsDate : Player → ℕ → Played → List ℕ → List ℕ → Type 0
+ShowsDate p mark r before after = Shows p (dateLine (markDate mark)) r before after
+
 -- ─── The calls, as a line makes them ───
 
 -- What a line leaves: the player, what is printed, and all bytes of log and chain buffer.
@@ -196,6 +234,12 @@ receiveTurn p packet log chain =
     turn (withReceiver p (m .end)) (receivedLine packet (m .bytes) (m .answer)) log
     (within (p .chain) (m .bytes) chain)
 
+-- So many sessions, of three numbers each, and behind them so many holidays.
+abbrev pub calendarTurn : Player → List ℕ → ℕ → ℕ → List ℕ → List ℕ → Turn
+calendarTurn p line sessions holidays log chain =
+    let m = setOf (p .calendar) (wordsFrom line 1 (3 * sessions)) (wordsFrom line (1 + 3 * sessions) holidays) in
+    turn (withCalendar p (m .calendar)) (setLine (m .answer)) log chain
+
 -- A call in buffers that are laid out: the words that say bytes are the line's.
 abbrev pub readyTurn : Player → List ℕ → List ℕ → List ℕ → Call → Turn
 readyTurn p line log chain Bad = badTurn p log chain
@@ -218,6 +262,9 @@ readyTurn p line log chain (Answer s) =
     turn (withReceiver p (m .end)) (confirmedLine (m .answer)) log chain
 readyTurn p line log chain Receive = receiveTurn p (saidBytes (argument line 0)) log chain
 readyTurn p line log chain State = turn p (stateLines (p .sender) (p .receiver)) log chain
+readyTurn p line log chain (SetCalendar sessions holidays) = calendarTurn p line sessions holidays log chain
+readyTurn p line log chain (AskTime seconds) = turn p (timeLine (askOf (p .calendar) seconds)) log chain
+readyTurn p line log chain (MarkDate mark) = turn p (dateLine (markDate mark)) log chain
 
 -- Before that, `buffers` is the only call.
 abbrev pub startTurn : Player → List ℕ → List ℕ → Call → Turn
@@ -233,6 +280,9 @@ startTurn p log chain (Ask s room) = badTurn p log chain
 startTurn p log chain (Answer s) = badTurn p log chain
 startTurn p log chain Receive = badTurn p log chain
 startTurn p log chain State = badTurn p log chain
+startTurn p log chain (SetCalendar sessions holidays) = badTurn p log chain
+startTurn p log chain (AskTime seconds) = badTurn p log chain
+startTurn p log chain (MarkDate mark) = badTurn p log chain
 
 unfoldable pub callTurn : Player → List ℕ → List ℕ → List ℕ → Call → Turn
 callTurn p line log chain call =

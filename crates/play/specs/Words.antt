@@ -106,28 +106,50 @@ allBytes line i (suc k) = cond (saysBytes (argument line i)) (allBytes line (i +
 unfoldable pub hasForm : List ℕ → ℕ → ℕ → Bool
 hasForm line numbers bytes = cond (hasArguments line (numbers + bytes)) (allBytes line numbers bytes) false
 
--- ─── The series of an opening: the arguments from one on ───
+-- ─── Lists of numbers: the arguments from one on ───
 
--- At most 64.
+-- How many numbers up to a top one there are behind n of them, looking at so many more; one more than the most where
+-- they are too many or one is no such number.
+unfoldable pub numbersBehind : ℕ → ℕ → List ℕ → ℕ → ℕ → ℕ → ℕ
+numbersBehind top most line i n zero = most + 1
+numbersBehind top most line i n (suc more) =
+    cond (hasArguments line (i + n)) n
+    (cond (ltb top (numberIn 10 (argument line (i + n)))) (most + 1) (numbersBehind top most line i (n + 1) more))
+
+unfoldable pub numberCount : ℕ → ℕ → List ℕ → ℕ → ℕ
+numberCount top most line i = numbersBehind top most line i 0 (most + 1)
+
+-- A number up to a top one; where the argument says none, 0.
+unfoldable pub numberUpTo : ℕ → List ℕ → ℕ → ℕ
+numberUpTo top line i = let x = numberIn 10 (argument line i) in cond (ltb top x) 0 x
+
+-- The n numbers from argument i on.
+unfoldable pub numbersFrom : ℕ → List ℕ → ℕ → ℕ → List ℕ
+numbersFrom top line i zero = []
+numbersFrom top line i (suc n) = numbersFrom top line i n ++ (numberUpTo top line (i + n) ∷ [])
+
+-- The series of an opening: at most 64, of two bytes each.
 abbrev pub mostNamed : ℕ
 mostNamed = 64
 
--- How many there are behind n of them, looking at so many more; one more than the most where they are too many or one
--- is no series.
-unfoldable pub seriesBehind : List ℕ → ℕ → ℕ → ℕ → ℕ
-seriesBehind line i n zero = mostNamed + 1
-seriesBehind line i n (suc more) =
-    cond (hasArguments line (i + n)) n
-    (cond (ltb 65535 (numberIn 10 (argument line (i + n)))) (mostNamed + 1) (seriesBehind line i (n + 1) more))
+abbrev pub seriesCount : List ℕ → ℕ → ℕ
+seriesCount line i = numberCount 65535 mostNamed line i
 
-unfoldable pub seriesCount : List ℕ → ℕ → ℕ
-seriesCount line i = seriesBehind line i 0 (mostNamed + 1)
+abbrev pub seriesFrom : List ℕ → ℕ → ℕ → List ℕ
+seriesFrom line i n = numbersFrom 65535 line i n
 
--- A series; where the argument says none, 0.
-unfoldable pub seriesAt : List ℕ → ℕ → ℕ
-seriesAt line i = let x = numberIn 10 (argument line i) in cond (ltb 65535 x) 0 x
+-- The numbers of a calendar, of four bytes each: at most 16 sessions of three, and 64 holidays.
+abbrev pub mostTimes : ℕ
+mostTimes = 16
 
--- The n series from argument i on.
-unfoldable pub seriesFrom : List ℕ → ℕ → ℕ → List ℕ
-seriesFrom line i zero = []
-seriesFrom line i (suc n) = seriesFrom line i n ++ (seriesAt line (i + n) ∷ [])
+abbrev pub mostDates : ℕ
+mostDates = 64
+
+abbrev pub mostListed : ℕ
+mostListed = 112
+
+abbrev pub wordCount : List ℕ → ℕ → ℕ
+wordCount line i = numberCount 4294967295 mostListed line i
+
+abbrev pub wordsFrom : List ℕ → ℕ → ℕ → List ℕ
+wordsFrom line i n = numbersFrom 4294967295 line i n

@@ -1,14 +1,15 @@
 // What a script's line says: a call, with its numbers. The words that say bytes stay in the line.
 ghost use mathlib.Core.Path.{_≡_};
 ghost use Prim.Native.Nat.{_≤_};
+ghost use Rattle.play.specs.Calls.{tradingVerbOf, timeWith, calendarWith, markWith};
 ghost use Rattle.play.specs.Calls.{endVerbOf, verbOf, buffersWith, openDayWith, publishWith, loginCallWith, sendWith};
 ghost use Rattle.play.specs.Calls.{openEndWith, askWith, answerWith, plainCall, namedCall, numberAt, callOf};
 use crate::words::argument;
 use crate::words::has_form;
 use crate::words::is_word;
+use crate::words::number_count;
 use crate::words::read_number;
 use crate::words::read_tid;
-use crate::words::series_count;
 use crate::words::word_end;
 
 // The first word of a line.
@@ -25,6 +26,8 @@ enum Verb {
     Answer,
     Receive,
     State,
+    Calendar,
+    Mark,
 }
 
 // A call, with the numbers that its line says.
@@ -47,9 +50,26 @@ pub enum Call {
     Receive,
     // Both ends, for people.
     State,
+    // So many sessions, and so many holidays.
+    SetCalendar { sessions: usize, holidays: usize },
+    AskTime { seconds: u32 },
+    MarkDate { mark: u32 },
 }
 
-// Which call of the receiving end a line's first word names.
+// Which call of the trading calendar a line's first word names.
+fn trading_verb_of(word: &[u8]) -> Verb
+    ensures { λ r. ⌜ r ≡ tradingVerbOf (now (word .entry)) ⌝ }
+{
+    if is_word(word, b"calendar") {
+        return Verb::Calendar;
+    }
+    if is_word(word, b"mark") {
+        return Verb::Mark;
+    }
+    Verb::Unknown
+}
+
+// Which call of the receiving end a line's first word names, or of the calendar.
 fn end_verb_of(word: &[u8]) -> Verb
     ensures { λ r. ⌜ r ≡ endVerbOf (now (word .entry)) ⌝ }
 {
@@ -71,7 +91,7 @@ fn end_verb_of(word: &[u8]) -> Verb
     if is_word(word, b"state") {
         return Verb::State;
     }
-    Verb::Unknown
+    trading_verb_of(word)
 }
 
 // Which call a line's first word names.
@@ -232,6 +252,57 @@ fn answer_with(right: bool, series: u64) -> Call
     Call::Bad
 }
 
+// Seconds alone in their line, within their width; a line of another form is another call.
+fn time_with(alone: bool, seconds: u64, other: Call) -> Call
+    ensures { λ r. ⌜ r ≡ timeWith alone seconds other ⌝ }
+{
+    if alone {
+        if seconds > 4294967295 {
+            return Call::Bad;
+        }
+        return Call::AskTime {
+            seconds: seconds as u32,
+        };
+    }
+    other
+}
+
+// So many sessions of three numbers each; the numbers left are holidays.
+fn calendar_with(sessions: u64, count: usize) -> Call
+    ensures { λ r. ⌜ r ≡ calendarWith sessions count ⌝ }
+{
+    if sessions > 16 {
+        return Call::Bad;
+    }
+    if count > 112 {
+        return Call::Bad;
+    }
+    let n = sessions as usize;
+    if count < 3 * n {
+        return Call::Bad;
+    }
+    if count - 3 * n > 64 {
+        return Call::Bad;
+    }
+    Call::SetCalendar {
+        sessions: n,
+        holidays: count - 3 * n,
+    }
+}
+
+// A mark within its width.
+fn mark_with(right: bool, mark: u64) -> Call
+    ensures { λ r. ⌜ r ≡ markWith right mark ⌝ }
+{
+    if right {
+        if mark > 4294967295 {
+            return Call::Bad;
+        }
+        return Call::MarkDate { mark: mark as u32 };
+    }
+    Call::Bad
+}
+
 // A call without numbers.
 fn plain_call(right: bool, call: Call) -> Call
     ensures { λ r. ⌜ r ≡ plainCall right call ⌝ }
@@ -258,7 +329,7 @@ fn named_call(line: &[u8], verb: Verb) -> Call
         Verb::Buffers => {
             buffers_with(has_form(line, 2, 0), number_at(line, 0), number_at(line, 1))
         }
-        Verb::OpenDay => open_day_with(number_at(line, 0), series_count(line, 1)),
+        Verb::OpenDay => open_day_with(number_at(line, 0), number_count(line, 1, 65535, 64)),
         Verb::Publish => publish_with(
             has_form(line, 2, 1),
             number_at(line, 0),
@@ -266,12 +337,18 @@ fn named_call(line: &[u8], verb: Verb) -> Call
         ),
         Verb::Login => login_with(has_form(line, 2, 2), number_at(line, 0), number_at(line, 1)),
         Verb::Send => send_with(has_form(line, 2, 0), number_at(line, 0), number_at(line, 1)),
-        Verb::OpenEnd => open_end_with(series_count(line, 0)),
+        Verb::OpenEnd => open_end_with(number_count(line, 0, 65535, 64)),
         Verb::Connect => plain_call(has_form(line, 0, 0), Call::Connect),
-        Verb::Ask => ask_with(has_form(line, 2, 1), number_at(line, 0), number_at(line, 1)),
+        Verb::Ask => time_with(
+            has_form(line, 1, 0),
+            number_at(line, 0),
+            ask_with(has_form(line, 2, 1), number_at(line, 0), number_at(line, 1)),
+        ),
         Verb::Answer => answer_with(has_form(line, 1, 1), number_at(line, 0)),
         Verb::Receive => plain_call(has_form(line, 0, 1), Call::Receive),
         Verb::State => plain_call(has_form(line, 0, 0), Call::State),
+        Verb::Calendar => calendar_with(number_at(line, 0), number_count(line, 1, 4294967295, 112)),
+        Verb::Mark => mark_with(has_form(line, 1, 0), number_at(line, 0)),
     }
 }
 

@@ -1,9 +1,10 @@
-// The player of a script: a line is a call of an end, and its answer is printed as a line.
+// The player of a script: a line is a call of an end or of the calendar, and its answer is printed as a line.
 ghost use mathlib.Core.Path.{_≡_};
 ghost use Prim.Native.Nat.{_≤_};
 ghost use mathlib.Core.Bool.{true, false};
 ghost use lib.ListN.{length, replicate};
-ghost use Rattle.play.specs.Played.{freshPlayer, withSender, withReceiver, countedPlayer, badLine, Shows, Plays};
+ghost use Rattle.play.specs.Played.{freshPlayer, withSender, withReceiver, withCalendar, countedPlayer, badLine};
+ghost use Rattle.play.specs.Played.{Shows, Plays};
 ghost use Rattle.play.specs.Played.{layoutTurn, startTurn, readyTurn, callTurn, lacksRoom, playTurn, Fits};
 use crate::calls::Call;
 use crate::calls::call_of;
@@ -19,10 +20,15 @@ use crate::serving::play_publish;
 use crate::serving::play_send;
 use crate::text::number_line;
 use crate::text::word_line;
+use crate::trading::ask_time;
+use crate::trading::play_calendar;
+use crate::trading::show_date;
+use calendar::trading::Calendar;
 use flow::receiver::Receiver;
 use flow::sender::Sender;
 
-// The player: how many lines it was given, whether the buffers are laid out, their lengths, and the two ends.
+// The player: how many lines it was given, whether the buffers are laid out, their lengths, the two ends and the
+// calendar.
 pub struct Player {
     pub lines: usize,
     pub ready: bool,
@@ -30,6 +36,7 @@ pub struct Player {
     pub chain: usize,
     pub sender: Sender,
     pub receiver: Receiver,
+    pub calendar: Calendar,
 }
 
 // What a line leaves: the player, and the length of the text that is printed.
@@ -61,6 +68,7 @@ impl Player {
             chain: 0,
             sender: Sender::fresh(),
             receiver: Receiver::fresh(),
+            calendar: Calendar::fresh(),
         }
     }
 
@@ -69,6 +77,7 @@ impl Player {
         ensures { λ r. ⌜ r ≡ withSender self sender ⌝ }
     {
         let receiver = self.receiver;
+        let calendar = self.calendar;
         Player {
             lines: self.lines,
             ready: self.ready,
@@ -76,6 +85,7 @@ impl Player {
             chain: self.chain,
             sender: sender,
             receiver: receiver,
+            calendar: calendar,
         }
     }
 
@@ -84,6 +94,7 @@ impl Player {
         ensures { λ r. ⌜ r ≡ withReceiver self receiver ⌝ }
     {
         let sender = self.sender;
+        let calendar = self.calendar;
         Player {
             lines: self.lines,
             ready: self.ready,
@@ -91,6 +102,24 @@ impl Player {
             chain: self.chain,
             sender: sender,
             receiver: receiver,
+            calendar: calendar,
+        }
+    }
+
+    // The calendar is another.
+    pub(crate) fn with_calendar(self, calendar: Calendar) -> Player
+        ensures { λ r. ⌜ r ≡ withCalendar self calendar ⌝ }
+    {
+        let sender = self.sender;
+        let receiver = self.receiver;
+        Player {
+            lines: self.lines,
+            ready: self.ready,
+            log: self.log,
+            chain: self.chain,
+            sender: sender,
+            receiver: receiver,
+            calendar: calendar,
         }
     }
 
@@ -101,6 +130,7 @@ impl Player {
         if self.lines < 4294967295 {
             let sender = self.sender;
             let receiver = self.receiver;
+            let calendar = self.calendar;
             return Player {
                 lines: self.lines + 1,
                 ready: self.ready,
@@ -108,6 +138,7 @@ impl Player {
                 chain: self.chain,
                 sender: sender,
                 receiver: receiver,
+                calendar: calendar,
             };
         }
         self
@@ -147,6 +178,7 @@ impl Player {
         clear(&mut chain[..part]);
         let sender = self.sender;
         let receiver = self.receiver;
+        let calendar = self.calendar;
         Played {
             player: Player {
                 lines: self.lines,
@@ -155,6 +187,7 @@ impl Player {
                 chain: part,
                 sender: sender,
                 receiver: receiver,
+                calendar: calendar,
             },
             len: word_line(text, b"ok"),
         }
@@ -206,6 +239,11 @@ impl Player {
             Call::Answer { series } => play_answer(self, series, line, bytes, text),
             Call::Receive => play_receive(self, line, chain, bytes, text),
             Call::State => show_state(self, text),
+            Call::SetCalendar { sessions, holidays } => {
+                play_calendar(self, sessions, holidays, line, text)
+            }
+            Call::AskTime { seconds } => ask_time(self, seconds, text),
+            Call::MarkDate { mark } => show_date(self, mark, text),
         }
     }
 

@@ -7,7 +7,9 @@ ghost use Rattle.flow.specs.Answers.{contentIn};
 ghost use Rattle.ftd.specs.Bytes.{part};
 ghost use Rattle.play.specs.Lines.{hexBytes, contentText, numbered, wordLine, bytesLine, refusedLine, openedLine};
 ghost use Rattle.play.specs.Lines.{publishedLine, loginAnswerLine, sentLine, requestedLine, confirmedLine};
-ghost use Rattle.play.specs.Lines.{messageStart, messageLine, receivedLine};
+ghost use Rattle.play.specs.Lines.{messageStart, messageLine, receivedLine, setLine, timeLine, dateLine};
+use calendar::trading::SetAnswer;
+use calendar::trading::TradeTime;
 use flow::receiver::Confirmed;
 use flow::receiver::Origin;
 use flow::receiver::Received;
@@ -267,4 +269,37 @@ pub(crate) fn received_line(out: &mut [u8], answer: Received, packet: &[u8], buf
         } => complete_line(out, last, tid, origin, content, packet, buffer),
         Received::Refused(r) => refused_line(out, r),
     }
+}
+
+// The line of Set's answer, of the calendar.
+pub(crate) fn set_line(out: &mut [u8], answer: SetAnswer) -> usize
+    requires { ⌜ 64 ≤ length (now out) ⌝ }
+    ensures { λ r. ⌜ WroteText (now (out .entry)) 0 (setLine answer) (now (out .exit)) r
+        × (r ≤ length (now (out .exit))) ⌝ }
+{
+    match answer {
+        SetAnswer::Done => word_line(out, b"set"),
+        SetAnswer::Refused(r) => refused_line(out, r),
+    }
+}
+
+// The line of a time's answer.
+pub(crate) fn time_line(out: &mut [u8], answer: TradeTime) -> usize
+    requires { ⌜ 64 ≤ length (now out) ⌝ }
+    ensures { λ r. ⌜ WroteText (now (out .entry)) 0 (timeLine answer) (now (out .exit)) r
+        × (r ≤ length (now (out .exit))) ⌝ }
+{
+    match answer {
+        TradeTime::Outside => word_line(out, b"outside"),
+        TradeTime::Inside(d) => number_line(out, b"inside", size32(d)),
+    }
+}
+
+// The line of a date.
+pub(crate) fn date_line(out: &mut [u8], d: u32) -> usize
+    requires { ⌜ 64 ≤ length (now out) ⌝ }
+    ensures { λ r. ⌜ WroteText (now (out .entry)) 0 (dateLine d) (now (out .exit)) r
+        × (r ≤ length (now (out .exit))) ⌝ }
+{
+    number_line(out, b"date", size32(d))
 }

@@ -2,11 +2,12 @@
 ghost use mathlib.Core.Path.{_≡_};
 ghost use Prim.Native.Nat.{_+_, _-_, _*_, _/_, _<_, _≤_};
 ghost use mathlib.Core.List.{_++_};
+ghost use lib.Dec.{ltb};
 ghost use lib.ListN.{length, take, drop};
 ghost use Rattle.ftd.specs.Bytes.{put};
 ghost use Rattle.play.specs.Words.{endOf, digitValue, numberIn, tidIn, allHex, saysBytes, pairOf, saidBytes, sameWord};
 ghost use Rattle.play.specs.Words.{nextEnd, endAt, argument as argumentOf, hasArguments, allBytes, hasForm};
-ghost use Rattle.play.specs.Words.{seriesCount, seriesAt, seriesFrom};
+ghost use Rattle.play.specs.Words.{numberCount, numberUpTo, seriesFrom, wordsFrom};
 
 // A number above all that four bytes hold stands for a word that says none.
 pub const NO_NUMBER: u64 = 4294967296;
@@ -260,33 +261,41 @@ pub(crate) fn has_form(line: &[u8], numbers: usize, bytes: usize) -> bool
     false
 }
 
-// How many series the arguments from i on are; 65 where they are too many, or one is no series.
-pub(crate) fn series_count(line: &[u8], i: usize) -> usize
-    requires { ⌜ i ≤ 1 ⌝ }
-    ensures { λ r. ⌜ (r ≡ seriesCount (now (line .entry)) i) × (r ≤ 65) ⌝ }
+// Argument i says no number up to a top one.
+fn above(line: &[u8], i: usize, top: u64) -> bool
+    ensures { λ r. ⌜ r ≡ ltb top (numberIn 10 (argumentOf (now (line .entry)) i)) ⌝ }
+{
+    read_number(argument(line, i), 10) > top
+}
+
+// How many numbers up to a top one the arguments from i on are; one more than the most where they are too many, or one
+// is no such number.
+pub(crate) fn number_count(line: &[u8], i: usize, top: u64, most: usize) -> usize
+    requires { ⌜ (i ≤ 1) × (most ≤ 112) ⌝ }
+    ensures { λ r. ⌜ (r ≡ numberCount top most (now (line .entry)) i) × (r ≤ most + 1) ⌝ }
 {
     let mut n: usize = 0;
-    while n < 65 {
+    while n <= most {
         if has_arguments(line, i + n) {
             return n;
         }
-        if read_number(argument(line, i + n), 10) > 65535 {
-            return 65;
+        if above(line, i + n, top) {
+            return most + 1;
         }
         n += 1;
     }
-    65
+    most + 1
 }
 
-// The series that argument i says; 0 where it says none.
-fn series_at(line: &[u8], i: usize) -> u16
-    ensures { λ r. ⌜ r ≡ seriesAt (now (line .entry)) i ⌝ }
+// The number that argument i says; 0 where it says none up to a top one.
+fn number_up_to(line: &[u8], i: usize, top: u64) -> u64
+    ensures { λ r. ⌜ (r ≡ numberUpTo top (now (line .entry)) i) × (r ≤ top) ⌝ }
 {
     let x = read_number(argument(line, i), 10);
-    if x > 65535 {
+    if x > top {
         return 0;
     }
-    x as u16
+    x
 }
 
 // The n series from argument i on are put into a list.
@@ -296,7 +305,19 @@ pub(crate) fn read_series(line: &[u8], i: usize, n: usize, list: &mut [u16])
 {
     let mut k: usize = 0;
     while k < n {
-        list[k] = series_at(line, i + k);
+        list[k] = number_up_to(line, i + k, 65535) as u16;
+        k += 1;
+    }
+}
+
+// The n numbers of four bytes from argument i on are put into a list.
+pub(crate) fn read_words(line: &[u8], i: usize, n: usize, list: &mut [u32])
+    requires { ⌜ (i ≤ 49) × (n ≤ length (now list)) ⌝ }
+    ensures { λ _. ⌜ now (list .exit) ≡ wordsFrom (now (line .entry)) i n ++ drop n (now (list .entry)) ⌝ }
+{
+    let mut k: usize = 0;
+    while k < n {
+        list[k] = number_up_to(line, i + k, 4294967295) as u32;
         k += 1;
     }
 }

@@ -1,5 +1,6 @@
 //! Inputs for tests, from fixed seeds: packets, contents, messages and captures, valid ones and others.
 
+use crate::calendar::month_days;
 use crate::cut::{write_message, Header};
 use crate::items::{known_field, Field, Kind};
 use crate::makeup::{Direction, Message};
@@ -110,7 +111,8 @@ pub fn item(r: &mut Random, kind: Kind, out: &mut Vec<u8>) {
         Kind::Float(a, b) => digits(r, a, Some(a - b - 1), out),
         Kind::Date if r.once_in(4) => out.extend([b' '; 8]),
         Kind::Date => {
-            let (year, month, day) = (r.below(10_000), r.within(1, 12), r.within(1, 31));
+            let (year, month) = (r.within(1601, 9999), r.within(1, 12));
+            let day = r.within(1, month_days(year as u32, month as u32) as usize);
             out.extend(format!("{year:04}{month:02}{day:02}").bytes());
         }
     }

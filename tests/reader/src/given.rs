@@ -104,9 +104,15 @@ pub fn given(r: &mut Random, kind: Kind) -> Given {
         }
         Kind::Date if r.once_in(8) => Given::Date(None),
         Kind::Date => {
-            let year = if r.once_in(2) { r.below(10_000) as u16 } else { r.pick(&[0, 1, 9999, 10_000, 65_535]) };
-            let month = if r.once_in(2) { r.within(1, 12) as u8 } else { r.pick(&[0, 1, 9, 10, 12, 13, 99, 100, 255]) };
-            let day = if r.once_in(2) { r.within(1, 31) as u8 } else { r.pick(&[0, 1, 30, 31, 32, 99, 100, 255]) };
+            let year = if r.once_in(2) {
+                r.within(1590, 2110) as u16
+            } else {
+                r.pick(&[0, 1, 1600, 1601, 1900, 2000, 2024, 2100, 9999, 10_000, 65_535])
+            };
+            let month =
+                if r.once_in(2) { r.within(1, 12) as u8 } else { r.pick(&[0, 1, 2, 4, 9, 10, 12, 13, 99, 100, 255]) };
+            let day =
+                if r.once_in(2) { r.within(1, 31) as u8 } else { r.pick(&[0, 1, 28, 29, 30, 31, 32, 99, 100, 255]) };
             Given::Date(Some((year, month, day)))
         }
     }

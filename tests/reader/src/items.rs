@@ -1,5 +1,6 @@
 //! Typed items (Table 6, Appendices B to D).
 
+use crate::calendar::is_real;
 use crate::tables::FIELDS;
 
 /// The type of an item. An empty list of Char is no enumeration; otherwise its values, and also 0 for unused.
@@ -126,7 +127,7 @@ fn number(bytes: &[u8], point: Option<usize>) -> Option<i64> {
     }
 }
 
-/// Date: all spaces, or YYYYMMDD with month 01 to 12 and day 01 to 31.
+/// Date: all spaces, or YYYYMMDD, a real date.
 fn date(bytes: &[u8]) -> Option<Option<u32>> {
     if bytes.iter().all(|&b| b == b' ') {
         return Some(None);
@@ -138,8 +139,7 @@ fn date(bytes: &[u8]) -> Option<Option<u32>> {
         }
         value = value * 10 + u32::from(byte - b'0');
     }
-    let (month, day) = (value / 100 % 100, value % 100);
-    ((1..=12).contains(&month) && (1..=31).contains(&day)).then_some(Some(value))
+    is_real(value).then_some(Some(value))
 }
 
 /// The first item of the field that isn't a value of its type, if any. The bytes have the field's width.

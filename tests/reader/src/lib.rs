@@ -3,6 +3,7 @@
 
 pub mod book;
 pub mod book_cases;
+pub mod calendar;
 pub mod cut;
 pub mod few;
 pub mod generate;

@@ -1,9 +1,11 @@
 //! Scripts for the player of calls (`ftdplay`): calls with the lines that the player has to print. The answers are the
-//! models' (`serving`, `receiving`); each worked example also says by hand how its answer begins.
+//! models' (`serving`, `receiving`, `calendar`); each worked example also says by hand how its answer begins.
 
+use crate::calendar::{Calendar, Days, Session};
 use crate::receiving::{Received, Receiving};
 use crate::serving::Serving;
 
+mod calendar;
 mod line;
 mod parts;
 mod receiving;
@@ -21,6 +23,8 @@ pub const ROOM: usize = 65_536;
 pub struct Script {
     serving: Serving,
     receiving: Receiving,
+    calendar: Calendar,
+    days: Days,
     log: Vec<u8>,
     chain: Vec<u8>,
     /// Each line, and what is printed for it: one line, for `state` several.
@@ -52,6 +56,8 @@ impl Script {
         Script {
             serving: Serving::default(),
             receiving: Receiving::default(),
+            calendar: Calendar::default(),
+            days: Days::default(),
             log: vec![0; log],
             chain: vec![0; chain],
             calls: vec![(format!("buffers {log} {chain}"), "ok".to_string())],
@@ -170,6 +176,33 @@ impl Script {
         self.add("state".to_string(), lines.join("\n"));
     }
 
+    // --- The calendar, each call with its answer ---
+
+    fn set(&mut self, sessions: &[Session], holidays: &[u32], expected: &str) {
+        let answer = self.calendar.set(sessions, holidays);
+        let mut line = format!("calendar {}", sessions.len());
+        for one in sessions {
+            line += &format!(" {} {} {}", one.first, one.last, u32::from(one.late));
+        }
+        for holiday in holidays {
+            line += &format!(" {holiday}");
+        }
+        self.add(line, answer.map_or_else(refused, |()| "set".to_string()));
+        self.begins(expected);
+    }
+
+    fn ask_time(&mut self, seconds: u32, expected: &str) {
+        let date = self.calendar.ask(&self.days, seconds);
+        self.add(format!("ask {seconds}"), date.map_or("outside".to_string(), |date| format!("inside {date}")));
+        self.begins(expected);
+    }
+
+    fn mark(&mut self, mark: u32, expected: &str) {
+        let date = self.days.mark(mark);
+        self.add(format!("mark {mark}"), format!("date {date}"));
+        self.begins(expected);
+    }
+
     /// A line that is no call.
     fn bad(&mut self, line: &str) {
         let answer = format!("bad line {}", self.calls.len() + 1);
@@ -225,13 +258,14 @@ impl Script {
     }
 }
 
-/// The whole script: the worked examples of both ends, and both ends over a faulty line. Gives it with the place of the
-/// call that the faulty line begins with.
+/// The whole script: the worked examples of both ends and of the calendar, and both ends over a faulty line. Gives it
+/// with the place of the call that the faulty line begins with.
 pub fn whole_script() -> (Script, usize) {
     let mut s = Script::new(LOG, CHAIN);
     serving::examples(&mut s);
     receiving::examples(&mut s);
     serving::biggest(&mut s);
+    calendar::examples(&mut s);
     let from = s.calls.len();
     faulty_line(&mut s, 2_000_000_000);
     serving::last_marks(&mut s);

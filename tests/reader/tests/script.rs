@@ -42,6 +42,7 @@ fn every_answer_is_there() {
     assert_eq!(rows("ask"), [7, 8, 9, 10, 13, 18]);
     assert_eq!(rows("answer"), [1, 2, 4, 5, 6, 7, 8, 9, 10, 12, 13, 15, 16]);
     assert_eq!(rows("receive"), [1, 2, 3, 4, 5, 6, 7, 12, 13, 14, 15, 16, 17, 18]);
+    assert_eq!(rows("calendar"), [26, 27]);
     for taken in [
         ("sopen", "opened"),
         ("publish", "published"),
@@ -57,6 +58,10 @@ fn every_answer_is_there() {
         ("receive", "held"),
         ("receive", "message"),
         ("state", "serving"),
+        ("calendar", "set"),
+        ("ask", "inside"),
+        ("ask", "outside"),
+        ("mark", "date"),
     ] {
         assert!(seen.contains_key(&taken), "{taken:?}");
     }

@@ -45,10 +45,18 @@ fn other_values_written() {
     assert_eq!((text(b"a "), text(b"abcd"), text(b"a\x7F"), text(b"abc ")), (None, None, None, None));
     let date = |given| Kind::Date.bytes(&Given::Date(given));
     assert_eq!(date(None).as_deref(), Some(&b"        "[..]));
-    assert_eq!(date(Some((0, 2, 31))).as_deref(), Some(&b"00000231"[..]));
-    for wrong in
-        [(10_000, 1, 1), (2004, 0, 1), (2004, 13, 1), (2004, 1, 0), (2004, 1, 32), (2004, 100, 1), (99, 1, 100)]
-    {
+    assert_eq!(date(Some((1601, 12, 31))).as_deref(), Some(&b"16011231"[..]));
+    for wrong in [
+        (10_000, 1, 1),
+        (1600, 12, 31),
+        (2023, 2, 29),
+        (2004, 0, 1),
+        (2004, 13, 1),
+        (2004, 1, 0),
+        (2004, 1, 32),
+        (2004, 100, 1),
+        (99, 1, 100),
+    ] {
         assert_eq!(date(Some(wrong)), None);
     }
     let values = Kind::Char(&[1, 3]);

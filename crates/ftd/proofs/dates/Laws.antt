@@ -7,12 +7,14 @@ use native.Mathlib.Omega.{arith}
 use borrow.Author.Tests.{le-leb, leb-true, ne-eqb, eqb-true}
 use lib.ListN.{length, getD}
 use lib.Dec.{leb, eqb}
-use Rattle.ftd.specs.Values.{every, isDigit, isSpace, twoDigits, monthOf, dayDigits, rightDay, isDate}
+use Rattle.ftd.specs.Gregorian.{realDate}
+use Rattle.ftd.specs.Values.{every, isDigit, isSpace, twoDigits, yearOf, monthOf, dayDigits, isDate}
 use Rattle.ftd.specs.Signed.Write.{digitsIn}
-use Rattle.ftd.specs.Dates.{yearOf, dateValue, dateBytes, dateFits}
+use Rattle.ftd.specs.Dates.{dateValue, dateBytes, dateFits}
 use Rattle.ftd.specs.declared.dates.Date.{Date}
 use Rattle.ftd.specs.declared.dates.Date.the-variants.{NoDate, Unused, Day}
 use Rattle.ftd.proofs.texts.Laws.{spaces-are}
+use Rattle.ftd.proofs.gregorian.Laws.{real-bounds}
 use Rattle.ftd.proofs.signed.Laws.{digit-right, digit-back, digit-bounds, digit-most}
 
 -- ─── A day written is read back ───
@@ -29,27 +31,16 @@ four-back x h =
 no-space : (x : ℕ) → eqb (48 + x % 10) 32 ≡ false
 no-space x = ne-eqb (48 + x % 10) 32 (λ e. omega arith)
 
-right-bounds : (m d : ℕ) → rightDay m d ≡ true → (m < 100) × (d < 100)
-right-bounds m d e = go (leb 1 m) (leb m 12) refl (leb 1 d) (leb d 31) refl e
-  where
-    go : (a b : Bool) → leb m 12 ≡ b → (c f : Bool) → leb d 31 ≡ f → ((a && b) && (c && f)) ≡ true
-        → (m < 100) × (d < 100)
-    go true true p true true q e = (omega (arith, leb-true m 12 p), omega (arith, leb-true d 31 q))
-    go true true p true false q e = absurd (false≢true e)
-    go true true p false f q e = absurd (false≢true e)
-    go true false p c f q e = absurd (false≢true e)
-    go false b p c f q e = absurd (false≢true e)
-
 -- Eight digits with a right month and day are that day.
 day-value : (l : List ℕ) (y m d : ℕ) → length l ≡ 8 → every isSpace l ≡ false → every isDigit l ≡ true
-    → yearOf l ≡ y → monthOf l ≡ m → dayDigits l ≡ d → rightDay m d ≡ true → dateValue l ≡ Day y m d
+    → yearOf l ≡ y → monthOf l ≡ m → dayDigits l ≡ d → realDate y m d ≡ true → dateValue l ≡ Day y m d
 unfolding dateValue isDate
 day-value l y m d n s g i j k r = rw (n, s, g, i, j, k, r)
 
-day-back : (y m d : ℕ) → y ≤ 9999 → rightDay m d ≡ true → dateValue (dateBytes (Day y m d)) ≡ Day y m d
+day-back : (y m d : ℕ) → realDate y m d ≡ true → dateValue (dateBytes (Day y m d)) ≡ Day y m d
 unfolding dateBytes
-day-back y m d h r =
-    let b = right-bounds m d r in
+day-back y m d r =
+    let b = real-bounds y m d r in
     day-value (dateBytes (Day y m d)) y m d refl
     (rw (no-space (y / 10 / 10 / 10)))
     (rw (
@@ -62,20 +53,16 @@ day-back y m d h r =
       digit-right (d / 10),
       digit-right d,
     ))
-    (four-back y h)
-    (two-back m (b .0))
-    (two-back d (b .1))
+    (four-back y (b .last))
+    (two-back m (omega arith))
+    (two-back d (omega arith))
     r
 
 pub date-back : (v : Date) → dateFits v ≡ true → dateValue (dateBytes v) ≡ v
 unfolding dateFits dateValue dateBytes isDate
 date-back NoDate e = absurd (false≢true e)
 date-back Unused e = refl
-date-back (Day y m d) e = go (leb y 9999) refl e
-  where
-    go : (a : Bool) → leb y 9999 ≡ a → (a && rightDay m d) ≡ true → dateValue (dateBytes (Day y m d)) ≡ Day y m d
-    go true p r = day-back y m d (leb-true y 9999 p) r
-    go false p r = absurd (false≢true r)
+date-back (Day y m d) e = day-back y m d e
 
 -- ─── Bytes read are written again ───
 
@@ -148,22 +135,21 @@ unused-again : (l : List ℕ) → length l ≡ 8 → every isSpace l ≡ true �
 unfolding dateFits dateBytes
 unused-again l n s = (refl, rw n at (spaces-are l s))
 
-day-good : (l : List ℕ) → length l ≡ 8 → every isDigit l ≡ true → rightDay (monthOf l) (dayDigits l) ≡ true
+day-good : (l : List ℕ) → length l ≡ 8 → every isDigit l ≡ true
+    → realDate (yearOf l) (monthOf l) (dayDigits l) ≡ true
     → (dateFits (Day (yearOf l) (monthOf l) (dayDigits l)) ≡ true)
     × (dateBytes (Day (yearOf l) (monthOf l) (dayDigits l)) ≡ l)
 unfolding dateFits
-day-good l n h r =
-    let a = two-most (getD l 0 0) (getD l 1 0) in
-    let b = two-most (getD l 2 0) (getD l 3 0) in
-    (rw (le-leb (yearOf l) 9999 (omega arith)) r, day-again l n h)
+day-good l n h r = (r, day-again l n h)
 
 pub date-again : (l : List ℕ) → isDate l ≡ true → (dateFits (dateValue l) ≡ true) × (dateBytes (dateValue l) ≡ l)
 unfolding dateValue isDate
 date-again l e =
-    go (eqb (length l) 8) refl (every isSpace l) refl (every isDigit l) refl (rightDay (monthOf l) (dayDigits l)) refl e
+    go (eqb (length l) 8) refl (every isSpace l) refl (every isDigit l) refl
+    (realDate (yearOf l) (monthOf l) (dayDigits l)) refl e
   where
     go : (a : Bool) → eqb (length l) 8 ≡ a → (b : Bool) → every isSpace l ≡ b → (c : Bool) → every isDigit l ≡ c
-        → (d : Bool) → rightDay (monthOf l) (dayDigits l) ≡ d → (a && (b || (c && d))) ≡ true
+        → (d : Bool) → realDate (yearOf l) (monthOf l) (dayDigits l) ≡ d → (a && (b || (c && d))) ≡ true
         → (dateFits
         (cond (a && (b || (c && d))) (cond b Unused (Day (yearOf l) (monthOf l) (dayDigits l))) NoDate) ≡ true)
         × (dateBytes

@@ -9,10 +9,11 @@ use lib.ListN.{length, take, drop, replicate}
 use lib.Seq.{take-length}
 use lib.Dec.{eqb}
 use Rattle.ftd.specs.Bytes.{put}
-use Rattle.ftd.specs.Values.{every, isDigit, isSpace, monthOf, dayDigits, rightDay, isDate}
+use Rattle.ftd.specs.Gregorian.{realDate}
+use Rattle.ftd.specs.Values.{every, isDigit, isSpace, yearOf, monthOf, dayDigits, isDate}
 use Rattle.ftd.specs.Values.Helpers.{inClass}
 use Rattle.ftd.specs.Signed.Write.{digitsIn}
-use Rattle.ftd.specs.Dates.{yearOf, dateValue, dateBytes, dateFits}
+use Rattle.ftd.specs.Dates.{dateValue, dateBytes, dateFits}
 use Rattle.ftd.specs.declared.values.Class.the-variants.{Space}
 use Rattle.ftd.specs.declared.dates.Date.{Date}
 use Rattle.ftd.specs.declared.dates.Date.the-variants.{NoDate, Unused, Day}
@@ -32,7 +33,8 @@ module _ (s : List ℕ) (f : Bool) (q : f ≡ isDate s) where
     date-eight = go (eqb (length s) 8) refl (sym q ∙ e)
       where
         go : (b : Bool) → eqb (length s) 8 ≡ b
-            → (b && (every isSpace s || (every isDigit s && rightDay (monthOf s) (dayDigits s)))) ≡ true → length s ≡ 8
+            → (b && (every isSpace s || (every isDigit s && realDate (yearOf s) (monthOf s) (dayDigits s)))) ≡ true
+            → length s ≡ 8
         go true p h = eqb-true (length s) 8 p
         go false p h = absurd (false≢true h)
 
@@ -57,13 +59,9 @@ module _ (v : Date) where
   unused-date e = rw e
 
   module _ (y m d : ℕ) (e : v ≡ Day y m d) where
-    pub day-fits : y ≤ 9999 → (r : Bool) → r ≡ rightDay m d → r ≡ dateFits v
+    pub day-fits : (y₀ m₀ d₀ : ℕ) → y₀ ≡ y → m₀ ≡ m → d₀ ≡ d → (r : Bool) → r ≡ realDate y₀ m₀ d₀ → r ≡ dateFits v
     unfolding dateFits
-    day-fits h r q = rw (e, le-leb y 9999 h) q
-
-    pub year-over : 9999 < y → false ≡ dateFits v
-    unfolding dateFits
-    year-over h = rw (e, lt-leb y 9999 h)
+    day-fits y₀ m₀ d₀ i j k r q = rw (e, ← i, ← j, ← k) q
 
     pub put-the-day : (out a : List ℕ) → a ≡ put out 0 (dateBytes (Day y m d)) → a ≡ put out 0 (dateBytes v)
     put-the-day out a q = rw e q

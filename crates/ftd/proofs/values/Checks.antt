@@ -14,7 +14,8 @@ use Rattle.ftd.specs.Table.{charKind, wordKind, intKind, stringKind, num
 use Rattle.ftd.specs.Table.{lastListed, enumerations}
 use Rattle.ftd.specs.Table.Helpers.{allBelow}
 use Rattle.ftd.specs.Values.{every, among, isListed, isNumber, withoutPoint, isFloat, monthOf, dayDigits}
-use Rattle.ftd.specs.Values.{rightDay, isDate, isValue}
+use Rattle.ftd.specs.Values.{yearOf, isDate, isValue}
+use Rattle.ftd.specs.Gregorian.{realDate}
 use Rattle.ftd.specs.Values.Helpers.{inClass}
 use Rattle.ftd.specs.declared.values.Class.{Class}
 use Rattle.ftd.specs.declared.values.Class.the-variants.{Text, Digit, Zero, Space}
@@ -181,10 +182,9 @@ module _ (s : List ℕ) where
       unfolding isDate
       date-other v = rw (eq-eqb _ _ h, ← (rw all at p), w, ← (rw all at q), v)
 
-      pub date-digits : b ≡ true → (month day : ℕ) → month ≡ monthOf s → day ≡ dayDigits s → (r : Bool)
-          → r ≡ rightDay month day → r ≡ isDate s
+      pub date-digits : b ≡ true → (r : Bool) → r ≡ realDate (yearOf s) (monthOf s) (dayDigits s) → r ≡ isDate s
       unfolding isDate
-      date-digits v month day m n r x = rw (eq-eqb _ _ h, ← (rw all at p), w, ← (rw all at q), v, ← m, ← n) x
+      date-digits v r x = rw (eq-eqb _ _ h, ← (rw all at p), w, ← (rw all at q), v) x
 
 -- ─── Char with an enumeration ───
 

@@ -1,5 +1,5 @@
 -- A line's call keeps to its limits. Assumes nothing.
-use Prim.Native.Nat.{ℕ, _+_, _*_, _≤_}
+use Prim.Native.Nat.{ℕ, _+_, _-_, _*_, _≤_}
 use mathlib.Core.Path.{_≡_, refl}
 use mathlib.Core.List.{List}
 use mathlib.Core.Bool.{Bool, true, false, cond}
@@ -14,13 +14,15 @@ use Rattle.play.specs.declared.calls.Verb.the-variants.{Publish as Names
 use Rattle.play.specs.declared.calls.Verb.the-variants.{Send as NamesSend, OpenEnd as NamesOpenEnd}
 use Rattle.play.specs.declared.calls.Verb.the-variants.{Connect as NamesConnect, Ask as NamesAsk}
 use Rattle.play.specs.declared.calls.Verb.the-variants.{Answer as NamesAnswer, Receive as NamesReceive}
-use Rattle.play.specs.declared.calls.Verb.the-variants.{State as NamesState}
+use Rattle.play.specs.declared.calls.Verb.the-variants.{State as NamesState, Calendar as NamesCalendar}
+use Rattle.play.specs.declared.calls.Verb.the-variants.{Mark as NamesMark}
 use Rattle.play.specs.declared.calls.Call.{Call}
 use Rattle.play.specs.declared.calls.Call.the-variants.{Bad, OpenDay, Login, Send, OpenEnd, Connect}
-use Rattle.play.specs.declared.calls.Call.the-variants.{Ask, Receive, State}
+use Rattle.play.specs.declared.calls.Call.the-variants.{Ask, Receive, State, SetCalendar}
 use Rattle.play.specs.Words.{endOf}
 use Rattle.play.specs.Calls.{verbOf, buffersWith, openDayWith, publishWith, loginCallWith, sendWith, openEndWith}
-use Rattle.play.specs.Calls.{askWith, answerWith, plainCall, namedCall, callOf, Limited}
+use Rattle.play.specs.Calls.{askWith, answerWith, timeWith, calendarWith, markWith, plainCall, namedCall, callOf}
+use Rattle.play.specs.Calls.{Limited}
 
 -- What a test lets through keeps to its limit, and a line that is no call keeps to all.
 either : (b : Bool) (x : Call) → (b ≡ true → Limited x) → Limited (cond b x Bad)
@@ -66,6 +68,20 @@ answer-limited : (b : Bool) (x : ℕ) → Limited (answerWith b x)
 unfolding answerWith
 answer-limited b x = either b _ (λ _. unless x 65535 _ (λ _. tt))
 
+time-limited : (b : Bool) (x : ℕ) (c : Call) → Limited c → Limited (timeWith b x c)
+unfolding timeWith
+time-limited true x c h = unless x 4294967295 _ (λ _. tt)
+time-limited false x c h = h
+
+calendar-limited : (x n : ℕ) → Limited (calendarWith x n)
+unfolding calendarWith
+calendar-limited x n =
+    unless x 16 _ (λ g. unless n 112 _ (λ _. unless (3 * x) n _ (λ _. unless (n - 3 * x) 64 _ (λ h. (g, h)))))
+
+mark-limited : (b : Bool) (x : ℕ) → Limited (markWith b x)
+unfolding markWith
+mark-limited b x = either b _ (λ _. unless x 4294967295 _ (λ _. tt))
+
 plain-limited : (b : Bool) (c : Call) → Limited c → Limited (plainCall b c)
 unfolding plainCall
 plain-limited b c h = either b c (λ _. h)
@@ -79,10 +95,12 @@ named-limited line NamesLogin = login-limited _ _ _
 named-limited line NamesSend = send-limited _ _ _
 named-limited line NamesOpenEnd = end-limited _
 named-limited line NamesConnect = plain-limited _ Connect tt
-named-limited line NamesAsk = ask-limited _ _ _
+named-limited line NamesAsk = time-limited _ _ _ (ask-limited _ _ _)
 named-limited line NamesAnswer = answer-limited _ _
 named-limited line NamesReceive = plain-limited _ Receive tt
 named-limited line NamesState = plain-limited _ State tt
+named-limited line NamesCalendar = calendar-limited _ _
+named-limited line NamesMark = mark-limited _ _
 
 pub limited : (line : List ℕ) (c : Call) → c ≡ callOf line → Limited c
 unfolding callOf
@@ -112,3 +130,9 @@ module _ (c : Call) (h : Limited c) where
 
   pub ask-limit : (s n : ℕ) → c ≡ Ask s n → n ≤ 65536
   ask-limit s n e = rw e at h
+
+  pub times-limit : (n k : ℕ) → c ≡ SetCalendar n k → n ≤ 16
+  times-limit n k e = let g : (n ≤ 16) × (k ≤ 64) = rw e at h in g .0
+
+  pub dates-limit : (n k : ℕ) → c ≡ SetCalendar n k → k ≤ 64
+  dates-limit n k e = let g : (n ≤ 16) × (k ≤ 64) = rw e at h in g .1

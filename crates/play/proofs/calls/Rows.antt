@@ -11,12 +11,14 @@ use Rattle.play.specs.declared.calls.Verb.the-variants.{Publish as Names
 use Rattle.play.specs.declared.calls.Verb.the-variants.{Send as NamesSend, OpenEnd as NamesOpenEnd}
 use Rattle.play.specs.declared.calls.Verb.the-variants.{Connect as NamesConnect, Ask as NamesAsk}
 use Rattle.play.specs.declared.calls.Verb.the-variants.{Answer as NamesAnswer, Receive as NamesReceive}
-use Rattle.play.specs.declared.calls.Verb.the-variants.{State as NamesState}
+use Rattle.play.specs.declared.calls.Verb.the-variants.{State as NamesState, Calendar as NamesCalendar}
+use Rattle.play.specs.declared.calls.Verb.the-variants.{Mark as NamesMark}
 use Rattle.play.specs.declared.calls.Call.{Call}
 use Rattle.play.specs.declared.calls.Call.the-variants.{Connect, Receive, State}
-use Rattle.play.specs.Words.{endOf, tidIn, argument, hasForm, seriesCount}
+use Rattle.play.specs.Words.{endOf, tidIn, argument, hasForm, seriesCount, wordCount}
 use Rattle.play.specs.Calls.{verbOf, buffersWith, openDayWith, publishWith, loginCallWith, sendWith, openEndWith}
-use Rattle.play.specs.Calls.{askWith, answerWith, plainCall, numberAt, namedCall, callOf}
+use Rattle.play.specs.Calls.{askWith, answerWith, timeWith, calendarWith, markWith, plainCall, numberAt}
+use Rattle.play.specs.Calls.{namedCall, callOf}
 
 module _ {A : Type 0} (x y z : A) (b : Bool) where
   pub holds : b ≡ true → x ≡ y → x ≡ cond b y z
@@ -48,9 +50,12 @@ module _ (line : List ℕ) (v : Verb) (r : Call) where
         → y ≡ numberAt line 1 → r ≡ namedCall line v
     names-send k e h q p = rw (e, ← h, ← q, ← p) k
 
-    pub names-ask : r ≡ askWith b x y → v ≡ NamesAsk → b ≡ hasForm line 2 1 → x ≡ numberAt line 0
-        → y ≡ numberAt line 1 → r ≡ namedCall line v
-    names-ask k e h q p = rw (e, ← h, ← q, ← p) k
+    pub names-ask : (a : Bool) (z : ℕ) (c : Call) → r ≡ timeWith a z c → v ≡ NamesAsk → a ≡ hasForm line 1 0
+        → z ≡ numberAt line 0 → c ≡ askWith b x y → b ≡ hasForm line 2 1 → x ≡ numberAt line 0 → y ≡ numberAt line 1
+        → r ≡ namedCall line v
+    names-ask a z c k e g f d h q p =
+        let w : c ≡ askWith (hasForm line 2 1) (numberAt line 0) (numberAt line 1) = rw (← h, ← q, ← p) d in
+        rw (e, ← w, ← g, ← f) k
 
     pub names-publish : (w : List ℕ) → r ≡ publishWith b x y → v ≡ NamesPublish → b ≡ hasForm line 2 1
         → x ≡ numberAt line 0 → y ≡ tidIn w → w ≡ argument line 1 → r ≡ namedCall line v
@@ -63,7 +68,15 @@ module _ (line : List ℕ) (v : Verb) (r : Call) where
   pub names-end : (n : ℕ) → r ≡ openEndWith n → v ≡ NamesOpenEnd → n ≡ seriesCount line 0 → r ≡ namedCall line v
   names-end n k e p = rw (e, ← p) k
 
+  pub names-calendar : (x n : ℕ) → r ≡ calendarWith x n → v ≡ NamesCalendar → x ≡ numberAt line 0
+      → n ≡ wordCount line 1 → r ≡ namedCall line v
+  names-calendar x n k e q p = rw (e, ← q, ← p) k
+
   module _ (b : Bool) where
+    pub names-mark : (x : ℕ) → r ≡ markWith b x → v ≡ NamesMark → b ≡ hasForm line 1 0 → x ≡ numberAt line 0
+        → r ≡ namedCall line v
+    names-mark x k e h q = rw (e, ← h, ← q) k
+
     pub names-answer : (x : ℕ) → r ≡ answerWith b x → v ≡ NamesAnswer → b ≡ hasForm line 1 1 → x ≡ numberAt line 0
         → r ≡ namedCall line v
     names-answer x k e h q = rw (e, ← h, ← q) k

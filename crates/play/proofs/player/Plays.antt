@@ -1,5 +1,5 @@
 -- What a line leaves, case by case, over plain variables. Assumes nothing.
-use Prim.Native.Nat.{ℕ, _<_, _≤_}
+use Prim.Native.Nat.{ℕ, _+_, _*_, _<_, _≤_}
 use mathlib.Core.Path.{_≡_, refl}
 use mathlib.Core.List.{List, [], _∷_, _++_}
 use mathlib.Core.Bool.{Bool, true, false, cond}
@@ -16,14 +16,15 @@ use Rattle.play.specs.declared.player.Played.{Played}
 use Rattle.play.specs.declared.calls.Call.{Call}
 use Rattle.play.specs.declared.calls.Call.the-variants.{Bad, Buffers, OpenDay, Publish, Login, Send, OpenEnd}
 use Rattle.play.specs.declared.calls.Call.the-variants.{Connect, Ask, Answer, Receive, State}
+use Rattle.play.specs.declared.calls.Call.the-variants.{SetCalendar, AskTime, MarkDate}
 use Rattle.play.proofs.calls.Call.{the-type}
-use Rattle.play.specs.Words.{argument, saidBytes, seriesFrom}
+use Rattle.play.specs.Words.{argument, saidBytes, seriesFrom, wordsFrom}
 use Rattle.play.specs.Calls.{callOf}
 use Rattle.play.specs.Lines.{wordLine}
 use Rattle.play.specs.Played.{Turn, Shows, Plays, badLine, okLine, laidOut, countedPlayer, badTurn, layoutTurn}
 use Rattle.play.specs.Played.{readyTurn, startTurn, callTurn, lacksRoom, playTurn, ShowsOpenDay, ShowsOpenEnd}
 use Rattle.play.specs.Played.{ShowsConnect, ShowsAnswer, ShowsState, PlaysPublish, PlaysLogin, PlaysSend, PlaysAsk}
-use Rattle.play.specs.Played.{PlaysReceive}
+use Rattle.play.specs.Played.{PlaysReceive, ShowsCalendar, ShowsTime, ShowsDate}
 
 -- A turn that is another.
 is-turn : {u t : Turn} {r : Played} {b a log chain : List ℕ} → t ≡ u → Plays u r b a log chain → Plays t r b a log chain
@@ -113,10 +114,21 @@ module _ (p : Player) (line log chain : List ℕ) (call : Call) (r : Played) (t 
   pub ready-state : call ≡ State → ShowsState p r t t′ → Plays (readyTurn p line log chain call) r t t′ log chain
   ready-state e h = rw e (h, refl, refl)
 
-  others : (c : Call) → OneOf (0 ∷ 2 ∷ 3 ∷ 4 ∷ 5 ∷ 6 ∷ 7 ∷ 8 ∷ 9 ∷ 10 ∷ 11 ∷ []) (tagOf the-type c)
+  pub ready-calendar : (n k : ℕ) → call ≡ SetCalendar n k
+      → ShowsCalendar p (wordsFrom line 1 (3 * n)) (wordsFrom line (1 + 3 * n) k) r t t′
+      → Plays (readyTurn p line log chain call) r t t′ log chain
+  ready-calendar n k e h = rw e (h, refl, refl)
+
+  pub ready-time : (s : ℕ) → call ≡ AskTime s → ShowsTime p s r t t′ → Plays (readyTurn p line log chain call) r t t′ log chain
+  ready-time s e h = rw e (h, refl, refl)
+
+  pub ready-date : (m : ℕ) → call ≡ MarkDate m → ShowsDate p m r t t′ → Plays (readyTurn p line log chain call) r t t′ log chain
+  ready-date m e h = rw e (h, refl, refl)
+
+  others : (c : Call) → OneOf (0 ∷ 2 ∷ 3 ∷ 4 ∷ 5 ∷ 6 ∷ 7 ∷ 8 ∷ 9 ∷ 10 ∷ 11 ∷ 12 ∷ 13 ∷ 14 ∷ []) (tagOf the-type c)
       → startTurn p log chain c ≡ badTurn p log chain
   others Bad k = refl
-  others (Buffers n m) k = absurd (miss (0 ∷ 2 ∷ 3 ∷ 4 ∷ 5 ∷ 6 ∷ 7 ∷ 8 ∷ 9 ∷ 10 ∷ 11 ∷ []) 1 tt k)
+  others (Buffers n m) k = absurd (miss (0 ∷ 2 ∷ 3 ∷ 4 ∷ 5 ∷ 6 ∷ 7 ∷ 8 ∷ 9 ∷ 10 ∷ 11 ∷ 12 ∷ 13 ∷ 14 ∷ []) 1 tt k)
   others (OpenDay date n) k = refl
   others (Publish s tid) k = refl
   others (Login s n) k = refl
@@ -127,8 +139,11 @@ module _ (p : Player) (line log chain : List ℕ) (call : Call) (r : Played) (t 
   others (Answer s) k = refl
   others Receive k = refl
   others State k = refl
+  others (SetCalendar n m) k = refl
+  others (AskTime s) k = refl
+  others (MarkDate m) k = refl
 
-  pub start-other : OneOf (0 ∷ 2 ∷ 3 ∷ 4 ∷ 5 ∷ 6 ∷ 7 ∷ 8 ∷ 9 ∷ 10 ∷ 11 ∷ []) (tagOf the-type call)
+  pub start-other : OneOf (0 ∷ 2 ∷ 3 ∷ 4 ∷ 5 ∷ 6 ∷ 7 ∷ 8 ∷ 9 ∷ 10 ∷ 11 ∷ 12 ∷ 13 ∷ 14 ∷ []) (tagOf the-type call)
       → Shows p (badLine (p .lines)) r t t′ → Plays (startTurn p log chain call) r t t′ log chain
   start-other k h = is-turn (others call k) (h, refl, refl)
 

@@ -37,6 +37,7 @@ module _ (p : Player) where
         chain = p .chain;
         sender = p .sender;
         receiver = p .receiver;
+        calendar = p .calendar;
       }) p .log ≡ p .log
       go true = refl
       go false = refl
@@ -52,6 +53,7 @@ module _ (p : Player) where
         chain = p .chain;
         sender = p .sender;
         receiver = p .receiver;
+        calendar = p .calendar;
       }) p .chain ≡ p .chain
       go true = refl
       go false = refl

@@ -6,14 +6,24 @@ use mathlib.Core.List.{List, [], _∷_}
 use Rattle.flow.specs.declared.sender.Sender.{Sender}
 use Rattle.flow.specs.declared.receiver.Receiver.{Receiver}
 use Rattle.flow.specs.Ends.{freshSender, freshReceiver}
+use Rattle.calendar.specs.declared.trading.Calendar.{Calendar}
+use Rattle.calendar.specs.Calendar.{freshCalendar}
 use Rattle.listing.specs.Text.{WroteText}
 use Rattle.play.specs.declared.player.Player.{Player}
 use Rattle.play.specs.Lines.{wordLine, numbered}
 use Rattle.play.specs.Played.{freshPlayer, badLine}
 
-pub fresh-is : (e : Sender) (f : Receiver) → e ≡ freshSender → f ≡ freshReceiver
-    → _≡_ {A = Player} (record { lines = 0; ready = false; log = 0; chain = 0; sender = e; receiver = f }) freshPlayer
-fresh-is e f q p = rw (q, p)
+pub fresh-is : (e : Sender) (f : Receiver) (c : Calendar) → e ≡ freshSender → f ≡ freshReceiver → c ≡ freshCalendar
+    → _≡_ {A = Player} (record {
+      lines = 0;
+      ready = false;
+      log = 0;
+      chain = 0;
+      sender = e;
+      receiver = f;
+      calendar = c;
+    }) freshPlayer
+fresh-is e f c q p o = rw (q, p, o)
 
 pub bad-is : {l t : List ℕ} {to : ℕ} (n : ℕ)
     → WroteText l 0 (wordLine (numbered (98 ∷ 97 ∷ 100 ∷ 32 ∷ 108 ∷ 105 ∷ 110 ∷ 101 ∷ []) n)) t to

@@ -37,13 +37,18 @@ use Rattle.flow.specs.declared.receiver.Origin.the-variants.{Packet, Buffer}
 use Rattle.flow.specs.declared.receiver.Received.{Received}
 use Rattle.flow.specs.declared.receiver.Received.the-variants.{Idle, Duplicate, Partial, Complete}
 use Rattle.flow.specs.declared.receiver.Received.the-variants.{Refused as NotTaken}
+use Rattle.calendar.specs.declared.trading.SetAnswer.{SetAnswer}
+use Rattle.calendar.specs.declared.trading.SetAnswer.the-variants.{Done as IsSet}
+use Rattle.calendar.specs.declared.trading.SetAnswer.the-variants.{Refused as NotSet}
+use Rattle.calendar.specs.declared.trading.TradeTime.{TradeTime}
+use Rattle.calendar.specs.declared.trading.TradeTime.the-variants.{Outside, Inside}
 use Rattle.ftd.specs.Bytes.{part}
 use Rattle.ftd.specs.declared.packet.Span.{Span}
 use Rattle.flow.specs.Answers.{contentIn}
 use Rattle.play.specs.Lines.{hexBytes, contentText, wordLine, numbered, bytesLine, refusedLine, openedLine}
 use Rattle.play.specs.Lines.{publishedLine, loginAnswerLine, sentLine, opened, published, login, sent, none}
 use Rattle.play.specs.Lines.{requestedLine, confirmedLine, messageLine, receivedLine, asked, answered, idle, again}
-use Rattle.play.specs.Lines.{held}
+use Rattle.play.specs.Lines.{held, set, inside, outside, date, setLine, timeLine, dateLine}
 
 pub hex-append : (l m : List ℕ) → hexBytes (l ++ m) ≡ hexBytes l ++ hexBytes m
 unfolding hexBytes
@@ -194,3 +199,21 @@ module _ {l o : List ℕ} {to : ℕ} where
     pub received-not : (r : Refusal) → a ≡ NotTaken r → WroteText l 0 (refusedLine r) o to
         → WroteText l 0 (receivedLine p b a) o to
     received-not r e q = rw e q
+
+  pub set-done : (a : SetAnswer) → a ≡ IsSet → WroteText l 0 (wordLine set) o to → WroteText l 0 (setLine a) o to
+  set-done a e q = rw e q
+
+  pub set-not : (a : SetAnswer) (r : Refusal) → a ≡ NotSet r → WroteText l 0 (refusedLine r) o to
+      → WroteText l 0 (setLine a) o to
+  set-not a r e q = rw e q
+
+  pub time-outside : (a : TradeTime) → a ≡ Outside → WroteText l 0 (wordLine outside) o to
+      → WroteText l 0 (timeLine a) o to
+  time-outside a e q = rw e q
+
+  pub time-inside : (a : TradeTime) (d x : ℕ) → a ≡ Inside d → x ≡ d → WroteText l 0 (wordLine (numbered inside x)) o to
+      → WroteText l 0 (timeLine a) o to
+  time-inside a d x e f q = rw (e, ← f) q
+
+  pub date-is : (d x : ℕ) → x ≡ d → WroteText l 0 (wordLine (numbered date x)) o to → WroteText l 0 (dateLine d) o to
+  date-is d x f q = rw (← f) q

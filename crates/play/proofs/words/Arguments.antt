@@ -11,7 +11,7 @@ use lib.ListN.{length, take, drop, getD, set, drop-of-length-le, length-append, 
 use lib.Seq.{drop-cons, set-at, append-snoc, take-at}
 use lib.Dec.{eqb, ltb}
 use Rattle.play.specs.Words.{upToSpace, endOf, numberIn, saysBytes, nextEnd, endAt, argument, hasArguments}
-use Rattle.play.specs.Words.{allBytes, mostNamed, seriesBehind, seriesCount, seriesAt, seriesFrom}
+use Rattle.play.specs.Words.{allBytes, numbersBehind, numberCount, numberUpTo, numbersFrom}
 
 -- ─── Where words end ───
 
@@ -83,66 +83,69 @@ bytes-first line i k =
     let f : k - 0 ≡ k = omega arith in
     rw (e, f)
 
--- ─── The series of an opening ───
+-- ─── Lists of numbers ───
 
-module _ (line : List ℕ) (i n t : ℕ) (inv : seriesBehind line i n (65 - n) ≡ t) where
-  module _ (h : n < 65) (b : Bool) (p : b ≡ hasArguments line (i + n)) where
-    series-step : cond b n (cond (ltb 65535 (numberIn 10 (argument line (i + n)))) (mostNamed + 1)
-        (seriesBehind line i (n + 1) (65 - (n + 1)))) ≡ t
-    unfolding seriesBehind
-    series-step = let e : 65 - n ≡ suc (65 - (n + 1)) = omega arith in rw p (rw e at inv)
+module _ (top most : ℕ) (line : List ℕ) (i n t : ℕ) (inv : numbersBehind top most line i n ((most + 1) - n) ≡ t) where
+  module _ (h : n ≤ most) (b : Bool) (p : b ≡ hasArguments line (i + n)) where
+    count-step : cond b n (cond (ltb top (numberIn 10 (argument line (i + n)))) (most + 1)
+        (numbersBehind top most line i (n + 1) ((most + 1) - (n + 1)))) ≡ t
+    unfolding numbersBehind
+    count-step = let e : (most + 1) - n ≡ suc ((most + 1) - (n + 1)) = omega arith in rw p (rw e at inv)
 
-    pub series-end : b ≡ true → n ≡ t
-    series-end y = rw y at series-step
+    pub count-end : b ≡ true → n ≡ t
+    count-end y = rw y at count-step
 
-    module _ (y : b ≡ false) (w : List ℕ) (q : w ≡ argument line (i + n)) (x : ℕ) (e : x ≡ numberIn 10 w) where
-      x-is : x ≡ numberIn 10 (argument line (i + n))
-      x-is = number-is line (i + n) w q x e
+    module _ (y : b ≡ false) (a : Bool) (q : a ≡ ltb top (numberIn 10 (argument line (i + n)))) where
+      pub count-wrong : a ≡ true → most + 1 ≡ t
+      count-wrong g = rw (y, ← q, g) at count-step
 
-      pub series-wrong : 65535 < x → 65 ≡ t
-      series-wrong g = rw (y, ← x-is, lt-ltb 65535 x g) at series-step
+      pub count-more : a ≡ false → numbersBehind top most line i (n + 1) ((most + 1) - (n + 1)) ≡ t
+      count-more g = rw (y, ← q, g) at count-step
 
-      pub series-more : x ≤ 65535 → seriesBehind line i (n + 1) (65 - (n + 1)) ≡ t
-      series-more g = rw (y, ← x-is, le-ltb 65535 x g) at series-step
+  pub count-over : most < n → most + 1 ≡ t
+  unfolding numbersBehind
+  count-over h = let e : (most + 1) - n ≡ 0 = omega arith in rw e at inv
 
-  pub series-over : 65 ≤ n → 65 ≡ t
-  unfolding seriesBehind
-  series-over h = let e : 65 - n ≡ 0 = omega arith in rw e at inv
+pub count-first : (top most : ℕ) (line : List ℕ) (i : ℕ)
+    → numbersBehind top most line i 0 ((most + 1) - 0) ≡ numberCount top most line i
+unfolding numberCount
+count-first top most line i = let e : (most + 1) - 0 ≡ most + 1 = omega arith in rw e
 
-pub series-first : (line : List ℕ) (i : ℕ) → seriesBehind line i 0 (65 - 0) ≡ seriesCount line i
-unfolding seriesCount
-series-first line i = refl
+module _ (top : ℕ) (line : List ℕ) (i : ℕ) (w : List ℕ) (q : w ≡ argument line i) (x : ℕ) (e : x ≡ numberIn 10 w) where
+  pub above-is : ltb top x ≡ ltb top (numberIn 10 (argument line i))
+  above-is = rw (← q, ← e)
 
-module _ (line : List ℕ) (i : ℕ) (w : List ℕ) (q : w ≡ argument line i) (x : ℕ) (e : x ≡ numberIn 10 w) where
-  pub no-series : 65535 < x → 0 ≡ seriesAt line i
-  unfolding seriesAt
-  no-series g = rw (← q, ← e, lt-ltb 65535 x g)
+  pub above-top : top < x → 0 ≡ numberUpTo top line i
+  unfolding numberUpTo
+  above-top g = rw (← q, ← e, lt-ltb top x g)
 
-  pub series-is : x ≤ 65535 → x ≡ seriesAt line i
-  unfolding seriesAt
-  series-is g = rw (← q, ← e, le-ltb 65535 x g)
+  pub up-to-top : x ≤ top → x ≡ numberUpTo top line i
+  unfolding numberUpTo
+  up-to-top g = rw (← q, ← e, le-ltb top x g)
 
-length-series : (line : List ℕ) (i n : ℕ) → length (seriesFrom line i n) ≡ n
-unfolding seriesFrom
-length-series line i zero = refl
-length-series line i (suc n) = rw length-append (let e = length-series line i n in omega (arith, e))
+length-numbers : (top : ℕ) (line : List ℕ) (i n : ℕ) → length (numbersFrom top line i n) ≡ n
+unfolding numbersFrom
+length-numbers top line i zero = refl
+length-numbers top line i (suc n) = rw length-append (let e = length-numbers top line i n in omega (arith, e))
 
-pub list-first : (line l : List ℕ) (i : ℕ) → l ≡ seriesFrom line i 0 ++ drop 0 l
-unfolding seriesFrom
-list-first line l i = refl
+module _ (top : ℕ) (line l : List ℕ) (i : ℕ) where
+  pub list-first : l ≡ numbersFrom top line i 0 ++ drop 0 l
+  unfolding numbersFrom
+  list-first = refl
 
-pub list-turn : (line l out : List ℕ) (i k v : ℕ) → out ≡ seriesFrom line i k ++ drop k l → length out ≡ length l
-    → k < length out → v ≡ seriesAt line (i + k) → set out k v ≡ seriesFrom line i (k + 1) ++ drop (k + 1) l
-unfolding seriesFrom
-list-turn line l out i k v inv e h q =
-    let some : List ℕ = seriesFrom line i k in
-    rw (inv, drop-cons l k 0 (omega arith), add-one k, ← q)
-    (set-at some (getD l k 0) (drop (suc k) l) v k (length-series line i k) ∙ sym (append-snoc some v (drop (suc k) l)))
+  module _ (out : List ℕ) (k : ℕ) (inv : out ≡ numbersFrom top line i k ++ drop k l) where
+    pub list-turn : (v : ℕ) → length out ≡ length l → k < length out → v ≡ numberUpTo top line (i + k)
+        → set out k v ≡ numbersFrom top line i (k + 1) ++ drop (k + 1) l
+    unfolding numbersFrom
+    list-turn v e h q =
+        let some : List ℕ = numbersFrom top line i k in
+        rw (inv, drop-cons l k 0 (omega arith), add-one k, ← q)
+        (set-at some (getD l k 0) (drop (suc k) l) v k (length-numbers top line i k)
+        ∙ sym (append-snoc some v (drop (suc k) l)))
 
-pub list-over : (line l out : List ℕ) (i k n : ℕ) → out ≡ seriesFrom line i k ++ drop k l → k ≤ n → n ≤ k
-    → out ≡ seriesFrom line i n ++ drop n l
-list-over line l out i k n inv h g = let e : n ≡ k = omega arith in rw e inv
+    pub list-over : (n : ℕ) → k ≤ n → n ≤ k → out ≡ numbersFrom top line i n ++ drop n l
+    list-over n h g = let e : n ≡ k = omega arith in rw e inv
 
--- The list's front part is the series.
-pub list-front : (line l out : List ℕ) (i n : ℕ) → out ≡ seriesFrom line i n ++ drop n l → take n out ≡ seriesFrom line i n
-list-front line l out i n q = rw q (take-at (seriesFrom line i n) (drop n l) n (length-series line i n))
+    -- The list's front part is the numbers.
+    pub list-front : take k out ≡ numbersFrom top line i k
+    list-front = rw inv (take-at (numbersFrom top line i k) (drop k l) k (length-numbers top line i k))

@@ -1,7 +1,8 @@
 //! The differential test: `differ [INPUTS [SEED [LISTER]]]`. Both sides on generated inputs, on each row of the table
-//! of items, on link and skipped packets, start fields and modes, then on a generated capture of some megabytes;
-//! LISTER is the program that lists captures. Each difference is printed with its bytes; any makes the run fail.
+//! of items, on link and skipped packets, start fields and modes, on trading calendars, then on a generated capture of
+//! some megabytes; LISTER is the program that lists captures. Each difference is printed with its bytes; any makes the run fail.
 
+use outside::calendar::{Both, Input};
 use outside::compare::{self, hex, Asked};
 use outside::{items, Packet, LINK, MESSAGE, SKIPPED, UNUSED};
 use reader::generate::{
@@ -190,6 +191,24 @@ impl Run {
         }
     }
 
+    /// Trading calendars, one set behind the other, each asked for some times; dates of marks.
+    fn calendars(&mut self, r: &mut Random, rounds: u64) {
+        let mut both = Both::default();
+        for _ in 0..rounds {
+            let input = Input::new(r, &both.days);
+            let found = both.set(&mut self.asked, &input);
+            self.count("calendar", *found.as_ref().unwrap_or(&255));
+            self.note(&format!("a calendar, {input:?}"), &[], found.map(|_| ()));
+            for _ in 0..4 {
+                let time = input.time(r);
+                let found = both.ask(&mut self.asked, time);
+                self.count("time", 100 + found.as_ref().unwrap_or(&100));
+                let found = found.and_then(|_| both.mark(&mut self.asked, time));
+                self.note(&format!("a time, with {input:?}"), &[], found);
+            }
+        }
+    }
+
     /// A part of the test, with its figures.
     fn part(&mut self, what: &str, test: impl FnOnce(&mut Self)) {
         let start = Instant::now();
@@ -213,6 +232,7 @@ impl Run {
                 "item read" => &ITEMS,
                 "start field" => &["none", "one", "of another width", "several"],
                 "mode" => &["unknown", "private", "broadcast", "management", "dialog"],
+                "time" => &["outside", "inside"],
                 _ => &[],
             };
             let name = match (what, answer) {
@@ -303,6 +323,7 @@ fn main() {
     let rounds = (inputs / 1000) as usize;
     run.part("each row of the table of items", |run| run.rows(&mut Random::new(seed), rounds));
     run.part("plain packets, fields, start fields and modes", |run| run.others(&mut Random::new(seed), inputs / 10));
+    run.part("trading calendars and marks", |run| run.calendars(&mut Random::new(seed), inputs / 20));
 
     let start = Instant::now();
     let before = (run.inputs, run.asked.0);

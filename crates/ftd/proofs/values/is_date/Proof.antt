@@ -16,26 +16,8 @@ returns-2 c = search (needs, date-spaces)
 all-in-requires-2 : tie.Need-all-in-requires-2
 all-in-requires-2 c κs = search needs
 
-shared-slice-read-two-digits : tie.Need-shared-slice-read-two-digits
-shared-slice-read-two-digits c = search needs
-
-shared-slice-read-two-digits-2 : tie.Need-shared-slice-read-two-digits-2
-shared-slice-read-two-digits-2 c = search needs
-
-two-digits-requires : tie.Need-two-digits-requires
-two-digits-requires c κs = search needs
-
-shared-slice-read-two-digits-3 : tie.Need-shared-slice-read-two-digits-3
-shared-slice-read-two-digits-3 c = search needs
-
-shared-slice-read-two-digits-4 : tie.Need-shared-slice-read-two-digits-4
-shared-slice-read-two-digits-4 c = search needs
-
-two-digits-requires-2 : tie.Need-two-digits-requires-2
-two-digits-requires-2 c κs = search needs
-
-right-day-requires : tie.Need-right-day-requires
-right-day-requires c κs = search needs
+is-real-day-requires : tie.Need-is-real-day-requires
+is-real-day-requires c κs = search needs
 
 returns-3 : tie.Need-returns-3
 returns-3 c = search (needs, date-digits)
@@ -51,12 +33,6 @@ is-date-spec =
     all-in-requires
     returns-2
     all-in-requires-2
-    shared-slice-read-two-digits
-    shared-slice-read-two-digits-2
-    two-digits-requires
-    shared-slice-read-two-digits-3
-    shared-slice-read-two-digits-4
-    two-digits-requires-2
-    right-day-requires
+    is-real-day-requires
     returns-3
     returns-4)

@@ -65,6 +65,9 @@ returns-6 : tie.Need-returns-6
 unfolding endVerbOf
 returns-6 c = search (needs, found, passed) depth 9 fits 9000
 
+trading-verb-of-requires : tie.Need-trading-verb-of-requires
+trading-verb-of-requires c κs = search needs
+
 returns-7 : tie.Need-returns-7
 unfolding endVerbOf
 returns-7 c = search (needs, found, passed) depth 9 fits 9000
@@ -91,4 +94,5 @@ end-verb-of-spec =
     slice-aggregate-is-word-6
     is-word-requires-6
     returns-6
+    trading-verb-of-requires
     returns-7)

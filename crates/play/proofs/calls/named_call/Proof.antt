@@ -2,7 +2,7 @@
 use borrow.Author.Needs.{needs}
 use Rattle.play.proofs.calls.Rows.{names-buffers, names-day, names-publish, names-login, names-send}
 use Rattle.play.proofs.calls.Rows.{names-end, names-connect, names-ask, names-answer, names-receive}
-use Rattle.play.proofs.calls.Rows.{names-state}
+use Rattle.play.proofs.calls.Rows.{names-state, names-calendar, names-mark}
 use Rattle.play.proofs.calls.named_call.Statement.{statement}
 use Rattle.play.proofs.calls.named_call.Tie as tie
 
@@ -30,8 +30,8 @@ enum-told-3 c = search needs
 number-at-requires-3 : tie.Need-number-at-requires-3
 number-at-requires-3 c κs = search needs
 
-series-count-requires : tie.Need-series-count-requires
-series-count-requires c κs = search needs
+number-count-requires : tie.Need-number-count-requires
+number-count-requires c κs = search needs
 
 open-day-with-requires : tie.Need-open-day-with-requires
 open-day-with-requires c κs = search needs
@@ -87,8 +87,8 @@ send-with-requires c κs = search needs
 enum-told-7 : tie.Need-enum-told-7
 enum-told-7 c = search needs
 
-series-count-requires-2 : tie.Need-series-count-requires-2
-series-count-requires-2 c κs = search needs
+number-count-requires-2 : tie.Need-number-count-requires-2
+number-count-requires-2 c κs = search needs
 
 open-end-with-requires : tie.Need-open-end-with-requires
 open-end-with-requires c κs = search needs
@@ -111,20 +111,29 @@ has-form-requires-6 c κs = search needs
 number-at-requires-9 : tie.Need-number-at-requires-9
 number-at-requires-9 c κs = search needs
 
+has-form-requires-7 : tie.Need-has-form-requires-7
+has-form-requires-7 c κs = search needs
+
 number-at-requires-10 : tie.Need-number-at-requires-10
 number-at-requires-10 c κs = search needs
+
+number-at-requires-11 : tie.Need-number-at-requires-11
+number-at-requires-11 c κs = search needs
 
 ask-with-requires : tie.Need-ask-with-requires
 ask-with-requires c κs = search needs
 
+time-with-requires : tie.Need-time-with-requires
+time-with-requires c κs = search needs
+
 enum-told-10 : tie.Need-enum-told-10
 enum-told-10 c = search needs
 
-has-form-requires-7 : tie.Need-has-form-requires-7
-has-form-requires-7 c κs = search needs
+has-form-requires-8 : tie.Need-has-form-requires-8
+has-form-requires-8 c κs = search needs
 
-number-at-requires-11 : tie.Need-number-at-requires-11
-number-at-requires-11 c κs = search needs
+number-at-requires-12 : tie.Need-number-at-requires-12
+number-at-requires-12 c κs = search needs
 
 answer-with-requires : tie.Need-answer-with-requires
 answer-with-requires c κs = search needs
@@ -132,8 +141,8 @@ answer-with-requires c κs = search needs
 enum-told-11 : tie.Need-enum-told-11
 enum-told-11 c = search needs
 
-has-form-requires-8 : tie.Need-has-form-requires-8
-has-form-requires-8 c κs = search needs
+has-form-requires-9 : tie.Need-has-form-requires-9
+has-form-requires-9 c κs = search needs
 
 plain-call-requires-2 : tie.Need-plain-call-requires-2
 plain-call-requires-2 c κs = search needs
@@ -141,11 +150,35 @@ plain-call-requires-2 c κs = search needs
 enum-told-12 : tie.Need-enum-told-12
 enum-told-12 c = search needs
 
-has-form-requires-9 : tie.Need-has-form-requires-9
-has-form-requires-9 c κs = search needs
+has-form-requires-10 : tie.Need-has-form-requires-10
+has-form-requires-10 c κs = search needs
 
 plain-call-requires-3 : tie.Need-plain-call-requires-3
 plain-call-requires-3 c κs = search needs
+
+enum-told-13 : tie.Need-enum-told-13
+enum-told-13 c = search needs
+
+number-at-requires-13 : tie.Need-number-at-requires-13
+number-at-requires-13 c κs = search needs
+
+number-count-requires-3 : tie.Need-number-count-requires-3
+number-count-requires-3 c κs = search needs
+
+calendar-with-requires : tie.Need-calendar-with-requires
+calendar-with-requires c κs = search needs
+
+enum-told-14 : tie.Need-enum-told-14
+enum-told-14 c = search needs
+
+has-form-requires-11 : tie.Need-has-form-requires-11
+has-form-requires-11 c κs = search needs
+
+number-at-requires-14 : tie.Need-number-at-requires-14
+number-at-requires-14 c κs = search needs
+
+mark-with-requires : tie.Need-mark-with-requires
+mark-with-requires c κs = search needs
 
 returns : tie.Need-returns
 returns c = search needs
@@ -183,6 +216,12 @@ returns-11 c = search (needs, names-receive)
 returns-12 : tie.Need-returns-12
 returns-12 c = search (needs, names-state)
 
+returns-13 : tie.Need-returns-13
+returns-13 c = search (needs, names-calendar)
+
+returns-14 : tie.Need-returns-14
+returns-14 c = search (needs, names-mark)
+
 pub named-call-spec : {M : Type 1} → statement M
 named-call-spec =
     tie.close
@@ -195,7 +234,7 @@ named-call-spec =
     buffers-with-requires
     enum-told-3
     number-at-requires-3
-    series-count-requires
+    number-count-requires
     open-day-with-requires
     enum-told-4
     has-form-requires-2
@@ -214,7 +253,7 @@ named-call-spec =
     number-at-requires-8
     send-with-requires
     enum-told-7
-    series-count-requires-2
+    number-count-requires-2
     open-end-with-requires
     enum-told-8
     has-form-requires-5
@@ -222,18 +261,29 @@ named-call-spec =
     enum-told-9
     has-form-requires-6
     number-at-requires-9
-    number-at-requires-10
-    ask-with-requires
-    enum-told-10
     has-form-requires-7
+    number-at-requires-10
     number-at-requires-11
+    ask-with-requires
+    time-with-requires
+    enum-told-10
+    has-form-requires-8
+    number-at-requires-12
     answer-with-requires
     enum-told-11
-    has-form-requires-8
+    has-form-requires-9
     plain-call-requires-2
     enum-told-12
-    has-form-requires-9
+    has-form-requires-10
     plain-call-requires-3
+    enum-told-13
+    number-at-requires-13
+    number-count-requires-3
+    calendar-with-requires
+    enum-told-14
+    has-form-requires-11
+    number-at-requires-14
+    mark-with-requires
     returns
     returns-2
     returns-3
@@ -245,4 +295,6 @@ named-call-spec =
     returns-9
     returns-10
     returns-11
-    returns-12)
+    returns-12
+    returns-13
+    returns-14)

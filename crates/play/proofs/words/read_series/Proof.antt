@@ -19,11 +19,14 @@ abbrev μ-loop : tie.MeasureT-loop
 loop-holds : tie.Need-loop-holds Inv-loop μ-loop
 loop-holds c = (search needs, refl, search (needs, list-first))
 
-add-series-at : tie.Need-add-series-at Inv-loop μ-loop
-add-series-at c = search needs
+add-number-up-to : tie.Need-add-number-up-to Inv-loop μ-loop
+add-number-up-to c = search needs
 
-series-at-requires : tie.Need-series-at-requires Inv-loop μ-loop
-series-at-requires c κs = search needs
+number-up-to-requires : tie.Need-number-up-to-requires Inv-loop μ-loop
+number-up-to-requires c κs = search needs
+
+cast-list : tie.Need-cast-list Inv-loop μ-loop
+cast-list c = search needs
 
 mul-list : tie.Need-mul-list Inv-loop μ-loop
 mul-list c = search needs
@@ -43,8 +46,8 @@ loop-again c =
     let l = c .before .before .loop in (
       search needs,
       search (needs, length-set),
-      list-turn (a .line .now) (a .list .now) (l .list) (a .i) (l .k) _ (l .inv .2) (l .inv .1) (omega arith)
-          (c .series-at .ensures),
+      list-turn 65535 (a .line .now) (a .list .now) (a .i) (l .list) (l .k) (l .inv .2) _ (l .inv .1) (omega arith)
+          (c .number-up-to .ensures .0),
     )
 
 same-length : tie.Need-same-length Inv-loop μ-loop
@@ -60,8 +63,9 @@ read-series-spec =
     Inv-loop
     μ-loop
     loop-holds
-    add-series-at
-    series-at-requires
+    add-number-up-to
+    number-up-to-requires
+    cast-list
     mul-list
     slice-write-list
     add-k

@@ -1,10 +1,10 @@
 -- `player::Player::play_ready` meets its contract. Assumes nothing.
 use borrow.Author.Needs.{needs}
 use Rattle.play.proofs.calls.Limits.{day-limit, end-limit, login-limit, send-limit, ask-limit}
-use Rattle.play.proofs.calls.Limits.{room-text, room-out}
+use Rattle.play.proofs.calls.Limits.{room-text, room-out, times-limit, dates-limit}
 use Rattle.play.proofs.player.Plays.{ready-bad, ready-buffers, ready-day, ready-publish, ready-login}
 use Rattle.play.proofs.player.Plays.{ready-send, ready-end, ready-connect, ready-ask, ready-answer}
-use Rattle.play.proofs.player.Plays.{ready-receive, ready-state}
+use Rattle.play.proofs.player.Plays.{ready-receive, ready-state, ready-calendar, ready-time, ready-date}
 use Rattle.play.proofs.player.Player.play_ready.Statement.{statement}
 use Rattle.play.proofs.player.Player.play_ready.Tie as tie
 
@@ -79,6 +79,24 @@ enum-told-5 c = search needs
 
 show-state-requires : tie.Need-show-state-requires
 show-state-requires c κs = search needs
+
+enum-known-call-8 : tie.Need-enum-known-call-8
+enum-known-call-8 c = search needs
+
+play-calendar-requires : tie.Need-play-calendar-requires
+play-calendar-requires c κs = (search needs, search (needs, times-limit), search (needs, dates-limit))
+
+enum-known-call-9 : tie.Need-enum-known-call-9
+enum-known-call-9 c = search needs
+
+ask-time-requires : tie.Need-ask-time-requires
+ask-time-requires c κs = search needs
+
+enum-known-call-10 : tie.Need-enum-known-call-10
+enum-known-call-10 c = search needs
+
+show-date-requires : tie.Need-show-date-requires
+show-date-requires c κs = search needs
 
 same-length : tie.Need-same-length
 same-length c = search needs
@@ -185,6 +203,24 @@ same-length-23 c = search needs
 returns-12 : tie.Need-returns-12
 returns-12 c = search (needs, ready-state)
 
+same-length-24 : tie.Need-same-length-24
+same-length-24 c = search needs
+
+returns-13 : tie.Need-returns-13
+returns-13 c = search (needs, ready-calendar)
+
+same-length-25 : tie.Need-same-length-25
+same-length-25 c = search needs
+
+returns-14 : tie.Need-returns-14
+returns-14 c = search (needs, ready-time)
+
+same-length-26 : tie.Need-same-length-26
+same-length-26 c = search needs
+
+returns-15 : tie.Need-returns-15
+returns-15 c = search (needs, ready-date)
+
 pub play-ready-spec : {M : Type 1} → statement M
 play-ready-spec =
     tie.close
@@ -213,6 +249,12 @@ play-ready-spec =
     play-receive-requires
     enum-told-5
     show-state-requires
+    enum-known-call-8
+    play-calendar-requires
+    enum-known-call-9
+    ask-time-requires
+    enum-known-call-10
+    show-date-requires
     same-length
     returns
     same-length-2
@@ -247,4 +289,10 @@ play-ready-spec =
     same-length-22
     returns-11
     same-length-23
-    returns-12)
+    returns-12
+    same-length-24
+    returns-13
+    same-length-25
+    returns-14
+    same-length-26
+    returns-15)

@@ -1,0 +1,3 @@
+-- The laws of holidays and trading days.
+pub mod Laws
+pub mod Near

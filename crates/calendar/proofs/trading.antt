@@ -1,0 +1,3 @@
+-- The laws of the calendar.
+pub mod Copied
+pub mod Laws

@@ -1,0 +1,2 @@
+-- The laws of the calendar as numbers.
+pub mod Laws

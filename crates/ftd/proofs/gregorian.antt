@@ -1,0 +1,2 @@
+-- The laws of real dates.
+pub mod Laws

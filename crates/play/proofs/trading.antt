@@ -1,0 +1,2 @@
+-- The laws of the calendar's calls.
+pub mod Shown
