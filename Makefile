@@ -14,7 +14,7 @@ lib:
 	mkdir -p target/lib
 	cp target/staticlib/libexports.a target/lib/libftd.a
 
-target/lib/libftd.a: $(shell find crates/ftd crates/flow crates/calendar crates/exports -name '*.rt' -o -name '*.antt')
+target/lib/libftd.a: $(shell find crates/ftd crates/flow crates/calendar crates/book crates/exports -name '*.rt' -o -name '*.antt')
 	$(MAKE) lib
 
 example: $(LIB)

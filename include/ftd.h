@@ -1,12 +1,12 @@
-/* The FTD flow repeater (JR/T 0016-2004) for C and C++: packets, data fields and items, the two ends of a flow, and the
- * trading calendar.
+/* The FTD flow repeater (JR/T 0016-2004) for C and C++: packets, data fields and items, the two ends of a flow, the
+ * trading calendar, and the book of a contract.
  *
  * The library is libftd.a, for x86-64 Linux; README.md has the lines that build and link it. Of other libraries it
- * needs memcpy and memset alone. It keeps no state, takes no memory from the heap and at most 5000 bytes of stack,
- * makes no system call and always returns: each call has an answer for any bytes and numbers, and is proved to give the
- * answer, the state and every byte of every buffer that its definition says (crates/exports/specs, crates/flow/specs,
- * crates/calendar/specs, crates/ftd/specs). As calls share nothing, threads need no lock. examples/driver.c is a driver
- * of both ends, to be read along with this header.
+ * needs memcpy, memmove and memset alone. It keeps no state, takes no memory from the heap and at most 5000 bytes of
+ * stack (ftd_book_take: 20000), makes no system call and always returns: each call has an answer for any bytes and
+ * numbers, and is proved to give the answer, the state and every byte of every buffer that its definition says
+ * (crates/exports/specs, crates/flow/specs, crates/calendar/specs, crates/book/specs, crates/ftd/specs). As calls share
+ * nothing, threads need no lock. examples/driver.c is a driver of both ends, to be read along with this header.
  *
  * THE TERMS
  * A flow is a list of messages, numbered from 1 in each series and day. A series is a number from 1 up that both sides
@@ -39,9 +39,9 @@
  * Bytes are lent as a pointer and a count. A call reads and writes only within what it is lent, and keeps no pointer.
  * Where the count is 0 the pointer may be null. What a call writes to (output, log, buffer) must not overlap what it
  * reads.
- * A state (struct ftd_sender, struct ftd_receiver, struct ftd_calendar) is given and answered by value: the caller
- * keeps `end` or `calendar` of the answer from then on, also of a refusal. It is plain data with no pointer; it may be
- * copied, compared member by member and laid away. Any values of its members are a state.
+ * A state (struct ftd_sender, struct ftd_receiver, struct ftd_calendar, struct ftd_book) is given and answered by
+ * value: the caller keeps `end`, `calendar` or `book` of the answer from then on, also of a refusal. It is plain data
+ * with no pointer; it may be copied, compared member by member and laid away. Any values of its members are a state.
  * `refusal` is 0, or a number of enum ftd_refusal: then the call did nothing, state and buffers are as they were (one
  * exception is said at ftd_receive). Where more than one refusal applies, the answer is the one that stands first in
  * the call's list below. What an answer doesn't have is 0: of a refusal all but `refusal`, `answer` and the state.
@@ -83,6 +83,10 @@ enum ftd_refusal {
     FTD_WRONG_START = 19,    /* the login wants number 0, or one above those published and the next */
     FTD_DAMAGED_LOG = 20,    /* the log isn't as the last call left it */
     FTD_DAY_FULL = 21,       /* 1000000 messages are published in the series */
+    FTD_QUANTITY = 22,       /* ftd_book_take: a quotation or a match makes a quantity below 0 or above 4294967295 */
+    FTD_LEVELS = 23,         /* ftd_book_take: a 65th level of a side */
+    FTD_VOLUME = 24,         /* ftd_book_take: a match of a volume above 1000000, or one that makes a sum beyond
+                                9000000000000000000 on either side of zero */
     FTD_SESSIONS = 26,       /* ftd_set_calendar: more than 8 sessions, one without a second or with an end above 86400,
                                 two that overlap, numbers that aren't three for each */
     FTD_HOLIDAY = 27,        /* ftd_set_calendar: more than 32 holidays, or one that isn't a real date */
@@ -109,7 +113,16 @@ enum ftd_limit {
     FTD_MOST_OUTPUT = 33210,     /* bytes of all packets of a message: an output that is always large enough */
     FTD_LOG_HEAD = 16,           /* bytes that a message takes in the log besides its content */
     FTD_MOST_SESSIONS = 8,       /* sessions of a calendar */
-    FTD_MOST_HOLIDAYS = 32       /* holidays of a calendar */
+    FTD_MOST_HOLIDAYS = 32,      /* holidays of a calendar */
+    FTD_CODE = 10,               /* bytes of a contract's code */
+    FTD_MOST_LEVELS = 64,        /* levels of a side of a book */
+    FTD_MOST_VOLUME = 1000000    /* volume of a match */
+};
+
+/* The side of a book. */
+enum ftd_side {
+    FTD_SELLING = 0, /* from the lowest price */
+    FTD_BUYING = 1   /* from the highest price */
 };
 
 /* A part of lent bytes. */
@@ -364,6 +377,42 @@ struct ftd_trade_time {
     uint8_t inside; /* 1: inside a session; 0: outside */
 };
 
+/* ---- The book of a contract: state and answers ---- */
+
+/* A price level of a side. */
+struct ftd_level {
+    int64_t price;     /* in units of 0.0001: 123.4500 is 1234500 */
+    uint32_t quantity; /* 0: the place isn't used */
+};
+
+/* The levels of a side stand in the places from 0 on, best first, no two at one price; the places behind them are 0, 0.
+ * 2080 bytes. */
+struct ftd_book {
+    uint8_t code[FTD_CODE];                    /* the contract's; ten bytes 0 before ftd_book_start */
+    struct ftd_level buying[FTD_MOST_LEVELS];  /* from the highest price */
+    struct ftd_level selling[FTD_MOST_LEVELS]; /* from the lowest price */
+    int64_t turnover;                          /* the sum of price times volume over the matches, in units of 0.0001 */
+    int64_t volume;                            /* the sum of their volumes */
+};
+
+struct ftd_book_step {
+    struct ftd_book book;
+    uint8_t refusal;
+};
+
+/* What stands at a place of a side. */
+struct ftd_listed {
+    int64_t price; /* in units of 0.0001 */
+    uint32_t quantity;
+    uint8_t found; /* 0: there is no level */
+};
+
+/* The mean match price. */
+struct ftd_mean {
+    int64_t price; /* in units of 0.0001 */
+    uint8_t found; /* 0: there is none */
+};
+
 #ifdef __cplusplus
 extern "C" {
 #endif
@@ -542,6 +591,40 @@ struct ftd_trade_time ftd_ask_calendar(struct ftd_calendar calendar, uint32_t se
 /* The China date, YYYYMMDD, of a trade date of the flow (tag 5), taken as seconds since 1970 UTC. No calendar is asked:
  * it is the date of that second, whether or not there is trade. (The two ends only compare such numbers.) */
 uint32_t ftd_mark_date(uint32_t mark);
+
+/* ---- The book of a contract ---- */
+
+/* The book stands beside the flow: whoever has a message, before ftd_publish or after ftd_receive, may give it to a
+ * book. The flow doesn't know of books, and carries what they refuse.
+ *
+ * A book of no contract: it takes every message that 7 to 10 pass, and none has an effect. */
+struct ftd_book ftd_book_fresh(void);
+
+/* Start: the day's book of the contract with that code, the ten bytes of the item InstrumentId (a text, with spaces
+ * behind it); no levels, and sums of 0. What the book was before has no effect. Refusal: 9 (not ten bytes, or a byte
+ * that is no text). */
+struct ftd_book_step ftd_book_start(struct ftd_book book, const uint8_t *code, size_t count);
+
+/* Take: a message, by TID and whole content, of any contract. The content is checked as one that is sent down. Then
+ * its fields are gone through in order, each on the book as those before it left it.
+ * Of TID 0x2001 the quotations of the contract (FID 0x000D): an absolute one is the new quantity of its side at its
+ * price; an increment, four bytes in two's complement, is added to the old one. A quantity of 0 is no level.
+ * Of TID 0x2002 the matches of the contract (FID 0x000A): the volume is taken from the level at that price on each side
+ * where one stands, and goes into the sums.
+ * All other fields, TIDs and contracts have no effect, and a refused message has none either, with the fields before
+ * the refused one.
+ * Refusals: 7, 8, 9, 10, then of the first field that is refused: 22 (of a match: a level stands at its price and has
+ * less than the volume), 23, 24. */
+struct ftd_book_step ftd_book_take(struct ftd_book book, uint32_t tid, const uint8_t *content, size_t count);
+
+/* Level: the level at a place of a side, counted from 0, best first; none behind the last. side: enum ftd_side, any
+ * number but 0 is buying. (The same as reading the member of struct ftd_book.) The book stays as it is, and isn't
+ * answered. */
+struct ftd_listed ftd_book_level(struct ftd_book book, uint8_t side, size_t place);
+
+/* Mean: the mean match price since ftd_book_start, turnover over volume, cut toward zero; none without volume. The book
+ * stays as it is, and isn't answered. */
+struct ftd_mean ftd_book_mean(struct ftd_book book);
 
 #ifdef __cplusplus
 }

@@ -73,6 +73,9 @@ expect "the start field has another FID" "$root/target/lib"
 fresh_reader
 change "$work/tests/reader/src/calendar.rs" '(day + 1..).find' '(day + 1..day + 47).find'
 expect "the next trading day is looked for among 46 days" "$root/target/lib"
+fresh_reader
+change "$work/tests/reader/src/book.rs" 'turnover.abs() > MOST_SUM' 'turnover.abs() >= MOST_SUM'
+expect "a book's sum may not reach its limit" "$root/target/lib"
 
 echo "- the models of the ends"
 fresh_reader
@@ -95,10 +98,10 @@ expect "an entry's zero bytes may be any" "$root/target/lib" calls
 fresh_library() {
     rm -rf "$work/library"
     mkdir -p "$work/library/crates" "$work/library/target"
-    for crate in ftd flow calendar exports; do
+    for crate in ftd flow calendar book exports; do
         cp -R "$root/crates/$crate" "$work/library/crates/"
     done
-    printf 'ftd:\nflow: ftd\ncalendar: ftd\nexports: ftd flow calendar\n' >"$work/library/crates.txt"
+    printf 'ftd:\nflow: ftd\ncalendar: ftd\nbook: ftd\nexports: ftd flow calendar book\n' >"$work/library/crates.txt"
     # What is proved of ftd is taken over where ftd isn't changed.
     cp -R "$root/target/rlib" "$root/target/stamp" "$work/library/target/"
 }

@@ -47,6 +47,7 @@ else
     bash tests/faults.sh
     "$outside/bench"
     "$outside/bench_ends"
+    "$outside/bench_book"
     "$outside/sends"
 fi
 echo "outside tests: ok"

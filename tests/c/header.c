@@ -49,6 +49,12 @@ static void sizes(void) {
     EXPECT(sizeof(struct ftd_calendar) == 224);
     EXPECT(sizeof(struct ftd_calendar_step) == 228);
     EXPECT(sizeof(struct ftd_trade_time) == 8);
+    EXPECT(sizeof(struct ftd_level) == 16);
+    EXPECT(sizeof(struct ftd_book) == 2080 && offsetof(struct ftd_book, buying) == 16);
+    EXPECT(offsetof(struct ftd_book, selling) == 1040 && offsetof(struct ftd_book, turnover) == 2064);
+    EXPECT(sizeof(struct ftd_book_step) == 2088);
+    EXPECT(sizeof(struct ftd_listed) == 16);
+    EXPECT(sizeof(struct ftd_mean) == 16);
 }
 
 /* ---- Packets ---- */
@@ -498,6 +504,275 @@ static void marks(void) {
     EXPECT(ftd_mark_date(4107513599u) == 21000228 && ftd_mark_date(4107513600u) == 21000301);
 }
 
+/* ---- The book of a contract ---- */
+
+enum { QUOTES = 0x2001, MATCHES = 0x2002, P = 1234500 };
+
+static const uint8_t own[FTD_CODE + 1] = "cu0405    ", other[FTD_CODE + 1] = "cu0406    ";
+static uint8_t message[FTD_MOST_CONTENT];
+static size_t message_bytes;
+
+/* Units of 0.0001 as the twelve bytes of a price. */
+static void put_price(uint8_t *to, int64_t units) {
+    uint64_t left = units < 0 ? (uint64_t)-units : (uint64_t)units;
+    int i;
+
+    for (i = 11; i >= 0; i--) {
+        if (i == 7)
+            to[i] = '.';
+        else {
+            to[i] = (uint8_t)('0' + left % 10);
+            left /= 10;
+        }
+    }
+    if (units < 0)
+        to[0] = '-';
+}
+
+static void put_number(uint8_t *to, uint32_t number) {
+    to[0] = (uint8_t)(number >> 24);
+    to[1] = (uint8_t)(number >> 16);
+    to[2] = (uint8_t)(number >> 8);
+    to[3] = (uint8_t)number;
+}
+
+/* A quotation (side 0 is buying on the line, 1 selling; kind 0 is an increment, 1 absolute) or a match behind the
+ * others of the message. */
+static void quote(const uint8_t *code, uint8_t kind, uint8_t side, uint32_t volume, int64_t price) {
+    uint8_t bytes[33];
+
+    memset(bytes, 0, sizeof bytes);
+    memcpy(bytes, code, FTD_CODE);
+    bytes[11] = kind;
+    bytes[12] = side;
+    put_price(bytes + 13, price);
+    put_number(bytes + 25, volume);
+    message_bytes += ftd_write_field(0x000D, bytes, 33, message + message_bytes, sizeof message - message_bytes).bytes;
+}
+
+static void match(const uint8_t *code, uint32_t volume, int64_t price) {
+    uint8_t bytes[29];
+
+    memset(bytes, 0, sizeof bytes);
+    memcpy(bytes, code, FTD_CODE);
+    put_price(bytes + 12, price);
+    put_number(bytes + 24, volume);
+    message_bytes += ftd_write_field(0x000A, bytes, 29, message + message_bytes, sizeof message - message_bytes).bytes;
+}
+
+/* All members are the same. */
+static int same_book(const struct ftd_book *a, const struct ftd_book *b) {
+    int same = memcmp(a->code, b->code, FTD_CODE) == 0 && a->turnover == b->turnover && a->volume == b->volume;
+    int i;
+
+    for (i = 0; i < FTD_MOST_LEVELS; i++)
+        same = same && a->buying[i].price == b->buying[i].price && a->buying[i].quantity == b->buying[i].quantity &&
+               a->selling[i].price == b->selling[i].price && a->selling[i].quantity == b->selling[i].quantity;
+    return same;
+}
+
+/* Gives the message to the book; refused, the book stays as it was. */
+static uint8_t give(struct ftd_book *book, uint32_t tid) {
+    struct ftd_book_step step = ftd_book_take(*book, tid, message, message_bytes);
+
+    EXPECT(step.refusal == 0 || same_book(&step.book, book));
+    *book = step.book;
+    message_bytes = 0;
+    return step.refusal;
+}
+
+/* The quantity as the wire's four bytes: an absolute one of buying, an increment of it, an absolute one of selling. */
+static uint8_t bid(struct ftd_book *book, uint32_t quantity, int64_t price) {
+    quote(own, 1, 0, quantity, price);
+    return give(book, QUOTES);
+}
+
+static uint8_t bid_more(struct ftd_book *book, uint32_t increment, int64_t price) {
+    quote(own, 0, 0, increment, price);
+    return give(book, QUOTES);
+}
+
+static uint8_t offer(struct ftd_book *book, uint32_t quantity, int64_t price) {
+    quote(own, 1, 1, quantity, price);
+    return give(book, QUOTES);
+}
+
+static uint8_t trade(struct ftd_book *book, uint32_t volume, int64_t price) {
+    match(own, volume, price);
+    return give(book, MATCHES);
+}
+
+/* That pair stands there, by the call and in the state; price 0 and quantity 0: none. */
+static int stands(struct ftd_book book, uint8_t side, size_t place, int64_t price, uint32_t quantity) {
+    struct ftd_listed listed = ftd_book_level(book, side, place);
+    const struct ftd_level *levels = side == FTD_SELLING ? book.selling : book.buying;
+
+    return listed.found == (quantity != 0) && listed.price == price && listed.quantity == quantity &&
+           levels[place].price == price && levels[place].quantity == quantity;
+}
+
+static int mean_is(struct ftd_book book, int64_t price) {
+    struct ftd_mean mean = ftd_book_mean(book);
+
+    return mean.found == 1 && mean.price == price;
+}
+
+static struct ftd_book started(void) {
+    struct ftd_book_step step = ftd_book_start(ftd_book_fresh(), own, FTD_CODE);
+
+    EXPECT(step.refusal == 0 && memcmp(step.book.code, own, FTD_CODE) == 0);
+    EXPECT(stands(step.book, FTD_BUYING, 0, 0, 0) && stands(step.book, FTD_SELLING, 0, 0, 0));
+    EXPECT(step.book.turnover == 0 && step.book.volume == 0 && ftd_book_mean(step.book).found == 0);
+    return step.book;
+}
+
+static void book_started(void) {
+    static const uint8_t bytes[4] = {0, 0x1F, 0x7F, 0xFF};
+    struct ftd_book fresh = ftd_book_fresh(), book = started();
+    struct ftd_book_step step;
+    uint8_t code[FTD_CODE];
+    size_t i;
+
+    EXPECT(fresh.code[0] == 0 && fresh.code[9] == 0 && stands(fresh, FTD_BUYING, 0, 0, 0));
+    EXPECT(bid(&fresh, 5, P) == 0 && stands(fresh, FTD_BUYING, 0, 0, 0));
+    EXPECT(bid(&book, 5, P) == 0 && trade(&book, 1, P) == 0);
+    for (i = 0; i < 4; i++) {
+        memcpy(code, own, FTD_CODE);
+        code[i] = bytes[i];
+        step = ftd_book_start(book, code, FTD_CODE);
+        EXPECT(step.refusal == (i == 3 ? 0 : FTD_ITEM));
+        EXPECT(stands(step.book, FTD_BUYING, 0, i == 3 ? 0 : P, i == 3 ? 0 : 4));
+    }
+    EXPECT(ftd_book_start(book, own, 6).refusal == FTD_ITEM && ftd_book_start(book, own, 11).refusal == FTD_ITEM);
+    EXPECT(ftd_book_start(book, (const uint8_t *)"          ", FTD_CODE).refusal == 0);
+    EXPECT(ftd_book_start(book, own, FTD_CODE).book.volume == 0);
+}
+
+static void book_levels(void) {
+    struct ftd_book book = started();
+
+    EXPECT(bid(&book, 10, P) == 0 && bid(&book, 4, 1235000) == 0 && bid(&book, 7, 1200000) == 0);
+    EXPECT(offer(&book, 2, 1240000) == 0 && offer(&book, 9, 1239000) == 0);
+    EXPECT(stands(book, FTD_BUYING, 0, 1235000, 4) && stands(book, FTD_BUYING, 1, P, 10));
+    EXPECT(stands(book, FTD_BUYING, 2, 1200000, 7) && stands(book, FTD_BUYING, 3, 0, 0));
+    EXPECT(stands(book, FTD_SELLING, 0, 1239000, 9) && stands(book, FTD_SELLING, 1, 1240000, 2));
+    EXPECT(stands(book, 255, 1, P, 10) && ftd_book_level(book, FTD_BUYING, 64).found == 0);
+    EXPECT(ftd_book_level(book, FTD_BUYING, SIZE_MAX).found == 0);
+    /* Below zero: in one message with the highest prices and the lowest. */
+    book = started();
+    quote(own, 1, 0, 1, -10000);
+    quote(own, 1, 0, 2, 99999999999);
+    quote(own, 1, 0, 3, 0);
+    quote(own, 1, 1, 4, 99999999999);
+    quote(own, 1, 1, 5, -9999999999);
+    EXPECT(give(&book, QUOTES) == 0 && stands(book, FTD_BUYING, 0, 99999999999, 2));
+    EXPECT(stands(book, FTD_BUYING, 1, 0, 3) && stands(book, FTD_BUYING, 2, -10000, 1));
+    EXPECT(stands(book, FTD_SELLING, 0, -9999999999, 5) && stands(book, FTD_SELLING, 1, 99999999999, 4));
+}
+
+static void book_quantities(void) {
+    struct ftd_book book = started();
+
+    EXPECT(bid(&book, 10, P) == 0 && bid_more(&book, (uint32_t)-3, P) == 0 && stands(book, FTD_BUYING, 0, P, 7));
+    EXPECT(bid_more(&book, (uint32_t)-8, P) == FTD_QUANTITY && bid_more(&book, (uint32_t)-7, P) == 0);
+    EXPECT(stands(book, FTD_BUYING, 0, 0, 0) && bid_more(&book, (uint32_t)-1, P) == FTD_QUANTITY);
+    EXPECT(bid(&book, UINT32_MAX, P) == 0 && bid_more(&book, 1, P) == FTD_QUANTITY);
+    EXPECT(bid_more(&book, 0x80000000u, P) == 0 && stands(book, FTD_BUYING, 0, P, 0x7FFFFFFF));
+    EXPECT(bid_more(&book, 0x7FFFFFFF, P) == 0 && bid_more(&book, 2, P) == FTD_QUANTITY);
+    EXPECT(bid_more(&book, 1, P) == 0 && trade(&book, UINT32_MAX, P) == FTD_VOLUME);
+}
+
+static void book_matches(void) {
+    struct ftd_book book = started();
+
+    EXPECT(bid(&book, 5, P) == 0 && offer(&book, 3, P) == 0 && trade(&book, 4, P) == FTD_QUANTITY);
+    EXPECT(trade(&book, 3, P) == 0 && stands(book, FTD_BUYING, 0, P, 2) && stands(book, FTD_SELLING, 0, 0, 0));
+    EXPECT(trade(&book, 1, P) == 0 && trade(&book, 2, P) == FTD_QUANTITY && mean_is(book, P));
+    EXPECT(trade(&book, 1, P) == 0 && trade(&book, 3, P) == 0 && book.volume == 8 && mean_is(book, P));
+    /* 22 before 24 in a field, but field by field. */
+    EXPECT(bid(&book, 5, P) == 0 && trade(&book, 1000001, P) == FTD_QUANTITY);
+    match(own, FTD_MOST_VOLUME + 1, 10000);
+    match(own, 9, P);
+    EXPECT(give(&book, MATCHES) == FTD_VOLUME);
+    match(own, 9, P);
+    match(own, FTD_MOST_VOLUME + 1, 10000);
+    EXPECT(give(&book, MATCHES) == FTD_QUANTITY && book.volume == 8);
+    EXPECT(bid(&book, 2000000, P) == 0 && trade(&book, 1000001, P) == FTD_VOLUME);
+    EXPECT(trade(&book, FTD_MOST_VOLUME, P) == 0 && stands(book, FTD_BUYING, 0, P, 1000000));
+}
+
+static void book_full(void) {
+    struct ftd_book book = started();
+    int64_t i;
+
+    for (i = 1; i <= FTD_MOST_LEVELS; i++)
+        quote(own, 1, 0, 1, i * 10000);
+    EXPECT(give(&book, QUOTES) == 0 && stands(book, FTD_BUYING, 63, 10000, 1));
+    EXPECT(bid(&book, 1, 650000) == FTD_LEVELS && bid_more(&book, 1, 650000) == FTD_LEVELS);
+    EXPECT(bid(&book, 0, 650000) == 0 && bid_more(&book, UINT32_MAX, 650000) == FTD_QUANTITY);
+    EXPECT(offer(&book, 1, 650000) == 0 && bid(&book, 9, 640000) == 0 && stands(book, FTD_BUYING, 0, 640000, 9));
+    quote(own, 1, 0, 1, 650000);
+    quote(own, 1, 0, 0, 10000);
+    EXPECT(give(&book, QUOTES) == FTD_LEVELS && stands(book, FTD_BUYING, 63, 10000, 1));
+    quote(own, 1, 0, 0, 10000);
+    quote(own, 1, 0, 1, 650000);
+    EXPECT(give(&book, QUOTES) == 0 && stands(book, FTD_BUYING, 0, 650000, 1));
+    EXPECT(stands(book, FTD_BUYING, 63, 20000, 1));
+}
+
+static void book_sums(void) {
+    struct ftd_book book = started();
+    int i;
+
+    EXPECT(trade(&book, 0, P) == 0 && ftd_book_mean(book).found == 0 && trade(&book, 5, P) == 0);
+    EXPECT(trade(&book, 3, 1234600) == 0 && book.turnover == 9876300 && book.volume == 8 && mean_is(book, 1234537));
+    book = started();
+    EXPECT(trade(&book, 1, -1) == 0 && mean_is(book, -1) && trade(&book, 1, 0) == 0 && mean_is(book, 0));
+    EXPECT(trade(&book, 1, -4) == 0 && mean_is(book, -1)); /* -5 units over 3 */
+    book = started();
+    for (i = 0; i < 90; i++)
+        match(own, FTD_MOST_VOLUME, 99999999999);
+    EXPECT(give(&book, MATCHES) == 0 && book.turnover == 8999999999910000000);
+    EXPECT(trade(&book, FTD_MOST_VOLUME, 99999999999) == FTD_VOLUME && trade(&book, FTD_MOST_VOLUME, 90) == 0);
+    EXPECT(book.turnover == 9000000000000000000 && mean_is(book, 98901098901) && trade(&book, 1, 1) == FTD_VOLUME);
+    match(own, 1, 1);
+    match(own, 1, -1);
+    EXPECT(give(&book, MATCHES) == FTD_VOLUME && trade(&book, 1, -1) == 0);
+    book = started();
+    for (i = 0; i < 900; i++)
+        match(own, FTD_MOST_VOLUME, -9999999999);
+    EXPECT(give(&book, MATCHES) == 0 && book.turnover == -8999999999100000000);
+    EXPECT(trade(&book, 900000, -1000) == 0 && trade(&book, 1, -1) == FTD_VOLUME);
+    EXPECT(book.turnover == -9000000000000000000 && mean_is(book, -9990009990));
+}
+
+static void book_of_others(void) {
+    struct ftd_book book = started();
+
+    quote(other, 1, 0, 5, P);
+    quote(other, 0, 0, UINT32_MAX, P);
+    EXPECT(give(&book, QUOTES) == 0 && stands(book, FTD_BUYING, 0, 0, 0));
+    match(other, FTD_MOST_VOLUME + 1, P);
+    match(own, 1, P);
+    EXPECT(give(&book, MATCHES) == 0 && book.volume == 1 && mean_is(book, P));
+    quote(own, 1, 0, 5, P);
+    EXPECT(give(&book, 0x7777) == 0);
+    quote(own, 1, 0, 5, P);
+    EXPECT(give(&book, 0x2003) == FTD_COMPOSITION);
+    match(own, 5, P);
+    EXPECT(give(&book, QUOTES) == FTD_COMPOSITION && give(&book, QUOTES) == FTD_COMPOSITION);
+    quote(own, 1, 2, 5, P);
+    EXPECT(give(&book, QUOTES) == FTD_ITEM);
+    quote(own, 0, 0, UINT32_MAX, P);
+    quote(own, 2, 0, 5, P);
+    message[39 + 5] = 32;
+    message_bytes--;
+    EXPECT(give(&book, QUOTES) == FTD_FIELD_LENGTH);
+    quote(own, 1, 0, 5, P);
+    message_bytes--;
+    EXPECT(give(&book, QUOTES) == FTD_FIELD_RUN && stands(book, FTD_BUYING, 0, 0, 0) && book.volume == 1);
+}
+
 /* ---- Null pointers, and states of any values ---- */
 
 static void nulls_below(void) {
@@ -558,11 +833,19 @@ static void nulls_in_a_calendar(void) {
     EXPECT(memcmp(ftd_set_calendar(k, NULL, 0, closed, 8).calendar.holidays, k.holidays, sizeof k.holidays) == 0);
 }
 
+static void nulls_in_a_book(void) {
+    struct ftd_book book = started();
+
+    EXPECT(ftd_book_start(book, NULL, 0).refusal == FTD_ITEM && ftd_book_take(book, 0x7777, NULL, 0).refusal == 0);
+    EXPECT(ftd_book_take(book, QUOTES, NULL, 0).refusal == FTD_COMPOSITION);
+}
+
 /* No call goes wrong on a state that none has made: all bytes are 255, so that each count and place is too high. */
 static void any_state(void) {
     struct ftd_sender sender;
     struct ftd_receiver receiver;
     struct ftd_calendar calendar;
+    struct ftd_book book;
     uint8_t bytes[34];
 
     memset(&sender, 255, sizeof sender);
@@ -584,6 +867,14 @@ static void any_state(void) {
     memset(calendar.sessions, 0, 4);
     EXPECT(asked(calendar, 1708304400) == 20240220); /* from second 0 on, late */
     EXPECT(ftd_set_calendar(calendar, NULL, 0, NULL, 0).calendar.holidays[31] == 0);
+    /* 64 levels of the price -1, and sums of -1. */
+    memset(&book, 255, sizeof book);
+    memcpy(book.code, own, FTD_CODE);
+    EXPECT(stands(book, FTD_SELLING, 63, -1, UINT32_MAX) && ftd_book_mean(book).found == 0);
+    EXPECT(offer(&book, 1, 0) == FTD_LEVELS && offer(&book, 1, -1) == 0 && stands(book, FTD_SELLING, 0, -1, 1));
+    EXPECT(trade(&book, 1, -1) == 0 && book.volume == 0 && book.turnover == -2);
+    book.volume = book.turnover = INT64_MAX;
+    EXPECT(trade(&book, 0, 5) == FTD_VOLUME && mean_is(book, 1));
 }
 
 int main(void) {
@@ -602,9 +893,17 @@ int main(void) {
     calendar_set();
     calendar_asked();
     marks();
+    book_started();
+    book_levels();
+    book_quantities();
+    book_matches();
+    book_full();
+    book_sums();
+    book_of_others();
     nulls_below();
     nulls_at_the_ends();
     nulls_in_a_calendar();
+    nulls_in_a_book();
     any_state();
     if (!failed)
         printf("header: ok\n");

@@ -15,10 +15,12 @@ enum { ROOM = 1 << 17, LOG = 1 << 17 };
 
 static uint8_t stack[ROOM], content[FTD_MOST_CONTENT], text[FTD_PACKET_CONTENT], login[FTD_PACKET_CONTENT], answer[8192];
 static uint8_t log_bytes[LOG], output[FTD_MOST_OUTPUT], packet[8192], buffer[FTD_MOST_SERIES * FTD_MOST_CONTENT];
-static size_t filled, texts, logins;
+static uint8_t quotes[FTD_MOST_CONTENT];
+static size_t filled, texts, logins, quoted;
 static const uint16_t series[] = {1, 2, 3, 4, 5, 6, 7, 8};
 static struct ftd_sender sender;
 static struct ftd_receiver receiver;
+static struct ftd_book book;
 static volatile uint8_t refusal;
 
 /* A field of n bytes in all behind the others of a content. */
@@ -115,6 +117,11 @@ static void receive_all(void)
         refusal = received.refusal;
     }
 }
+static void take(void)
+{
+    struct ftd_book_step step = ftd_book_take(book, 0x2001, quotes, quoted);
+    refusal = step.refusal;
+}
 static void reconnect(void) { receiver = ftd_connect(receiver); }
 
 static size_t used(void (*body)(void))
@@ -175,5 +182,13 @@ int main(void)
     if (received.answer != FTD_RECEIVE_MESSAGE || received.content.len != filled)
         puts("not handed on");
     row("ftd_connect", reconnect);
+    for (uint8_t i = 0; i < 64; i++) { /* buying, absolute, each at a price of its own */
+        uint8_t bytes[33] = "cu0405    \0\1\0" "0000010.0000\0\0\0\7\0\0\0";
+        bytes[18] = '1' + i / 8;
+        bytes[19] = '1' + i % 8;
+        field(quotes, &quoted, 0x000D, bytes, 39);
+    }
+    book = ftd_book_start(ftd_book_fresh(), (const uint8_t *)"cu0405    ", 10).book;
+    row("ftd_book_take", take);
     return 0;
 }

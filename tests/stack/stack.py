@@ -4,14 +4,14 @@
 Reads the disassembly (objdump). A function's own part is its return address, all that it pushes, all that it takes off the stack
 pointer, and what it uses below that (the red zone); its whole is its own part and the largest whole of those that it calls.
 `put_rest`, which writes a message's packets, calls itself for each packet behind the first, at most 17 (ChainLaws.few), and once
-more where the content breaks off behind them. memcpy and memset are the C library's and count as a return address alone. Structs
+more where the content breaks off behind them. memcpy, memmove and memset are the C library's and count as a return address alone. Structs
 that are passed or returned by value lie in the caller's frame and are not counted.
 """
 import re
 import subprocess
 import sys
 
-OUTSIDE = {"memcpy", "memset"}
+OUTSIDE = {"memcpy", "memmove", "memset"}
 TURNS = {"ftd::chain::put_rest": 18}
 
 

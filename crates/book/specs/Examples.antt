@@ -16,7 +16,10 @@ use Rattle.book.specs.declared.calls.Book.{Book}
 use Rattle.book.specs.declared.calls.Outcome.{Outcome}
 use Rattle.book.specs.declared.calls.Outcome.the-variants.{Done, Refused}
 use Rattle.book.specs.declared.calls.Step.{Step}
+use Rattle.book.specs.declared.sums.Total.{Total}
+use Rattle.book.specs.declared.sums.Total.the-variants.{Beyond, Within}
 use Rattle.book.specs.Levels.{used}
+use Rattle.book.specs.Sums.{addedTo}
 use Rattle.book.specs.Calls.{started, takeOf, bookMean}
 
 -- ─── Messages ───
@@ -25,33 +28,45 @@ use Rattle.book.specs.Calls.{started, takeOf, bookMean}
 abbrev pub code : List ℕ
 code = 99 ∷ 117 ∷ 48 ∷ 52 ∷ 48 ∷ 53 ∷ 32 ∷ 32 ∷ 32 ∷ 32 ∷ []
 
--- Fields by kind, side, minus, units and volume.
-abbrev pub quotationField : ℕ → ℕ → Bool → ℕ → ℕ → List ℕ
-quotationField kind side negative units v =
-    fieldWith 0x000D
-    (code ++ (0 ∷ kind ∷ side ∷ (floatBytes 4 12 negative units ++ (bytes32 v ++ bytes32 0))))
+-- Another contract, `al0405`.
+abbrev pub otherCode : List ℕ
+otherCode = 97 ∷ 108 ∷ 48 ∷ 52 ∷ 48 ∷ 53 ∷ 32 ∷ 32 ∷ 32 ∷ 32 ∷ []
 
-abbrev pub matchField : Bool → ℕ → ℕ → List ℕ
-matchField negative units v = fieldWith 0x000A (code ++ (0 ∷ 0 ∷ (floatBytes 4 12 negative units ++ (bytes32 v ++ (0 ∷ [])))))
+-- Fields by contract, kind, side, minus, units and volume.
+abbrev pub quotationField : List ℕ → ℕ → ℕ → Bool → ℕ → ℕ → List ℕ
+quotationField contract kind side negative units v =
+    fieldWith 0x000D
+    (contract ++ (0 ∷ kind ∷ side ∷ (floatBytes 4 12 negative units ++ (bytes32 v ++ bytes32 0))))
+
+abbrev pub matchField : List ℕ → Bool → ℕ → ℕ → List ℕ
+matchField contract negative units v =
+    fieldWith 0x000A (contract ++ (0 ∷ 0 ∷ (floatBytes 4 12 negative units ++ (bytes32 v ++ (0 ∷ [])))))
 
 -- B=v@u, B+v@u, B-v@u, S=v@u, Mv@u of the readings, u in units.
 abbrev pub bid : ℕ → ℕ → List ℕ
-bid v u = quotationField 1 0 false u v
+bid v u = quotationField code 1 0 false u v
 
 abbrev pub bidMore : ℕ → ℕ → List ℕ
-bidMore v u = quotationField 0 0 false u v
+bidMore v u = quotationField code 0 0 false u v
 
 abbrev pub bidLess : ℕ → ℕ → List ℕ
-bidLess v u = quotationField 0 0 false u (4294967296 - v)
+bidLess v u = quotationField code 0 0 false u (4294967296 - v)
 
 abbrev pub ask : ℕ → ℕ → List ℕ
-ask v u = quotationField 1 1 false u v
+ask v u = quotationField code 1 1 false u v
 
 abbrev pub met : ℕ → ℕ → List ℕ
-met v u = matchField false u v
+met v u = matchField code false u v
 
 abbrev pub metBelow : ℕ → ℕ → List ℕ
-metBelow v u = matchField true u v
+metBelow v u = matchField code true u v
+
+-- The same of the other contract: B=v@u, Mv@u.
+abbrev pub otherBid : ℕ → ℕ → List ℕ
+otherBid v u = quotationField otherCode 1 0 false u v
+
+abbrev pub otherMet : ℕ → ℕ → List ℕ
+otherMet v u = matchField otherCode false u v
 
 -- A message, and what the paper says of it: the answer (0: done) and what is shown then.
 pub record Line : Type 0 where
@@ -61,6 +76,9 @@ pub record Line : Type 0 where
 
 abbrev pub quotes : List (List ℕ) → List ℕ → Line
 quotes fs paper = record { tid = 0x2001; fields = fs; paper = paper }
+
+abbrev pub sends : ℕ → List (List ℕ) → List ℕ → Line
+sends tid fs paper = record { tid = tid; fields = fs; paper = paper }
 
 abbrev pub meets : List (List ℕ) → List ℕ → Line
 meets fs paper = record { tid = 0x2002; fields = fs; paper = paper }
@@ -146,6 +164,12 @@ examples =
     ∷ (quotes (bid 10 10000 ∷ bidLess 1 20000 ∷ []) (says 22 none none none)
     ∷ meets (met 1 10000 ∷ met 1000001 20000 ∷ []) (says 24 none none none)
     ∷ [])
+    -- 10 22 before 24
+    ∷ (quotes (bid 5 p ∷ []) (says 0 (level 5 p) none none)
+    ∷ meets (met 1000001 p ∷ []) (says 22 (level 5 p) none none)
+    ∷ quotes (bid 2000000 p ∷ []) (says 0 (level 2000000 p) none none)
+    ∷ meets (met 1000001 p ∷ []) (says 24 (level 2000000 p) none none)
+    ∷ [])
     -- 11 field by field
     ∷ (quotes (bid 5 p ∷ []) (says 0 (level 5 p) none none)
     ∷ meets (met 1000001 10000 ∷ met 9 p ∷ []) (says 24 (level 5 p) none none)
@@ -159,7 +183,51 @@ examples =
     ∷ [])
     -- 18 no mean without volume
     ∷ (meets (met 0 p ∷ []) (says 0 none none none) ∷ meets (met 1 0 ∷ []) (says 0 none none (mean 0)) ∷ [])
+    -- 20 another contract
+    ∷ (quotes (otherBid 5 p ∷ []) (says 0 none none none)
+    ∷ meets (otherMet 1000001 p ∷ []) (says 0 none none none)
+    ∷ meets (otherMet 5 10000 ∷ met 1 p ∷ []) (says 0 none none (mean p))
+    ∷ [])
+    -- 21 a match in a message of quotations, other TIDs: without effect, but 10 is asked
+    ∷ (quotes (otherBid 5 p ∷ met 5 p ∷ []) (says 0 none none none)
+    ∷ sends 0x7777 (bid 5 p ∷ []) (says 0 none none none)
+    ∷ sends 0x2003 (bid 5 p ∷ []) (says 10 none none none)
+    ∷ [])
+    -- 22 an item that is no value, Direction 2: 9 is asked of every TID
+    ∷ (sends 0x7777 (quotationField code 1 2 false p 5 ∷ []) (says 9 none none none) ∷ [])
     ∷ []
+
+-- ─── The limits of the sums ───
+
+-- A sum and what is added to it; 1 and the sum then, or 0: beyond.
+pub record Addition : Type 0 where
+  pub sum : ℤ
+  pub more : ℤ
+  pub paper : List ℕ
+
+abbrev pub adds : ℤ → ℤ → List ℕ → Addition
+adds sum more paper = record { sum = sum; more = more; paper = paper }
+
+abbrev pub totalShown : Total → List ℕ
+totalShown Beyond = 0 ∷ []
+totalShown (Within z) = 1 ∷ signed z
+
+-- Around 14 and 15: the limit itself is no refusal, on either side of zero; one unit more is, though later fields undo it.
+abbrev pub additions : List Addition
+additions =
+    adds (pos 8999999999910000000) (pos 99999999999000000) (0 ∷ [])
+    ∷ adds (pos 8999999999910000000) (pos 90000000) (1 ∷ 0 ∷ 9000000000000000000 ∷ [])
+    ∷ adds (pos 9000000000000000000) (pos 1) (0 ∷ [])
+    ∷ adds (pos 9000000000000000000) (negsuc 0) (1 ∷ 0 ∷ 8999999999999999999 ∷ [])
+    ∷ adds (negsuc 8999999999099999999) (negsuc 9999999998999999) (0 ∷ [])
+    ∷ adds (negsuc 8999999999099999999) (negsuc 899999999) (1 ∷ 1 ∷ 9000000000000000000 ∷ [])
+    ∷ adds (negsuc 8999999999999999999) (negsuc 0) (0 ∷ [])
+    ∷ adds (negsuc 8999999999999999999) (pos 1) (1 ∷ 1 ∷ 8999999999999999999 ∷ [])
+    ∷ []
+
+abbrev pub rightSums : List Addition → Bool
+rightSums [] = true
+rightSums (a ∷ rest) = same (totalShown (addedTo (a .sum) (a .more))) (a .paper) && rightSums rest
 
 -- ─── The test ───
 
@@ -173,6 +241,6 @@ abbrev pub allRight : List (List Line) → Bool
 allRight [] = true
 allRight (ls ∷ rest) = rightAfter (started code) ls && allRight rest
 
--- Each call of each row is answered, and shows, what the paper says.
+-- Each call of each row is answered, and shows, what the paper says; so do the sums at their limits.
 abbrev pub Examples : Type 0
-Examples = T (allRight examples)
+Examples = T (allRight examples && rightSums additions)

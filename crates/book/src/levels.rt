@@ -5,7 +5,9 @@ ghost use lib.ListN.{getD, set};
 ghost use Rattle.book.specs.Levels.{better, samePrice, placeIn, noLevels, heldBy, empty, inserted, removed, putAt, quantityAt};
 ghost use Rattle.book.specs.Levels.{levelIn, isFull, sideWith};
 
-// A level: a price in units of 0.0001, and the quantity there. With quantity 0 the place is not used.
+// A level: a price in units of 0.0001, and the quantity there. With quantity 0 the place is not used. Laid
+// out as in C: the book of C and Rust (`exports`) holds levels as they are here.
+#[repr(C)]
 pub struct Level {
     pub price: i64,
     pub quantity: u32,

@@ -4,4 +4,5 @@ pub mod Items
 pub mod Serving
 pub mod Receiving
 pub mod Trading
+pub mod Quotes
 pub mod Laws

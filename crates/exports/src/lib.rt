@@ -1,6 +1,6 @@
-// The library for C and Rust: functions on numbers, byte slices, and the two ends and the trading calendar by value.
-// Each calls `ftd`, `flow` or `calendar` and gives its answer as numbers; include/ftd.h says what they mean. Here:
-// packets, fields and messages.
+// The library for C and Rust: functions on numbers, byte slices, and the two ends, the trading calendar and the book of
+// a contract by value. Each calls `ftd`, `flow`, `calendar` or `book` and gives its answer as numbers; include/ftd.h
+// says what they mean. Here: packets, fields and messages.
 ghost use mathlib.Core.Path.{_≡_};
 ghost use Rattle.ftd.specs.Bytes.{joined};
 ghost use Rattle.ftd.specs.Fields.{fieldWith};
@@ -46,6 +46,7 @@ pub mod resume; // the start field
 pub mod serving; // the serving end
 pub mod receiving; // the receiving end
 pub mod trading; // the trading calendar
+pub mod quotes; // the book of a contract
 
 // A part of lent bytes.
 #[repr(C)]

@@ -1,7 +1,7 @@
 -- The call that a script's line says: its words, parted by one space each.
 use Prim.Native.Nat.{ℕ, _-_, _*_, _≤_}
 use mathlib.Core.List.{List, [], _∷_}
-use mathlib.Core.Bool.{Bool, cond}
+use mathlib.Core.Bool.{Bool, true, false, cond}
 use lib.ListN.{take}
 use lib.Dec.{ltb}
 use Rattle.play.specs.declared.calls.Verb.{Verb}
@@ -12,21 +12,31 @@ use Rattle.play.specs.declared.calls.Verb.the-variants.{Send as NamesSen
 use Rattle.play.specs.declared.calls.Verb.the-variants.{Connect as NamesConnect, Ask as NamesAsk}
 use Rattle.play.specs.declared.calls.Verb.the-variants.{Answer as NamesAnswer, Receive as NamesReceive}
 use Rattle.play.specs.declared.calls.Verb.the-variants.{State as NamesState, Calendar as NamesCalendar}
-use Rattle.play.specs.declared.calls.Verb.the-variants.{Mark as NamesMark}
+use Rattle.play.specs.declared.calls.Verb.the-variants.{Mark as NamesMark, Book as NamesBook, Take as NamesTake}
+use Rattle.play.specs.declared.calls.Verb.the-variants.{Level as NamesLevel, Mean as NamesMean}
 use Rattle.play.specs.declared.calls.Call.{Call}
 use Rattle.play.specs.declared.calls.Call.the-variants.{Bad, Buffers, OpenDay, Publish, Login, Send, OpenEnd}
 use Rattle.play.specs.declared.calls.Call.the-variants.{Connect, Ask, Answer, Receive, State}
 use Rattle.play.specs.declared.calls.Call.the-variants.{SetCalendar, AskTime, MarkDate}
+use Rattle.play.specs.declared.calls.Call.the-variants.{StartBook, TakeMessage, ShowLevel, ShowMean}
 use Rattle.play.specs.Words.{endOf, numberIn, tidIn, sameWord, argument, hasForm, mostNamed, seriesCount}
 use Rattle.play.specs.Words.{mostTimes, mostDates, mostListed, wordCount}
 
 -- ─── The first word ───
 
--- `calendar`, `mark`.
+-- `book`, `take`, `level`, `mean`.
+unfoldable pub bookVerbOf : List ℕ → Verb
+bookVerbOf word =
+    cond (sameWord word (98 ∷ 111 ∷ 111 ∷ 107 ∷ [])) NamesBook
+    (cond (sameWord word (116 ∷ 97 ∷ 107 ∷ 101 ∷ [])) NamesTake
+    (cond (sameWord word (108 ∷ 101 ∷ 118 ∷ 101 ∷ 108 ∷ [])) NamesLevel
+    (cond (sameWord word (109 ∷ 101 ∷ 97 ∷ 110 ∷ [])) NamesMean Unknown)))
+
+-- `calendar`, `mark`, or one of those.
 unfoldable pub tradingVerbOf : List ℕ → Verb
 tradingVerbOf word =
     cond (sameWord word (99 ∷ 97 ∷ 108 ∷ 101 ∷ 110 ∷ 100 ∷ 97 ∷ 114 ∷ [])) NamesCalendar
-    (cond (sameWord word (109 ∷ 97 ∷ 114 ∷ 107 ∷ [])) NamesMark Unknown)
+    (cond (sameWord word (109 ∷ 97 ∷ 114 ∷ 107 ∷ [])) NamesMark (bookVerbOf word))
 
 -- `ropen`, `connect`, `ask`, `answer`, `receive`, `state`, or one of those.
 unfoldable pub endVerbOf : List ℕ → Verb
@@ -96,6 +106,17 @@ calendarWith sessions count =
 unfoldable pub markWith : Bool → ℕ → Call
 markWith right mark = cond right (cond (ltb 4294967295 mark) Bad (MarkDate mark)) Bad
 
+unfoldable pub takeWith : Bool → ℕ → Call
+takeWith right tid = cond right (cond (ltb 4294967295 tid) Bad (TakeMessage tid)) Bad
+
+-- The side is `b` for buying, `s` for selling; the place is of four bytes.
+unfoldable pub levelWith : Bool → Bool → Bool → ℕ → Call
+levelWith right buying selling place =
+    cond right
+    (cond (ltb 4294967295 place) Bad
+    (cond buying (ShowLevel true place) (cond selling (ShowLevel false place) Bad)))
+    Bad
+
 -- A call without numbers.
 unfoldable pub plainCall : Bool → Call → Call
 plainCall right call = cond right call Bad
@@ -123,6 +144,12 @@ namedCall line NamesReceive = plainCall (hasForm line 0 1) Receive
 namedCall line NamesState = plainCall (hasForm line 0 0) State
 namedCall line NamesCalendar = calendarWith (numberAt line 0) (wordCount line 1)
 namedCall line NamesMark = markWith (hasForm line 1 0) (numberAt line 0)
+namedCall line NamesBook = plainCall (hasForm line 0 1) StartBook
+namedCall line NamesTake = takeWith (hasForm line 1 1) (tidIn (argument line 0))
+namedCall line NamesLevel =
+    levelWith (hasForm line 2 0) (sameWord (argument line 0) (98 ∷ [])) (sameWord (argument line 0) (115 ∷ []))
+    (numberAt line 1)
+namedCall line NamesMean = plainCall (hasForm line 0 0) ShowMean
 
 unfoldable pub callOf : List ℕ → Call
 callOf line = namedCall line (verbOf (take (endOf line 0) line))
@@ -146,3 +173,7 @@ Limited State = Unit {0}
 Limited (SetCalendar sessions holidays) = (sessions ≤ mostTimes) × (holidays ≤ mostDates)
 Limited (AskTime seconds) = Unit {0}
 Limited (MarkDate mark) = Unit {0}
+Limited StartBook = Unit {0}
+Limited (TakeMessage tid) = Unit {0}
+Limited (ShowLevel buying place) = Unit {0}
+Limited ShowMean = Unit {0}

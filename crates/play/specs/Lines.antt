@@ -1,9 +1,12 @@
 -- The lines that the player prints.
-use Prim.Native.Nat.{ℕ}
+use Prim.Native.Nat.{ℕ, suc, _/_}
 use mathlib.Core.List.{List, [], _∷_, _++_}
 use mathlib.Core.Bool.{cond}
 use lib.ListN.{length, take}
+use lib.IntN.{ℤ, pos, negsuc}
 use lib.Dec.{eqb}
+use Rattle.ftd.specs.Signed.{pow10}
+use Rattle.ftd.specs.Signed.Write.{digitsIn}
 use Rattle.ftd.specs.Refusal.{numberOf}
 use Rattle.ftd.specs.declared.refusal.Refusal.{Refusal}
 use Rattle.flow.specs.declared.sender.Opened.{Opened}
@@ -33,6 +36,13 @@ use Rattle.calendar.specs.declared.trading.SetAnswer.the-variants.{Done as IsSe
 use Rattle.calendar.specs.declared.trading.SetAnswer.the-variants.{Refused as NotSet}
 use Rattle.calendar.specs.declared.trading.TradeTime.{TradeTime}
 use Rattle.calendar.specs.declared.trading.TradeTime.the-variants.{Outside, Inside}
+use Rattle.book.specs.declared.calls.Outcome.{Outcome}
+use Rattle.book.specs.declared.calls.Outcome.the-variants.{Done as IsDone}
+use Rattle.book.specs.declared.calls.Outcome.the-variants.{Refused as NotDone}
+use Rattle.book.specs.declared.levels.Listed.{Listed}
+use Rattle.book.specs.declared.levels.Listed.the-variants.{NoLevel, At}
+use Rattle.book.specs.declared.sums.Mean.{Mean}
+use Rattle.book.specs.declared.sums.Mean.the-variants.{NoMean, Price}
 use Rattle.flow.specs.Answers.{contentIn}
 use Rattle.listing.specs.Text.{decimalOf, hexOf, hex8Of, newline, refused}
 
@@ -107,6 +117,18 @@ outside = 111 ∷ 117 ∷ 116 ∷ 115 ∷ 105 ∷ 100 ∷ 101 ∷ []
 abbrev pub date : List ℕ
 date = 100 ∷ 97 ∷ 116 ∷ 101 ∷ []
 
+abbrev pub started : List ℕ
+started = 115 ∷ 116 ∷ 97 ∷ 114 ∷ 116 ∷ 101 ∷ 100 ∷ []
+
+abbrev pub taken : List ℕ
+taken = 116 ∷ 97 ∷ 107 ∷ 101 ∷ 110 ∷ []
+
+abbrev pub level : List ℕ
+level = 108 ∷ 101 ∷ 118 ∷ 101 ∷ 108 ∷ []
+
+abbrev pub mean : List ℕ
+mean = 109 ∷ 101 ∷ 97 ∷ 110 ∷ []
+
 unfoldable pub refusedLine : Refusal → List ℕ
 refusedLine r = wordLine (numbered refused (numberOf r))
 
@@ -172,3 +194,45 @@ timeLine (Inside d) = wordLine (numbered inside d)
 -- `date` and the date.
 abbrev pub dateLine : ℕ → List ℕ
 dateLine d = wordLine (numbered date d)
+
+-- ─── The book's answers ───
+
+-- The decimals of a price.
+abbrev pub priceScale : ℕ
+priceScale = 4
+
+-- So many units of 0.0001: the whole part without zeros in front, the point, four digits.
+unfoldable pub unitsText : ℕ → List ℕ
+unitsText units = decimalOf (units / pow10 priceScale) ++ (0x2E ∷ []) ++ digitsIn priceScale units
+
+-- A price as a Float of four decimals is shown, without zeros in front: 123.4500, -0.0001, 0.0000.
+unfoldable pub priceText : ℤ → List ℕ
+priceText (pos n) = unitsText n
+priceText (negsuc n) = (0x2D ∷ []) ++ unitsText (suc n)
+
+unfoldable pub priced : List ℕ → ℤ → List ℕ
+priced word p = word ++ gap ++ priceText p
+
+-- The word meant (`started` of Start, `taken` of Take), or `refused` and the number.
+abbrev pub outcomeLine : List ℕ → Outcome → List ℕ
+outcomeLine word IsDone = wordLine word
+outcomeLine word (NotDone r) = refusedLine r
+
+unfoldable pub spaced : ℕ → List ℕ
+spaced n = gap ++ decimalOf n
+
+unfoldable pub pairLine : ℤ → ℕ → List ℕ
+pairLine p n = wordLine (priced level p ++ spaced n)
+
+unfoldable pub priceLine : ℤ → List ℕ
+priceLine p = wordLine (priced mean p)
+
+-- `level`, price and quantity, or `none`.
+abbrev pub levelLine : Listed → List ℕ
+levelLine NoLevel = wordLine none
+levelLine (At p n) = pairLine p n
+
+-- `mean` and the price, or `none`.
+abbrev pub meanLine : Mean → List ℕ
+meanLine NoMean = wordLine none
+meanLine (Price p) = priceLine p

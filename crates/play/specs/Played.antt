@@ -12,6 +12,8 @@ use Rattle.flow.specs.Serving.{openDayOf, publishOf, loginOf, sendOf}
 use Rattle.flow.specs.Receiving.{openEndOf, connectOf, requestLoginOf, confirmLoginOf, receiveOf}
 use Rattle.calendar.specs.declared.trading.Calendar.{Calendar}
 use Rattle.calendar.specs.Calendar.{freshCalendar, setOf, askOf, markDate}
+use Rattle.book.specs.declared.calls.Book.{Book}
+use Rattle.book.specs.Calls.{freshBook, startOf, takeOf, levelOf, bookMean}
 use Rattle.listing.specs.Text.{WroteText}
 use Rattle.play.specs.declared.player.Player.{Player}
 use Rattle.play.specs.declared.player.Played.{Played}
@@ -19,15 +21,17 @@ use Rattle.play.specs.declared.calls.Call.{Call}
 use Rattle.play.specs.declared.calls.Call.the-variants.{Bad, Buffers, OpenDay, Publish, Login, Send, OpenEnd}
 use Rattle.play.specs.declared.calls.Call.the-variants.{Connect, Ask, Answer, Receive, State}
 use Rattle.play.specs.declared.calls.Call.the-variants.{SetCalendar, AskTime, MarkDate}
+use Rattle.play.specs.declared.calls.Call.the-variants.{StartBook, TakeMessage, ShowLevel, ShowMean}
 use Rattle.play.specs.Words.{argument, saidBytes, seriesFrom, wordsFrom}
 use Rattle.play.specs.Calls.{callOf, Limited}
 use Rattle.play.specs.Lines.{wordLine, numbered, openedLine, publishedLine, loginAnswerLine, sentLine}
 use Rattle.play.specs.Lines.{connected, requestedLine, confirmedLine, receivedLine, setLine, timeLine, dateLine}
+use Rattle.play.specs.Lines.{started, taken, outcomeLine, levelLine, meanLine}
 use Rattle.play.specs.State.{stateLines}
 
 -- ─── The player ───
 
--- No line was given, no buffer is laid out, and the ends and the calendar are fresh.
+-- No line was given, no buffer is laid out, and the ends, the calendar and the book are fresh.
 abbrev pub freshPlayer : Player
 freshPlayer =
     record {
@@ -38,9 +42,10 @@ freshPlayer =
       sender = freshSender;
       receiver = freshReceiver;
       calendar = freshCalendar;
+      book = freshBook;
     }
 
--- The player with another serving end, with another receiving end, with another calendar.
+-- The player with another serving end, with another receiving end, with another calendar, with another book.
 abbrev pub withSender : Player → Sender → Player
 withSender p e =
     record {
@@ -51,6 +56,7 @@ withSender p e =
       sender = e;
       receiver = p .receiver;
       calendar = p .calendar;
+      book = p .book;
     }
 
 abbrev pub withReceiver : Player → Receiver → Player
@@ -63,6 +69,7 @@ withReceiver p e =
       sender = p .sender;
       receiver = e;
       calendar = p .calendar;
+      book = p .book;
     }
 
 abbrev pub withCalendar : Player → Calendar → Player
@@ -75,6 +82,20 @@ withCalendar p c =
       sender = p .sender;
       receiver = p .receiver;
       calendar = c;
+      book = p .book;
+    }
+
+abbrev pub withBook : Player → Book → Player
+withBook p b =
+    record {
+      lines = p .lines;
+      ready = p .ready;
+      log = p .log;
+      chain = p .chain;
+      sender = p .sender;
+      receiver = p .receiver;
+      calendar = p .calendar;
+      book = b;
     }
 
 -- The buffers are laid out, with these lengths.
@@ -88,6 +109,7 @@ laidOut p log chain =
       sender = p .sender;
       receiver = p .receiver;
       calendar = p .calendar;
+      book = p .book;
     }
 
 -- A line more; behind 4,294,967,295 lines they are counted no further.
@@ -102,6 +124,7 @@ countedPlayer p =
       sender = p .sender;
       receiver = p .receiver;
       calendar = p .calendar;
+      book = p .book;
     })
     p
 
@@ -181,6 +204,22 @@ ShowsTime p seconds r before after = Shows p (timeLine (askOf (p .calendar) seco
 
 abbrev pub ShowsDate : Player → ℕ → Played → List ℕ → List ℕ → Type 0
 ShowsDate p mark r before after = Shows p (dateLine (markDate mark)) r before after
+
+abbrev pub ShowsStart : Player → List ℕ → Played → List ℕ → List ℕ → Type 0
+ShowsStart p code r before after =
+    let m = startOf (p .book) code in
+    Shows (withBook p (m .book)) (outcomeLine started (m .answer)) r before after
+
+abbrev pub ShowsTake : Player → ℕ → List ℕ → Played → List ℕ → List ℕ → Type 0
+ShowsTake p tid content r before after =
+    let m = takeOf (p .book) tid content in
+    Shows (withBook p (m .book)) (outcomeLine taken (m .answer)) r before after
+
+abbrev pub ShowsLevel : Player → Bool → ℕ → Played → List ℕ → List ℕ → Type 0
+ShowsLevel p buying place r before after = Shows p (levelLine (levelOf (p .book) buying place)) r before after
+
+abbrev pub ShowsMean : Player → Played → List ℕ → List ℕ → Type 0
+ShowsMean p r before after = Shows p (meanLine (bookMean (p .book))) r before after
 
 -- ─── The calls, as a line makes them ───
 
@@ -265,6 +304,15 @@ readyTurn p line log chain State = turn p (stateLines (p .sender) (p .receiver))
 readyTurn p line log chain (SetCalendar sessions holidays) = calendarTurn p line sessions holidays log chain
 readyTurn p line log chain (AskTime seconds) = turn p (timeLine (askOf (p .calendar) seconds)) log chain
 readyTurn p line log chain (MarkDate mark) = turn p (dateLine (markDate mark)) log chain
+readyTurn p line log chain StartBook =
+    let m = startOf (p .book) (saidBytes (argument line 0)) in
+    turn (withBook p (m .book)) (outcomeLine started (m .answer)) log chain
+readyTurn p line log chain (TakeMessage tid) =
+    let m = takeOf (p .book) tid (saidBytes (argument line 1)) in
+    turn (withBook p (m .book)) (outcomeLine taken (m .answer)) log chain
+readyTurn p line log chain (ShowLevel buying place) =
+    turn p (levelLine (levelOf (p .book) buying place)) log chain
+readyTurn p line log chain ShowMean = turn p (meanLine (bookMean (p .book))) log chain
 
 -- Before that, `buffers` is the only call.
 abbrev pub startTurn : Player → List ℕ → List ℕ → Call → Turn
@@ -283,6 +331,10 @@ startTurn p log chain State = badTurn p log chain
 startTurn p log chain (SetCalendar sessions holidays) = badTurn p log chain
 startTurn p log chain (AskTime seconds) = badTurn p log chain
 startTurn p log chain (MarkDate mark) = badTurn p log chain
+startTurn p log chain StartBook = badTurn p log chain
+startTurn p log chain (TakeMessage tid) = badTurn p log chain
+startTurn p log chain (ShowLevel buying place) = badTurn p log chain
+startTurn p log chain ShowMean = badTurn p log chain
 
 unfoldable pub callTurn : Player → List ℕ → List ℕ → List ℕ → Call → Turn
 callTurn p line log chain call =

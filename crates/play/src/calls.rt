@@ -1,7 +1,7 @@
 // What a script's line says: a call, with its numbers. The words that say bytes stay in the line.
 ghost use mathlib.Core.Path.{_≡_};
 ghost use Prim.Native.Nat.{_≤_};
-ghost use Rattle.play.specs.Calls.{tradingVerbOf, timeWith, calendarWith, markWith};
+ghost use Rattle.play.specs.Calls.{tradingVerbOf, timeWith, calendarWith, markWith, bookVerbOf, takeWith, levelWith};
 ghost use Rattle.play.specs.Calls.{endVerbOf, verbOf, buffersWith, openDayWith, publishWith, loginCallWith, sendWith};
 ghost use Rattle.play.specs.Calls.{openEndWith, askWith, answerWith, plainCall, namedCall, numberAt, callOf};
 use crate::words::argument;
@@ -28,6 +28,10 @@ enum Verb {
     State,
     Calendar,
     Mark,
+    Book,
+    Take,
+    Level,
+    Mean,
 }
 
 // A call, with the numbers that its line says.
@@ -54,9 +58,33 @@ pub enum Call {
     SetCalendar { sessions: usize, holidays: usize },
     AskTime { seconds: u32 },
     MarkDate { mark: u32 },
+    StartBook,
+    TakeMessage { tid: u32 },
+    // A side, and a place on it.
+    ShowLevel { buying: bool, place: usize },
+    ShowMean,
 }
 
-// Which call of the trading calendar a line's first word names.
+// Which call of the book a line's first word names.
+fn book_verb_of(word: &[u8]) -> Verb
+    ensures { λ r. ⌜ r ≡ bookVerbOf (now (word .entry)) ⌝ }
+{
+    if is_word(word, b"book") {
+        return Verb::Book;
+    }
+    if is_word(word, b"take") {
+        return Verb::Take;
+    }
+    if is_word(word, b"level") {
+        return Verb::Level;
+    }
+    if is_word(word, b"mean") {
+        return Verb::Mean;
+    }
+    Verb::Unknown
+}
+
+// Which call of the trading calendar a line's first word names, or of the book.
 fn trading_verb_of(word: &[u8]) -> Verb
     ensures { λ r. ⌜ r ≡ tradingVerbOf (now (word .entry)) ⌝ }
 {
@@ -66,7 +94,7 @@ fn trading_verb_of(word: &[u8]) -> Verb
     if is_word(word, b"mark") {
         return Verb::Mark;
     }
-    Verb::Unknown
+    book_verb_of(word)
 }
 
 // Which call of the receiving end a line's first word names, or of the calendar.
@@ -303,6 +331,44 @@ fn mark_with(right: bool, mark: u64) -> Call
     Call::Bad
 }
 
+// A TID within its width.
+fn take_with(right: bool, tid: u64) -> Call
+    ensures { λ r. ⌜ r ≡ takeWith right tid ⌝ }
+{
+    if right {
+        if tid > 4294967295 {
+            return Call::Bad;
+        }
+        return Call::TakeMessage { tid: tid as u32 };
+    }
+    Call::Bad
+}
+
+// A side, and a place within its width.
+fn level_with(right: bool, buying: bool, selling: bool, place: u64) -> Call
+    ensures { λ r. ⌜ r ≡ levelWith right buying selling place ⌝ }
+{
+    if right {
+        if place > 4294967295 {
+            return Call::Bad;
+        }
+        if buying {
+            return Call::ShowLevel {
+                buying: true,
+                place: place as usize,
+            };
+        }
+        if selling {
+            return Call::ShowLevel {
+                buying: false,
+                place: place as usize,
+            };
+        }
+        return Call::Bad;
+    }
+    Call::Bad
+}
+
 // A call without numbers.
 fn plain_call(right: bool, call: Call) -> Call
     ensures { λ r. ⌜ r ≡ plainCall right call ⌝ }
@@ -349,6 +415,15 @@ fn named_call(line: &[u8], verb: Verb) -> Call
         Verb::State => plain_call(has_form(line, 0, 0), Call::State),
         Verb::Calendar => calendar_with(number_at(line, 0), number_count(line, 1, 4294967295, 112)),
         Verb::Mark => mark_with(has_form(line, 1, 0), number_at(line, 0)),
+        Verb::Book => plain_call(has_form(line, 0, 1), Call::StartBook),
+        Verb::Take => take_with(has_form(line, 1, 1), read_tid(argument(line, 0))),
+        Verb::Level => level_with(
+            has_form(line, 2, 0),
+            is_word(argument(line, 0), b"b"),
+            is_word(argument(line, 0), b"s"),
+            number_at(line, 1),
+        ),
+        Verb::Mean => plain_call(has_form(line, 0, 0), Call::ShowMean),
     }
 }
 

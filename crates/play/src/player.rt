@@ -1,13 +1,17 @@
-// The player of a script: a line is a call of an end or of the calendar, and its answer is printed as a line.
+// The player of a script: a line is a call of an end, of the calendar or of the book, and its answer is printed as a line.
 ghost use mathlib.Core.Path.{_≡_};
 ghost use Prim.Native.Nat.{_≤_};
 ghost use mathlib.Core.Bool.{true, false};
 ghost use lib.ListN.{length, replicate};
-ghost use Rattle.play.specs.Played.{freshPlayer, withSender, withReceiver, withCalendar, countedPlayer, badLine};
-ghost use Rattle.play.specs.Played.{Shows, Plays};
+ghost use Rattle.play.specs.Played.{freshPlayer, withSender, withReceiver, withCalendar, withBook};
+ghost use Rattle.play.specs.Played.{countedPlayer, badLine, Shows, Plays};
 ghost use Rattle.play.specs.Played.{layoutTurn, startTurn, readyTurn, callTurn, lacksRoom, playTurn, Fits};
 use crate::calls::Call;
 use crate::calls::call_of;
+use crate::quoting::play_book;
+use crate::quoting::play_take;
+use crate::quoting::show_level;
+use crate::quoting::show_mean;
 use crate::receiving::connect;
 use crate::receiving::play_answer;
 use crate::receiving::play_ask;
@@ -23,12 +27,13 @@ use crate::text::word_line;
 use crate::trading::ask_time;
 use crate::trading::play_calendar;
 use crate::trading::show_date;
+use book::calls::Book;
 use calendar::trading::Calendar;
 use flow::receiver::Receiver;
 use flow::sender::Sender;
 
-// The player: how many lines it was given, whether the buffers are laid out, their lengths, the two ends and the
-// calendar.
+// The player: how many lines it was given, whether the buffers are laid out, their lengths, the two ends, the calendar
+// and the book.
 pub struct Player {
     pub lines: usize,
     pub ready: bool,
@@ -37,6 +42,7 @@ pub struct Player {
     pub sender: Sender,
     pub receiver: Receiver,
     pub calendar: Calendar,
+    pub book: Book,
 }
 
 // What a line leaves: the player, and the length of the text that is printed.
@@ -69,6 +75,7 @@ impl Player {
             sender: Sender::fresh(),
             receiver: Receiver::fresh(),
             calendar: Calendar::fresh(),
+            book: Book::fresh(),
         }
     }
 
@@ -78,6 +85,7 @@ impl Player {
     {
         let receiver = self.receiver;
         let calendar = self.calendar;
+        let book = self.book;
         Player {
             lines: self.lines,
             ready: self.ready,
@@ -86,6 +94,7 @@ impl Player {
             sender: sender,
             receiver: receiver,
             calendar: calendar,
+            book: book,
         }
     }
 
@@ -95,6 +104,7 @@ impl Player {
     {
         let sender = self.sender;
         let calendar = self.calendar;
+        let book = self.book;
         Player {
             lines: self.lines,
             ready: self.ready,
@@ -103,6 +113,7 @@ impl Player {
             sender: sender,
             receiver: receiver,
             calendar: calendar,
+            book: book,
         }
     }
 
@@ -112,6 +123,7 @@ impl Player {
     {
         let sender = self.sender;
         let receiver = self.receiver;
+        let book = self.book;
         Player {
             lines: self.lines,
             ready: self.ready,
@@ -120,6 +132,26 @@ impl Player {
             sender: sender,
             receiver: receiver,
             calendar: calendar,
+            book: book,
+        }
+    }
+
+    // The book is another.
+    pub(crate) fn with_book(self, book: Book) -> Player
+        ensures { λ r. ⌜ r ≡ withBook self book ⌝ }
+    {
+        let sender = self.sender;
+        let receiver = self.receiver;
+        let calendar = self.calendar;
+        Player {
+            lines: self.lines,
+            ready: self.ready,
+            log: self.log,
+            chain: self.chain,
+            sender: sender,
+            receiver: receiver,
+            calendar: calendar,
+            book: book,
         }
     }
 
@@ -131,6 +163,7 @@ impl Player {
             let sender = self.sender;
             let receiver = self.receiver;
             let calendar = self.calendar;
+            let book = self.book;
             return Player {
                 lines: self.lines + 1,
                 ready: self.ready,
@@ -139,6 +172,7 @@ impl Player {
                 sender: sender,
                 receiver: receiver,
                 calendar: calendar,
+                book: book,
             };
         }
         self
@@ -179,6 +213,7 @@ impl Player {
         let sender = self.sender;
         let receiver = self.receiver;
         let calendar = self.calendar;
+        let book = self.book;
         Played {
             player: Player {
                 lines: self.lines,
@@ -188,6 +223,7 @@ impl Player {
                 sender: sender,
                 receiver: receiver,
                 calendar: calendar,
+                book: book,
             },
             len: word_line(text, b"ok"),
         }
@@ -244,6 +280,10 @@ impl Player {
             }
             Call::AskTime { seconds } => ask_time(self, seconds, text),
             Call::MarkDate { mark } => show_date(self, mark, text),
+            Call::StartBook => play_book(self, line, bytes, text),
+            Call::TakeMessage { tid } => play_take(self, tid, line, bytes, text),
+            Call::ShowLevel { buying, place } => show_level(self, buying, place, text),
+            Call::ShowMean => show_mean(self, text),
         }
     }
 

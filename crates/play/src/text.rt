@@ -113,7 +113,7 @@ fn front_line(out: &mut [u8], word: &[u8], bytes: &[u8], n: usize) -> usize
 }
 
 // `refused` and the paper's number.
-fn refused_line(out: &mut [u8], r: Refusal) -> usize
+pub(crate) fn refused_line(out: &mut [u8], r: Refusal) -> usize
     requires { ⌜ 64 ≤ length (now out) ⌝ }
     ensures { λ n.
         ⌜ WroteText (now (out .entry)) 0 (refusedLine r) (now (out .exit)) n × (n ≤ length (now (out .exit))) ⌝ }

@@ -5,6 +5,7 @@ use reader::cut::Header;
 use reader::makeup::Direction;
 
 pub mod bench;
+pub mod book;
 pub mod calendar;
 pub mod calls;
 pub mod compare;

@@ -17,8 +17,9 @@ pub enum Side {
     Selling,
 }
 
-/// Pairs of price (in units of 0.0001) and quantity, best first, and the sums over the matches.
-#[derive(Clone, Debug, PartialEq, Eq)]
+/// Pairs of price (in units of 0.0001) and quantity, best first, and the sums over the matches. The default one is of no
+/// contract: ten bytes that are no code.
+#[derive(Clone, Debug, Default, PartialEq, Eq)]
 pub struct Book {
     code: [u8; 10],
     buying: Vec<(i64, u32)>,
@@ -61,6 +62,11 @@ fn price(bytes: &[u8]) -> i64 {
 }
 
 impl Book {
+    /// A book of no contract: no accepted field has ten bytes 0 for its code.
+    pub fn fresh() -> Self {
+        Book { code: [0; 10], buying: Vec::new(), selling: Vec::new(), turnover: 0, volume: 0 }
+    }
+
     /// Start: ten bytes that are a String's value, or 9.
     pub fn start(code: &[u8]) -> Result<Self, u8> {
         let code: [u8; 10] = code.try_into().map_err(|_| 9)?;
@@ -145,6 +151,15 @@ impl Book {
             Side::Buying => self.buying.get(i).copied(),
             Side::Selling => self.selling.get(i).copied(),
         }
+    }
+
+    pub fn code(&self) -> [u8; 10] {
+        self.code
+    }
+
+    /// The sums over the matches: price times volume, and volume.
+    pub fn sums(&self) -> (i64, i64) {
+        (self.turnover as i64, self.volume as i64)
     }
 
     /// Mean: the sum of price times volume over the sum of volumes, cut toward zero.

@@ -1,10 +1,12 @@
 //! Scripts for the player of calls (`ftdplay`): calls with the lines that the player has to print. The answers are the
-//! models' (`serving`, `receiving`, `calendar`); each worked example also says by hand how its answer begins.
+//! models' (`serving`, `receiving`, `calendar`, `book`); each worked example also says by hand how its answer begins.
 
+use crate::book::{Book, Side};
 use crate::calendar::{Calendar, Days, Session};
 use crate::receiving::{Received, Receiving};
 use crate::serving::Serving;
 
+mod book;
 mod calendar;
 mod line;
 mod parts;
@@ -25,6 +27,7 @@ pub struct Script {
     receiving: Receiving,
     calendar: Calendar,
     days: Days,
+    book: Book,
     log: Vec<u8>,
     chain: Vec<u8>,
     /// Each line, and what is printed for it: one line, for `state` several.
@@ -40,6 +43,13 @@ fn hex(bytes: &[u8]) -> String {
 
 fn refused(row: u8) -> String {
     format!("refused {row}")
+}
+
+/// A price in units of 0.0001.
+fn price_text(units: i64) -> String {
+    let digits = format!("{:05}", units.unsigned_abs());
+    let (whole, fraction) = digits.split_at(digits.len() - 4);
+    format!("{}{whole}.{fraction}", if units < 0 { "-" } else { "" })
 }
 
 /// A call that writes: its answer as text, and the bytes.
@@ -58,6 +68,7 @@ impl Script {
             receiving: Receiving::default(),
             calendar: Calendar::default(),
             days: Days::default(),
+            book: Book::default(),
             log: vec![0; log],
             chain: vec![0; chain],
             calls: vec![(format!("buffers {log} {chain}"), "ok".to_string())],
@@ -79,6 +90,12 @@ impl Script {
         let (line, answer) = self.calls.last().expect("a call");
         let first = answer.split(' ').take(2).collect::<Vec<_>>().join(" ");
         assert_eq!(first, expected, "line {}: {}", self.calls.len(), &line[..line.len().min(120)]);
+    }
+
+    /// The last answer is this one.
+    fn says(&self, expected: &str) {
+        let (line, answer) = self.calls.last().expect("a call");
+        assert_eq!(answer, expected, "line {}: {}", self.calls.len(), &line[..line.len().min(120)]);
     }
 
     // --- The calls ---
@@ -203,6 +220,36 @@ impl Script {
         self.begins(expected);
     }
 
+    // --- The book, each call with its answer ---
+
+    fn start(&mut self, code: &[u8], expected: &str) {
+        let answer = Book::start(code).map(|book| self.book = book);
+        self.add(format!("book {}", hex(code)), answer.map_or_else(refused, |()| "started".to_string()));
+        self.says(expected);
+    }
+
+    fn take(&mut self, tid: u32, content: &[u8], expected: &str) {
+        let answer = self.book.take(tid, content);
+        self.add(format!("take {tid:08X} {}", hex(content)), answer.map_or_else(refused, |()| "taken".to_string()));
+        self.says(expected);
+    }
+
+    fn level(&mut self, side: Side, i: usize, expected: &str) {
+        let letter = if side == Side::Buying { 'b' } else { 's' };
+        let text = match self.book.level(side, i) {
+            Some((price, quantity)) => format!("level {} {quantity}", price_text(price)),
+            None => "none".to_string(),
+        };
+        self.add(format!("level {letter} {i}"), text);
+        self.says(expected);
+    }
+
+    fn mean(&mut self, expected: &str) {
+        let text = self.book.mean().map_or("none".to_string(), |price| format!("mean {}", price_text(price)));
+        self.add("mean".to_string(), text);
+        self.says(expected);
+    }
+
     /// A line that is no call.
     fn bad(&mut self, line: &str) {
         let answer = format!("bad line {}", self.calls.len() + 1);
@@ -258,14 +305,15 @@ impl Script {
     }
 }
 
-/// The whole script: the worked examples of both ends and of the calendar, and both ends over a faulty line. Gives it
-/// with the place of the call that the faulty line begins with.
+/// The whole script: the worked examples of both ends, of the calendar and of the book, and both ends over a faulty line.
+/// Gives it with the place of the call that the faulty line begins with.
 pub fn whole_script() -> (Script, usize) {
     let mut s = Script::new(LOG, CHAIN);
     serving::examples(&mut s);
     receiving::examples(&mut s);
     serving::biggest(&mut s);
     calendar::examples(&mut s);
+    book::examples(&mut s);
     let from = s.calls.len();
     faulty_line(&mut s, 2_000_000_000);
     serving::last_marks(&mut s);

@@ -43,6 +43,8 @@ fn every_answer_is_there() {
     assert_eq!(rows("answer"), [1, 2, 4, 5, 6, 7, 8, 9, 10, 12, 13, 15, 16]);
     assert_eq!(rows("receive"), [1, 2, 3, 4, 5, 6, 7, 12, 13, 14, 15, 16, 17, 18]);
     assert_eq!(rows("calendar"), [26, 27]);
+    assert_eq!(rows("book"), [9]);
+    assert_eq!(rows("take"), [7, 8, 9, 10, 22, 23, 24]);
     for taken in [
         ("sopen", "opened"),
         ("publish", "published"),
@@ -62,6 +64,12 @@ fn every_answer_is_there() {
         ("ask", "inside"),
         ("ask", "outside"),
         ("mark", "date"),
+        ("book", "started"),
+        ("take", "taken"),
+        ("level", "level"),
+        ("level", "none"),
+        ("mean", "mean"),
+        ("mean", "none"),
     ] {
         assert!(seen.contains_key(&taken), "{taken:?}");
     }

@@ -26,7 +26,10 @@ print-line-requires : tie.Need-print-line-requires Inv-loop μ-loop
 print-line-requires c κs = search needs
 
 loop-less : tie.Need-loop-less Inv-loop μ-loop
-loop-less c = search (needs, less)
+loop-less c =
+    let k = c .before .before .before .before .before .before .before .before .before .before .before .before in
+    let t = k .before .before .before .before .before .before .before .before .before in
+    less _ _ _ (t .take-line .ensures .0) (t .before .before .loop-test .taken)
 
 loop-again : tie.Need-loop-again Inv-loop μ-loop
 loop-again c =

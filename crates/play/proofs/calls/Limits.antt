@@ -15,14 +15,15 @@ use Rattle.play.specs.declared.calls.Verb.the-variants.{Send as NamesSen
 use Rattle.play.specs.declared.calls.Verb.the-variants.{Connect as NamesConnect, Ask as NamesAsk}
 use Rattle.play.specs.declared.calls.Verb.the-variants.{Answer as NamesAnswer, Receive as NamesReceive}
 use Rattle.play.specs.declared.calls.Verb.the-variants.{State as NamesState, Calendar as NamesCalendar}
-use Rattle.play.specs.declared.calls.Verb.the-variants.{Mark as NamesMark}
+use Rattle.play.specs.declared.calls.Verb.the-variants.{Mark as NamesMark, Book as NamesBook, Take as NamesTake}
+use Rattle.play.specs.declared.calls.Verb.the-variants.{Level as NamesLevel, Mean as NamesMean}
 use Rattle.play.specs.declared.calls.Call.{Call}
 use Rattle.play.specs.declared.calls.Call.the-variants.{Bad, OpenDay, Login, Send, OpenEnd, Connect}
-use Rattle.play.specs.declared.calls.Call.the-variants.{Ask, Receive, State, SetCalendar}
+use Rattle.play.specs.declared.calls.Call.the-variants.{Ask, Receive, State, SetCalendar, StartBook, ShowLevel, ShowMean}
 use Rattle.play.specs.Words.{endOf}
 use Rattle.play.specs.Calls.{verbOf, buffersWith, openDayWith, publishWith, loginCallWith, sendWith, openEndWith}
 use Rattle.play.specs.Calls.{askWith, answerWith, timeWith, calendarWith, markWith, plainCall, namedCall, callOf}
-use Rattle.play.specs.Calls.{Limited}
+use Rattle.play.specs.Calls.{takeWith, levelWith, Limited}
 
 -- What a test lets through keeps to its limit, and a line that is no call keeps to all.
 either : (b : Bool) (x : Call) → (b ≡ true → Limited x) → Limited (cond b x Bad)
@@ -82,6 +83,18 @@ mark-limited : (b : Bool) (x : ℕ) → Limited (markWith b x)
 unfolding markWith
 mark-limited b x = either b _ (λ _. unless x 4294967295 _ (λ _. tt))
 
+take-limited : (b : Bool) (x : ℕ) → Limited (takeWith b x)
+unfolding takeWith
+take-limited b x = either b _ (λ _. unless x 4294967295 _ (λ _. tt))
+
+level-limited : (b buying selling : Bool) (x : ℕ) → Limited (levelWith b buying selling x)
+unfolding levelWith
+level-limited b buying selling x = either b _ (λ _. unless x 4294967295 _ (λ _. go buying))
+  where
+    go : (buying : Bool) → Limited (cond buying (ShowLevel true x) (cond selling (ShowLevel false x) Bad))
+    go true = tt
+    go false = either selling _ (λ _. tt)
+
 plain-limited : (b : Bool) (c : Call) → Limited c → Limited (plainCall b c)
 unfolding plainCall
 plain-limited b c h = either b c (λ _. h)
@@ -101,6 +114,10 @@ named-limited line NamesReceive = plain-limited _ Receive tt
 named-limited line NamesState = plain-limited _ State tt
 named-limited line NamesCalendar = calendar-limited _ _
 named-limited line NamesMark = mark-limited _ _
+named-limited line NamesBook = plain-limited _ StartBook tt
+named-limited line NamesTake = take-limited _ _
+named-limited line NamesLevel = level-limited _ _ _ _
+named-limited line NamesMean = plain-limited _ ShowMean tt
 
 pub limited : (line : List ℕ) (c : Call) → c ≡ callOf line → Limited c
 unfolding callOf

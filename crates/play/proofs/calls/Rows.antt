@@ -2,23 +2,25 @@
 -- Assumes nothing.
 use Prim.Native.Nat.{ℕ}
 use mathlib.Core.Path.{_≡_}
-use mathlib.Core.List.{List}
+use mathlib.Core.List.{List, [], _∷_}
 use mathlib.Core.Bool.{Bool, true, false, cond}
 use lib.ListN.{take}
 use Rattle.play.specs.declared.calls.Verb.{Verb}
+use Rattle.play.specs.declared.calls.Verb.the-variants.{Unknown}
 use Rattle.play.specs.declared.calls.Verb.the-variants.{Buffers as NamesBuffers, OpenDay as NamesOpenDay}
 use Rattle.play.specs.declared.calls.Verb.the-variants.{Publish as NamesPublish, Login as NamesLogin}
 use Rattle.play.specs.declared.calls.Verb.the-variants.{Send as NamesSend, OpenEnd as NamesOpenEnd}
 use Rattle.play.specs.declared.calls.Verb.the-variants.{Connect as NamesConnect, Ask as NamesAsk}
 use Rattle.play.specs.declared.calls.Verb.the-variants.{Answer as NamesAnswer, Receive as NamesReceive}
 use Rattle.play.specs.declared.calls.Verb.the-variants.{State as NamesState, Calendar as NamesCalendar}
-use Rattle.play.specs.declared.calls.Verb.the-variants.{Mark as NamesMark}
+use Rattle.play.specs.declared.calls.Verb.the-variants.{Mark as NamesMark, Book as NamesBook, Take as NamesTake}
+use Rattle.play.specs.declared.calls.Verb.the-variants.{Level as NamesLevel, Mean as NamesMean}
 use Rattle.play.specs.declared.calls.Call.{Call}
-use Rattle.play.specs.declared.calls.Call.the-variants.{Connect, Receive, State}
-use Rattle.play.specs.Words.{endOf, tidIn, argument, hasForm, seriesCount, wordCount}
+use Rattle.play.specs.declared.calls.Call.the-variants.{Bad, Connect, Receive, State, StartBook, ShowMean}
+use Rattle.play.specs.Words.{endOf, tidIn, sameWord, argument, hasForm, seriesCount, wordCount}
 use Rattle.play.specs.Calls.{verbOf, buffersWith, openDayWith, publishWith, loginCallWith, sendWith, openEndWith}
 use Rattle.play.specs.Calls.{askWith, answerWith, timeWith, calendarWith, markWith, plainCall, numberAt}
-use Rattle.play.specs.Calls.{namedCall, callOf}
+use Rattle.play.specs.Calls.{takeWith, levelWith, namedCall, callOf}
 
 module _ {A : Type 0} (x y z : A) (b : Bool) where
   pub holds : b ≡ true → x ≡ y → x ≡ cond b y z
@@ -35,6 +37,9 @@ module _ {A : Type 0} (x y z : A) (b : Bool) where
     passed e f = rw (← q, e) f
 
 -- ─── Each verb's call ───
+
+pub names-none : (line : List ℕ) (v : Verb) → v ≡ Unknown → Bad ≡ namedCall line v
+names-none line v e = rw e
 
 module _ (line : List ℕ) (v : Verb) (r : Call) where
   module _ (b : Bool) (x y : ℕ) where
@@ -89,6 +94,24 @@ module _ (line : List ℕ) (v : Verb) (r : Call) where
 
     pub names-state : r ≡ plainCall b State → v ≡ NamesState → b ≡ hasForm line 0 0 → r ≡ namedCall line v
     names-state k e h = rw (e, ← h) k
+
+    pub names-book : r ≡ plainCall b StartBook → v ≡ NamesBook → b ≡ hasForm line 0 1 → r ≡ namedCall line v
+    names-book k e h = rw (e, ← h) k
+
+    pub names-take : (x : ℕ) (w : List ℕ) → r ≡ takeWith b x → v ≡ NamesTake → b ≡ hasForm line 1 1 → x ≡ tidIn w
+        → w ≡ argument line 0 → r ≡ namedCall line v
+    names-take x w k e h q f = let z : x ≡ tidIn (argument line 0) = rw f at q in rw (e, ← h, ← z) k
+
+    pub names-level : (buying selling : Bool) (x : ℕ) (w u : List ℕ) → r ≡ levelWith b buying selling x → v ≡ NamesLevel
+        → b ≡ hasForm line 2 0 → buying ≡ sameWord w (98 ∷ []) → w ≡ argument line 0 → selling ≡ sameWord u (115 ∷ [])
+        → u ≡ argument line 0 → x ≡ numberAt line 1 → r ≡ namedCall line v
+    names-level buying selling x w u k e h g f q d p =
+        let y : buying ≡ sameWord (argument line 0) (98 ∷ []) = rw f at g in
+        let z : selling ≡ sameWord (argument line 0) (115 ∷ []) = rw d at q in
+        rw (e, ← h, ← y, ← z, ← p) k
+
+    pub names-mean : r ≡ plainCall b ShowMean → v ≡ NamesMean → b ≡ hasForm line 0 0 → r ≡ namedCall line v
+    names-mean k e h = rw (e, ← h) k
 
   pub line-is : (e : ℕ) → r ≡ namedCall line v → v ≡ verbOf (take e line) → e ≡ endOf line 0 → r ≡ callOf line
   unfolding callOf

@@ -17,6 +17,7 @@ use Rattle.play.specs.declared.calls.Call.{Call}
 use Rattle.play.specs.declared.calls.Call.the-variants.{Bad, Buffers, OpenDay, Publish, Login, Send, OpenEnd}
 use Rattle.play.specs.declared.calls.Call.the-variants.{Connect, Ask, Answer, Receive, State}
 use Rattle.play.specs.declared.calls.Call.the-variants.{SetCalendar, AskTime, MarkDate}
+use Rattle.play.specs.declared.calls.Call.the-variants.{StartBook, TakeMessage, ShowLevel, ShowMean}
 use Rattle.play.proofs.calls.Call.{the-type}
 use Rattle.play.specs.Words.{argument, saidBytes, seriesFrom, wordsFrom}
 use Rattle.play.specs.Calls.{callOf}
@@ -24,7 +25,8 @@ use Rattle.play.specs.Lines.{wordLine}
 use Rattle.play.specs.Played.{Turn, Shows, Plays, badLine, okLine, laidOut, countedPlayer, badTurn, layoutTurn}
 use Rattle.play.specs.Played.{readyTurn, startTurn, callTurn, lacksRoom, playTurn, ShowsOpenDay, ShowsOpenEnd}
 use Rattle.play.specs.Played.{ShowsConnect, ShowsAnswer, ShowsState, PlaysPublish, PlaysLogin, PlaysSend, PlaysAsk}
-use Rattle.play.specs.Played.{PlaysReceive, ShowsCalendar, ShowsTime, ShowsDate}
+use Rattle.play.specs.Played.{PlaysReceive, ShowsCalendar, ShowsTime, ShowsDate, ShowsStart, ShowsTake}
+use Rattle.play.specs.Played.{ShowsLevel, ShowsMean}
 
 -- A turn that is another.
 is-turn : {u t : Turn} {r : Played} {b a log chain : List ℕ} → t ≡ u → Plays u r b a log chain → Plays t r b a log chain
@@ -125,10 +127,25 @@ module _ (p : Player) (line log chain : List ℕ) (call : Call) (r : Played) (t 
   pub ready-date : (m : ℕ) → call ≡ MarkDate m → ShowsDate p m r t t′ → Plays (readyTurn p line log chain call) r t t′ log chain
   ready-date m e h = rw e (h, refl, refl)
 
-  others : (c : Call) → OneOf (0 ∷ 2 ∷ 3 ∷ 4 ∷ 5 ∷ 6 ∷ 7 ∷ 8 ∷ 9 ∷ 10 ∷ 11 ∷ 12 ∷ 13 ∷ 14 ∷ []) (tagOf the-type c)
+  pub ready-book : call ≡ StartBook → ShowsStart p (saidBytes (argument line 0)) r t t′
+      → Plays (readyTurn p line log chain call) r t t′ log chain
+  ready-book e h = rw e (h, refl, refl)
+
+  pub ready-take : (tid : ℕ) → call ≡ TakeMessage tid → ShowsTake p tid (saidBytes (argument line 1)) r t t′
+      → Plays (readyTurn p line log chain call) r t t′ log chain
+  ready-take tid e h = rw e (h, refl, refl)
+
+  pub ready-level : (buying : Bool) (i : ℕ) → call ≡ ShowLevel buying i → ShowsLevel p buying i r t t′
+      → Plays (readyTurn p line log chain call) r t t′ log chain
+  ready-level buying i e h = rw e (h, refl, refl)
+
+  pub ready-mean : call ≡ ShowMean → ShowsMean p r t t′ → Plays (readyTurn p line log chain call) r t t′ log chain
+  ready-mean e h = rw e (h, refl, refl)
+
+  others : (c : Call) → OneOf (0 ∷ 2 ∷ 3 ∷ 4 ∷ 5 ∷ 6 ∷ 7 ∷ 8 ∷ 9 ∷ 10 ∷ 11 ∷ 12 ∷ 13 ∷ 14 ∷ 15 ∷ 16 ∷ 17 ∷ 18 ∷ []) (tagOf the-type c)
       → startTurn p log chain c ≡ badTurn p log chain
   others Bad k = refl
-  others (Buffers n m) k = absurd (miss (0 ∷ 2 ∷ 3 ∷ 4 ∷ 5 ∷ 6 ∷ 7 ∷ 8 ∷ 9 ∷ 10 ∷ 11 ∷ 12 ∷ 13 ∷ 14 ∷ []) 1 tt k)
+  others (Buffers n m) k = absurd (miss (0 ∷ 2 ∷ 3 ∷ 4 ∷ 5 ∷ 6 ∷ 7 ∷ 8 ∷ 9 ∷ 10 ∷ 11 ∷ 12 ∷ 13 ∷ 14 ∷ 15 ∷ 16 ∷ 17 ∷ 18 ∷ []) 1 tt k)
   others (OpenDay date n) k = refl
   others (Publish s tid) k = refl
   others (Login s n) k = refl
@@ -142,8 +159,12 @@ module _ (p : Player) (line log chain : List ℕ) (call : Call) (r : Played) (t 
   others (SetCalendar n m) k = refl
   others (AskTime s) k = refl
   others (MarkDate m) k = refl
+  others StartBook k = refl
+  others (TakeMessage tid) k = refl
+  others (ShowLevel buying i) k = refl
+  others ShowMean k = refl
 
-  pub start-other : OneOf (0 ∷ 2 ∷ 3 ∷ 4 ∷ 5 ∷ 6 ∷ 7 ∷ 8 ∷ 9 ∷ 10 ∷ 11 ∷ 12 ∷ 13 ∷ 14 ∷ []) (tagOf the-type call)
+  pub start-other : OneOf (0 ∷ 2 ∷ 3 ∷ 4 ∷ 5 ∷ 6 ∷ 7 ∷ 8 ∷ 9 ∷ 10 ∷ 11 ∷ 12 ∷ 13 ∷ 14 ∷ 15 ∷ 16 ∷ 17 ∷ 18 ∷ []) (tagOf the-type call)
       → Shows p (badLine (p .lines)) r t t′ → Plays (startTurn p log chain call) r t t′ log chain
   start-other k h = is-turn (others call k) (h, refl, refl)
 

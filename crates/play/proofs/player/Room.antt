@@ -38,6 +38,7 @@ module _ (p : Player) where
         sender = p .sender;
         receiver = p .receiver;
         calendar = p .calendar;
+        book = p .book;
       }) p .log ≡ p .log
       go true = refl
       go false = refl
@@ -54,6 +55,7 @@ module _ (p : Player) where
         sender = p .sender;
         receiver = p .receiver;
         calendar = p .calendar;
+        book = p .book;
       }) p .chain ≡ p .chain
       go true = refl
       go false = refl

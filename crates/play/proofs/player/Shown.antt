@@ -8,13 +8,15 @@ use Rattle.flow.specs.declared.receiver.Receiver.{Receiver}
 use Rattle.flow.specs.Ends.{freshSender, freshReceiver}
 use Rattle.calendar.specs.declared.trading.Calendar.{Calendar}
 use Rattle.calendar.specs.Calendar.{freshCalendar}
+use Rattle.book.specs.declared.calls.Book.{Book}
+use Rattle.book.specs.Calls.{freshBook}
 use Rattle.listing.specs.Text.{WroteText}
 use Rattle.play.specs.declared.player.Player.{Player}
 use Rattle.play.specs.Lines.{wordLine, numbered}
 use Rattle.play.specs.Played.{freshPlayer, badLine}
 
-pub fresh-is : (e : Sender) (f : Receiver) (c : Calendar) → e ≡ freshSender → f ≡ freshReceiver → c ≡ freshCalendar
-    → _≡_ {A = Player} (record {
+pub fresh-is : (e : Sender) (f : Receiver) (c : Calendar) (b : Book) → e ≡ freshSender → f ≡ freshReceiver
+    → c ≡ freshCalendar → b ≡ freshBook → _≡_ {A = Player} (record {
       lines = 0;
       ready = false;
       log = 0;
@@ -22,8 +24,9 @@ pub fresh-is : (e : Sender) (f : Receiver) (c : Calendar) → e ≡ freshSender 
       sender = e;
       receiver = f;
       calendar = c;
+      book = b;
     }) freshPlayer
-fresh-is e f c q p o = rw (q, p, o)
+fresh-is e f c b q p o n = rw (q, p, o, n)
 
 pub bad-is : {l t : List ℕ} {to : ℕ} (n : ℕ)
     → WroteText l 0 (wordLine (numbered (98 ∷ 97 ∷ 100 ∷ 32 ∷ 108 ∷ 105 ∷ 110 ∷ 101 ∷ []) n)) t to

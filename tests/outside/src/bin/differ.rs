@@ -1,7 +1,9 @@
 //! The differential test: `differ [INPUTS [SEED [LISTER]]]`. Both sides on generated inputs, on each row of the table
-//! of items, on link and skipped packets, start fields and modes, on trading calendars, then on a generated capture of
-//! some megabytes; LISTER is the program that lists captures. Each difference is printed with its bytes; any makes the run fail.
+//! of items, on link and skipped packets, start fields and modes, on trading calendars, on books of a contract, then on a
+//! generated capture of some megabytes; LISTER is the program that lists captures. Each difference is printed with its
+//! bytes; any makes the run fail.
 
+use outside::book::Books;
 use outside::calendar::{Both, Input};
 use outside::compare::{self, hex, Asked};
 use outside::{items, Packet, LINK, MESSAGE, SKIPPED, UNUSED};
@@ -209,6 +211,30 @@ impl Run {
         }
     }
 
+    /// Books of a contract: lists of calls from a fresh one on, all that each leaves.
+    fn books(&mut self, r: &mut Random, rounds: u64) {
+        let mut books = Books::new(r);
+        for _ in 0..rounds {
+            if r.once_in(40) {
+                books = Books::new(r);
+            }
+            if books.young() || r.once_in(60) {
+                let code = books.code(r);
+                let found = books.start(&mut self.asked, r, &code);
+                self.count("book started", *found.as_ref().unwrap_or(&255));
+                self.note("a book's start", &code, found.map(|_| ()));
+            }
+            let (tid, content) = books.message(r);
+            let found = books.take(&mut self.asked, r, tid, &content);
+            self.count("book took", *found.as_ref().unwrap_or(&255));
+            let different = found.is_err();
+            self.note(&format!("a message to a book, {tid:#06x}"), &content, found.map(|_| ()));
+            if different {
+                books = Books::new(r);
+            }
+        }
+    }
+
     /// A part of the test, with its figures.
     fn part(&mut self, what: &str, test: impl FnOnce(&mut Self)) {
         let start = Instant::now();
@@ -324,6 +350,7 @@ fn main() {
     run.part("each row of the table of items", |run| run.rows(&mut Random::new(seed), rounds));
     run.part("plain packets, fields, start fields and modes", |run| run.others(&mut Random::new(seed), inputs / 10));
     run.part("trading calendars and marks", |run| run.calendars(&mut Random::new(seed), inputs / 20));
+    run.part("books of a contract", |run| run.books(&mut Random::new(seed), inputs / 10));
 
     let start = Instant::now();
     let before = (run.inputs, run.asked.0);

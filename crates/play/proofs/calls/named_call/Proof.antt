@@ -2,7 +2,8 @@
 use borrow.Author.Needs.{needs}
 use Rattle.play.proofs.calls.Rows.{names-buffers, names-day, names-publish, names-login, names-send}
 use Rattle.play.proofs.calls.Rows.{names-end, names-connect, names-ask, names-answer, names-receive}
-use Rattle.play.proofs.calls.Rows.{names-state, names-calendar, names-mark}
+use Rattle.play.proofs.calls.Rows.{names-state, names-calendar, names-mark, names-none}
+use Rattle.play.proofs.calls.Rows.{names-book, names-take, names-level, names-mean}
 use Rattle.play.proofs.calls.named_call.Statement.{statement}
 use Rattle.play.proofs.calls.named_call.Tie as tie
 
@@ -180,8 +181,71 @@ number-at-requires-14 c κs = search needs
 mark-with-requires : tie.Need-mark-with-requires
 mark-with-requires c κs = search needs
 
+enum-told-15 : tie.Need-enum-told-15
+enum-told-15 c = search needs
+
+has-form-requires-12 : tie.Need-has-form-requires-12
+has-form-requires-12 c κs = search needs
+
+plain-call-requires-4 : tie.Need-plain-call-requires-4
+plain-call-requires-4 c κs = search needs
+
+enum-told-16 : tie.Need-enum-told-16
+enum-told-16 c = search needs
+
+has-form-requires-13 : tie.Need-has-form-requires-13
+has-form-requires-13 c κs = search needs
+
+argument-requires-2 : tie.Need-argument-requires-2
+argument-requires-2 c κs = search needs
+
+read-tid-requires-2 : tie.Need-read-tid-requires-2
+read-tid-requires-2 c κs = search needs
+
+take-with-requires : tie.Need-take-with-requires
+take-with-requires c κs = search needs
+
+enum-told-17 : tie.Need-enum-told-17
+enum-told-17 c = search needs
+
+has-form-requires-14 : tie.Need-has-form-requires-14
+has-form-requires-14 c κs = search needs
+
+argument-requires-3 : tie.Need-argument-requires-3
+argument-requires-3 c κs = search needs
+
+slice-aggregate-is-word : tie.Need-slice-aggregate-is-word
+slice-aggregate-is-word c = search needs
+
+is-word-requires : tie.Need-is-word-requires
+is-word-requires c κs = search needs
+
+argument-requires-4 : tie.Need-argument-requires-4
+argument-requires-4 c κs = search needs
+
+slice-aggregate-is-word-2 : tie.Need-slice-aggregate-is-word-2
+slice-aggregate-is-word-2 c = search needs
+
+is-word-requires-2 : tie.Need-is-word-requires-2
+is-word-requires-2 c κs = search needs
+
+number-at-requires-15 : tie.Need-number-at-requires-15
+number-at-requires-15 c κs = search needs
+
+level-with-requires : tie.Need-level-with-requires
+level-with-requires c κs = search needs
+
+enum-told-18 : tie.Need-enum-told-18
+enum-told-18 c = search needs
+
+has-form-requires-15 : tie.Need-has-form-requires-15
+has-form-requires-15 c κs = search needs
+
+plain-call-requires-5 : tie.Need-plain-call-requires-5
+plain-call-requires-5 c κs = search needs
+
 returns : tie.Need-returns
-returns c = search needs
+returns c = search (needs, names-none)
 
 returns-2 : tie.Need-returns-2
 returns-2 c = search (needs, names-buffers)
@@ -221,6 +285,18 @@ returns-13 c = search (needs, names-calendar)
 
 returns-14 : tie.Need-returns-14
 returns-14 c = search (needs, names-mark)
+
+returns-15 : tie.Need-returns-15
+returns-15 c = search (needs, names-book)
+
+returns-16 : tie.Need-returns-16
+returns-16 c = search (needs, names-take)
+
+returns-17 : tie.Need-returns-17
+returns-17 c = search (needs, names-level)
+
+returns-18 : tie.Need-returns-18
+returns-18 c = search (needs, names-mean)
 
 pub named-call-spec : {M : Type 1} → statement M
 named-call-spec =
@@ -284,6 +360,27 @@ named-call-spec =
     has-form-requires-11
     number-at-requires-14
     mark-with-requires
+    enum-told-15
+    has-form-requires-12
+    plain-call-requires-4
+    enum-told-16
+    has-form-requires-13
+    argument-requires-2
+    read-tid-requires-2
+    take-with-requires
+    enum-told-17
+    has-form-requires-14
+    argument-requires-3
+    slice-aggregate-is-word
+    is-word-requires
+    argument-requires-4
+    slice-aggregate-is-word-2
+    is-word-requires-2
+    number-at-requires-15
+    level-with-requires
+    enum-told-18
+    has-form-requires-15
+    plain-call-requires-5
     returns
     returns-2
     returns-3
@@ -297,4 +394,8 @@ named-call-spec =
     returns-11
     returns-12
     returns-13
-    returns-14)
+    returns-14
+    returns-15
+    returns-16
+    returns-17
+    returns-18)

@@ -42,7 +42,12 @@ same-length-3 : tie.Need-same-length-3
 same-length-3 c = search needs
 
 returns : tie.Need-returns
-returns c = search (needs, login-played, taken-back)
+returns c =
+    let l = c .before .before .before .before in
+    let t = l .before .before .before .before .before .before .before .before in
+    let s = t .before .before .before .before .before .before in
+    login-played _ _ _ _ _ _ _ _ _ _ _ _ (l .login .ensures) (taken-back _ _ (s .pre .1)) (t .put-two .ensures .1)
+    (t .put-two .ensures .2)
 
 pub play-login-spec : {M : Type 1} → statement M
 play-login-spec =

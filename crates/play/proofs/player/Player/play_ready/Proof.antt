@@ -5,6 +5,7 @@ use Rattle.play.proofs.calls.Limits.{room-text, room-out, times-limit, 
 use Rattle.play.proofs.player.Plays.{ready-bad, ready-buffers, ready-day, ready-publish, ready-login}
 use Rattle.play.proofs.player.Plays.{ready-send, ready-end, ready-connect, ready-ask, ready-answer}
 use Rattle.play.proofs.player.Plays.{ready-receive, ready-state, ready-calendar, ready-time, ready-date}
+use Rattle.play.proofs.player.Plays.{ready-book, ready-take, ready-level, ready-mean}
 use Rattle.play.proofs.player.Player.play_ready.Statement.{statement}
 use Rattle.play.proofs.player.Player.play_ready.Tie as tie
 
@@ -97,6 +98,30 @@ enum-known-call-10 c = search needs
 
 show-date-requires : tie.Need-show-date-requires
 show-date-requires c κs = search needs
+
+enum-told-6 : tie.Need-enum-told-6
+enum-told-6 c = search needs
+
+play-book-requires : tie.Need-play-book-requires
+play-book-requires c κs = search needs
+
+enum-known-call-11 : tie.Need-enum-known-call-11
+enum-known-call-11 c = search needs
+
+play-take-requires : tie.Need-play-take-requires
+play-take-requires c κs = search needs
+
+enum-known-call-12 : tie.Need-enum-known-call-12
+enum-known-call-12 c = search needs
+
+show-level-requires : tie.Need-show-level-requires
+show-level-requires c κs = search needs
+
+enum-told-7 : tie.Need-enum-told-7
+enum-told-7 c = search needs
+
+show-mean-requires : tie.Need-show-mean-requires
+show-mean-requires c κs = search needs
 
 same-length : tie.Need-same-length
 same-length c = search needs
@@ -221,6 +246,36 @@ same-length-26 c = search needs
 returns-15 : tie.Need-returns-15
 returns-15 c = search (needs, ready-date)
 
+same-length-27 : tie.Need-same-length-27
+same-length-27 c = search needs
+
+same-length-28 : tie.Need-same-length-28
+same-length-28 c = search needs
+
+returns-16 : tie.Need-returns-16
+returns-16 c = search (needs, ready-book)
+
+same-length-29 : tie.Need-same-length-29
+same-length-29 c = search needs
+
+same-length-30 : tie.Need-same-length-30
+same-length-30 c = search needs
+
+returns-17 : tie.Need-returns-17
+returns-17 c = search (needs, ready-take)
+
+same-length-31 : tie.Need-same-length-31
+same-length-31 c = search needs
+
+returns-18 : tie.Need-returns-18
+returns-18 c = search (needs, ready-level)
+
+same-length-32 : tie.Need-same-length-32
+same-length-32 c = search needs
+
+returns-19 : tie.Need-returns-19
+returns-19 c = search (needs, ready-mean)
+
 pub play-ready-spec : {M : Type 1} → statement M
 play-ready-spec =
     tie.close
@@ -255,6 +310,14 @@ play-ready-spec =
     ask-time-requires
     enum-known-call-10
     show-date-requires
+    enum-told-6
+    play-book-requires
+    enum-known-call-11
+    play-take-requires
+    enum-known-call-12
+    show-level-requires
+    enum-told-7
+    show-mean-requires
     same-length
     returns
     same-length-2
@@ -295,4 +358,14 @@ play-ready-spec =
     same-length-25
     returns-14
     same-length-26
-    returns-15)
+    returns-15
+    same-length-27
+    same-length-28
+    returns-16
+    same-length-29
+    same-length-30
+    returns-17
+    same-length-31
+    returns-18
+    same-length-32
+    returns-19)

@@ -1,0 +1,3 @@
+-- The book as numbers: its answers, and its laws.
+pub mod Answers
+pub mod Laws

@@ -1,0 +1,3 @@
+-- The laws of prices as text.
+pub mod Sizes
+pub mod Lines

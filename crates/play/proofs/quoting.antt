@@ -1,0 +1,2 @@
+-- The laws of the book's calls.
+pub mod Shown
