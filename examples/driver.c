@@ -2,7 +2,8 @@
  *
  * The serving process publishes messages of two series, answers logins and sends. The first line breaks within a
  * message of five packets; both sides go on with the second line, and the message is sent anew. The receiving process
- * prints what it is handed. Where there are two socket pairs here a driver has its sockets; the rest can be taken over.
+ * reads what is there, wherever that cuts a packet, hands it over and keeps the rest; it prints what it is handed.
+ * Where there are two socket pairs here a driver has its sockets; the rest can be taken over.
  *
  *     make example && target/example/driver
  */
@@ -28,8 +29,8 @@ enum {
     BULLETIN_FIELD = 0x0001,
     OTHER = 0x7777, /* TID and FID of a message that the standard doesn't have: its bytes are free */
     OTHER_FIELD = 0x7001,
-    MOST_PACKET = 4 + 255 + 65535, /* bytes of a packet, as its first four can say */
-    LOG_SIZE = 1 << 20             /* bytes for the day's messages: content and FTD_LOG_HEAD of each */
+    LOG_SIZE = 1 << 20, /* bytes for the day's messages: content and FTD_LOG_HEAD of each */
+    RECORDS = 1 << 16   /* bytes for messages that are published together: content and FTD_RECORD_HEAD of each */
 };
 
 static const uint16_t open_series[SERIES] = {PRIVATE, BROADCAST};
@@ -61,7 +62,8 @@ static void must(const char *call, uint8_t refusal) {
 
 struct line {
     int socket;
-    size_t left; /* so many bytes can still be written until it breaks; only here to show a break */
+    size_t left;  /* so many bytes can still be written until it breaks; only here to show a break */
+    size_t piece; /* so many bytes are read at most; only here to show packets cut anywhere */
 };
 
 /* Reads so many bytes; 0: the line is broken. */
@@ -81,7 +83,7 @@ static int read_bytes(struct line *line, uint8_t *bytes, size_t count) {
 /* Reads one packet: always as many bytes as are certainly missing, so its first four and then the rest, and never a byte
  * of the next one. Gives its length; 0: the line is broken. What isn't a packet at all is left to the call that gets it:
  * it refuses it. */
-static size_t read_packet(struct line *line, uint8_t packet[MOST_PACKET]) {
+static size_t read_packet(struct line *line, uint8_t packet[FTD_MOST_BYTES]) {
     size_t size = 0;
     struct ftd_packet read = ftd_read(packet, size);
 
@@ -92,6 +94,34 @@ static size_t read_packet(struct line *line, uint8_t packet[MOST_PACKET]) {
         read = ftd_read(packet, size);
     }
     return size;
+}
+
+/* What was read from a line and isn't taken yet. Behind a call that takes all it can this is less than a packet, so
+ * that there is always room for more. */
+struct kept {
+    uint8_t bytes[FTD_MOST_BYTES];
+    size_t used;
+};
+
+/* Reads what is there, behind what is kept: some packets, or a part of one; 0: the line is broken. */
+static int read_more(struct line *line, struct kept *kept) {
+    size_t room = sizeof kept->bytes - kept->used;
+    ssize_t n;
+
+    line->piece = (5 * line->piece + 3) % 2003 + 1;
+    do
+        n = recv(line->socket, kept->bytes + kept->used, room < line->piece ? room : line->piece, 0);
+    while (n < 0 && errno == EINTR);
+    if (n <= 0)
+        return 0;
+    kept->used += (size_t)n;
+    return 1;
+}
+
+/* The first bytes are taken. */
+static void drop(struct kept *kept, size_t taken) {
+    memmove(kept->bytes, kept->bytes + taken, kept->used - taken);
+    kept->used -= taken;
 }
 
 /* Writes so many bytes; 0: the line is broken. */
@@ -236,9 +266,11 @@ static void other_content(struct content *content, size_t fields, size_t length)
 /* ---- Buffers; each process has its own ---- */
 
 static struct content content;                    /* what is given to a call */
-static uint8_t packet[MOST_PACKET];               /* what was read from the line */
 static uint8_t output[FTD_MOST_OUTPUT];           /* what is written to the line */
+static uint8_t packet[FTD_MOST_BYTES];            /* serving: what was read from the line */
+static uint8_t records[RECORDS];                  /* serving: messages that are published together */
 static uint8_t day_log[LOG_SIZE];                 /* serving: the log */
+static struct kept kept;                          /* receiving: what was read from the line */
 static uint8_t buffer[SERIES * FTD_MOST_CONTENT]; /* receiving: the reassembly buffer */
 
 /* ---- The serving side ---- */
@@ -248,6 +280,34 @@ static void publish(struct ftd_sender *end, uint16_t series, uint32_t tid) {
         ftd_publish(*end, series, tid, content.bytes, content.used, day_log, sizeof day_log);
 
     must("ftd_publish", published.refusal);
+    *end = published.end;
+}
+
+static void put_number(uint8_t *bytes, size_t count, uint32_t number) {
+    while (count > 0) {
+        bytes[--count] = (uint8_t)number;
+        number >>= 8;
+    }
+}
+
+/* Puts the content's message behind the records; gives how many bytes they have then. */
+static size_t add_record(size_t used, uint16_t series, uint32_t tid) {
+    uint8_t *record = records + used;
+
+    if (sizeof records - used < FTD_RECORD_HEAD + content.used)
+        must("add_record", FTD_TOO_SMALL);
+    put_number(record, 2, series);
+    put_number(record + 2, 4, tid);
+    put_number(record + 6, 4, (uint32_t)content.used);
+    memcpy(record + FTD_RECORD_HEAD, content.bytes, content.used);
+    return used + FTD_RECORD_HEAD + content.used;
+}
+
+/* Publishes so many bytes of records. They are whole, so that the answer is the end or a refusal. */
+static void publish_records(struct ftd_sender *end, size_t used) {
+    struct ftd_published_several published = ftd_publish_several(*end, records, used, day_log, sizeof day_log);
+
+    must("ftd_publish_several", published.refusal);
     *end = published.end;
 }
 
@@ -315,14 +375,16 @@ static void serve_line(struct ftd_sender *end, struct line *line) {
 static void serve(struct line lines[LINES]) {
     struct ftd_sender_opened opened = ftd_sender_open(ftd_sender_fresh(), TRADE_DATE, open_series, SERIES);
     struct ftd_sender end = opened.end;
+    size_t used = 0;
 
     must("ftd_sender_open", opened.refusal);
     other_content(&content, 1, 20); /* one packet */
-    publish(&end, PRIVATE, OTHER);
+    used = add_record(used, PRIVATE, OTHER);
     other_content(&content, 5, 4000); /* five */
-    publish(&end, PRIVATE, OTHER);
+    used = add_record(used, PRIVATE, OTHER);
     bulletin_content(&content, "Margins as of today: 7 percent");
-    publish(&end, BROADCAST, BULLETIN);
+    used = add_record(used, BROADCAST, BULLETIN);
+    publish_records(&end, used);
 
     serve_line(&end, &lines[0]);
     close(lines[0].socket);
@@ -366,37 +428,43 @@ static void hand_on(unsigned series, uint32_t number, uint32_t tid, const uint8_
     }
 }
 
-/* Takes a packet of the line; 0: the line is to be closed. */
-static int take_packet(struct ftd_receiver *end, size_t size) {
-    struct ftd_received received = ftd_receive(*end, packet, size, buffer, sizeof buffer);
-    const uint8_t *from = received.origin == FTD_IN_BUFFER ? buffer : packet;
-    unsigned series = ftd_read(packet, size).series;
+/* The series of a message that was handed on: the one whose last number rose. */
+static unsigned series_of(const struct ftd_receiver *before, const struct ftd_receiver *after) {
+    size_t i = 0;
 
-    *end = received.end; /* also where it is refused */
-    switch (received.answer) {
-    case FTD_RECEIVE_IDLE:
-        printf("a packet of type %u that bears no message\n", packet[0]);
-        return 1;
-    case FTD_RECEIVE_AGAIN:
-        printf("a message of series %u again\n", series);
-        return 1;
-    case FTD_RECEIVE_HELD:
-        printf("a part of message %u of series %u\n", (unsigned)received.last + 1, series);
-        return 1;
-    case FTD_RECEIVE_MESSAGE:
-        hand_on(series, received.last, received.tid, from + received.content.start, received.content.len);
-        return 1;
-    default:
-        report("ftd_receive", received.refusal);
-        return 0;
-    }
+    while (i + 1 < after->count && after->series[i].last == before->series[i].last)
+        i++;
+    return after->series[i].series;
+}
+
+/* Hands the first `count` bytes that are kept over until they are through, and drops what was taken: all packets that
+ * are whole. 0: the line is to be closed. */
+static int take_packets(struct ftd_receiver *end, size_t count) {
+    struct ftd_received_several received;
+    size_t at = 0;
+
+    do {
+        const uint8_t *packets = kept.bytes + at, *from;
+
+        received = ftd_receive_several(*end, packets, count - at, buffer, sizeof buffer);
+        from = received.origin == FTD_IN_BUFFER ? buffer : packets;
+        if (received.answer == FTD_SEVERAL_MESSAGE)
+            hand_on(series_of(end, &received.end), received.last, received.tid, from + received.content.start,
+                    received.content.len);
+        *end = received.end; /* also where a packet is refused */
+        at += received.taken;
+    } while (received.answer == FTD_SEVERAL_MESSAGE);
+    drop(&kept, at);
+    if (received.answer == FTD_SEVERAL_REFUSED)
+        report("ftd_receive_several", received.refusal);
+    return received.answer != FTD_SEVERAL_REFUSED;
 }
 
 /* Logs a series in. Other packets may come before the answer. 0: the line is to be closed. */
 static int log_in(struct ftd_receiver *end, struct line *line, uint16_t series) {
     struct ftd_written request;
+    struct ftd_packet read;
     struct ftd_confirmed confirmed;
-    size_t size;
 
     request_content(&content, series);
     request = ftd_request_login(*end, series, content.bytes, content.used, output, sizeof output);
@@ -404,35 +472,41 @@ static int log_in(struct ftd_receiver *end, struct line *line, uint16_t series) 
     if (!write_bytes(line, output, request.bytes))
         return 0;
     for (;;) {
-        size = read_packet(line, packet);
-        if (size == 0)
+        read = ftd_read(kept.bytes, kept.used);
+        if (read.answer == FTD_SHORT) {
+            if (!read_more(line, &kept))
+                return 0;
+        } else if (read.answer == FTD_REFUSED) {
+            report("ftd_read", read.refusal);
             return 0;
-        if (ftd_read(packet, size).tid == LOGIN)
+        } else if (read.tid == LOGIN) {
             break;
-        if (!take_packet(end, size))
+        } else if (!take_packets(end, read.size)) {
             return 0;
+        }
     }
-    confirmed = ftd_confirm_login(*end, series, packet, size);
+    confirmed = ftd_confirm_login(*end, series, kept.bytes, read.size);
     *end = confirmed.end;
     if (confirmed.refusal != 0) {
         report("ftd_confirm_login", confirmed.refusal);
         return 0;
     }
+    drop(&kept, read.size);
     printf("logged in to series %u, last number %u\n", series, (unsigned)confirmed.last);
     return 1;
 }
 
-/* All that is done on a line, until it breaks. */
+/* All that is done on a line, until it breaks. What a broken line brought of a packet is of no use. */
 static void receive_line(struct ftd_receiver *end, struct line *line) {
-    size_t i, size;
+    size_t i;
 
     *end = ftd_connect(*end);
+    kept.used = 0;
     for (i = 0; i < SERIES; i++)
         if (!log_in(end, line, open_series[i]))
             return;
-    while ((size = read_packet(line, packet)) != 0)
-        if (!take_packet(end, size))
-            return;
+    while (take_packets(end, kept.used) && read_more(line, &kept))
+        ;
 }
 
 static void receive(struct line lines[LINES]) {
@@ -445,7 +519,7 @@ static void receive(struct line lines[LINES]) {
         printf("line %zu\n", i + 1);
         receive_line(&end, &lines[i]);
         close(lines[i].socket);
-        printf("line %zu is closed\n", i + 1);
+        printf("line %zu is closed, %zu bytes of a packet left\n", i + 1, kept.used);
     }
 }
 
@@ -465,8 +539,10 @@ int main(void) {
         }
         serving[i].socket = sockets[0];
         serving[i].left = breaks_after[i];
+        serving[i].piece = 0;
         receiving[i].socket = sockets[1];
         receiving[i].left = SIZE_MAX;
+        receiving[i].piece = 0;
     }
     server = fork();
     if (server < 0) {

@@ -2,7 +2,7 @@
  * trading calendar, and the book of a contract.
  *
  * The library is libftd.a, for x86-64 Linux; README.md has the lines that build and link it. Of other libraries it
- * needs memcpy, memmove and memset alone. It keeps no state, takes no memory from the heap and at most 5000 bytes of
+ * needs memcpy, memmove and memset alone. It keeps no state, takes no memory from the heap and at most 5500 bytes of
  * stack (ftd_book_take: 20000), makes no system call and always returns: each call has an answer for any bytes and
  * numbers, and is proved to give the answer, the state and every byte of every buffer that its definition says
  * (crates/exports/specs, crates/flow/specs, crates/calendar/specs, crates/book/specs, crates/ftd/specs). As calls share
@@ -31,6 +31,10 @@
  *       ftd_confirm_login  <--- login answer -------
  *     ftd_receive          <--- message packets ----   ftd_send until FTD_SEND_NONE, and again when more is published
  *
+ * Both ends have a call that takes a bufferful: ftd_receive_several all that a line has brought, wherever a read cuts
+ * the packets, and ftd_publish_several a run of messages. They do what ftd_receive and ftd_publish do for one after the
+ * other.
+ *
  * When the line breaks, or a packet on it is refused, close it, open another and start over. The login packet says
  * which number is wanted next, and the serving end goes on there; a message of which only some packets came is sent
  * anew. The serving end doesn't know of lines: send nothing on a new one before ftd_login was called for the series.
@@ -43,8 +47,9 @@
  * value: the caller keeps `end`, `calendar` or `book` of the answer from then on, also of a refusal. It is plain data
  * with no pointer; it may be copied, compared member by member and laid away. Any values of its members are a state.
  * `refusal` is 0, or a number of enum ftd_refusal: then the call did nothing, state and buffers are as they were (one
- * exception is said at ftd_receive). Where more than one refusal applies, the answer is the one that stands first in
- * the call's list below. What an answer doesn't have is 0: of a refusal all but `refusal`, `answer` and the state.
+ * exception is said at ftd_receive; of a bufferful it is said of the refused packet or record alone). Where more than
+ * one refusal applies, the answer is the one that stands first in the call's list below. What an answer doesn't have is
+ * 0: of a refusal all but `refusal`, `answer`, `taken` and the state.
  */
 #ifndef FTD_H
 #define FTD_H
@@ -111,7 +116,9 @@ enum ftd_limit {
     FTD_MOST_PACKETS = 17,       /* packets of a message */
     FTD_MOST_PACKET = 4106,      /* bytes of one of them, as ftd_send writes it */
     FTD_MOST_OUTPUT = 33210,     /* bytes of all packets of a message: an output that is always large enough */
+    FTD_MOST_BYTES = 65794,      /* bytes that a packet can take on the line: room for a bufferful of packets */
     FTD_LOG_HEAD = 16,           /* bytes that a message takes in the log besides its content */
+    FTD_RECORD_HEAD = 10,        /* bytes of a record (ftd_publish_several) besides its content */
     FTD_MOST_SESSIONS = 8,       /* sessions of a calendar */
     FTD_MOST_HOLIDAYS = 32,      /* holidays of a calendar */
     FTD_CODE = 10,               /* bytes of a contract's code */
@@ -283,6 +290,22 @@ struct ftd_published {
     uint8_t refusal;
 };
 
+/* What a bufferful comes to. Message and refused have the numbers of enum ftd_receive_answer. */
+enum ftd_several_answer {
+    FTD_SEVERAL_END = 0,     /* all bytes are taken */
+    FTD_SEVERAL_SHORT = 1,   /* of what isn't taken bytes are missing: see missing */
+    FTD_SEVERAL_MESSAGE = 3, /* ftd_receive_several alone: a message is handed on */
+    FTD_SEVERAL_REFUSED = 4  /* a packet or a record is refused: see refusal */
+};
+
+struct ftd_published_several {
+    struct ftd_sender end;
+    size_t taken;    /* bytes taken, from the first on: those of all records up to the refused one, and with it */
+    size_t missing;  /* short: how many bytes of the next record are certainly missing */
+    uint8_t answer;  /* enum ftd_several_answer */
+    uint8_t refusal; /* refused: why */
+};
+
 struct ftd_logged_in {
     struct ftd_sender end;
     size_t bytes; /* how many were written: the login answer, one packet */
@@ -342,7 +365,7 @@ enum ftd_receive_answer {
 };
 
 enum ftd_origin {
-    FTD_IN_PACKET = 0, /* the content lies in the packet that was given */
+    FTD_IN_PACKET = 0, /* the content lies in the packet, or the packets, given */
     FTD_IN_BUFFER = 1  /* the content lies in the reassembly buffer */
 };
 
@@ -354,6 +377,19 @@ struct ftd_received {
     uint8_t answer;          /* enum ftd_receive_answer */
     uint8_t origin;          /* message: enum ftd_origin, which of the two holds the content */
     uint8_t refusal;
+};
+
+struct ftd_received_several {
+    struct ftd_receiver end;
+    struct ftd_span content; /* message: where its content lies, from the first byte of this call's packets or of the
+                                buffer */
+    size_t taken;            /* bytes taken, from the first on: the packets up to the message or refusal, and with it */
+    size_t missing;          /* short: how many bytes of the next packet are certainly missing, 1 to 65790 */
+    uint32_t last;           /* message: its number */
+    uint32_t tid;            /* message: TID */
+    uint8_t answer;          /* enum ftd_several_answer */
+    uint8_t origin;          /* message: enum ftd_origin, which of the two holds the content */
+    uint8_t refusal;         /* refused: why */
 };
 
 /* ---- The trading calendar: state and answers ---- */
@@ -517,6 +553,18 @@ struct ftd_sender_opened ftd_sender_open(struct ftd_sender end, uint32_t date, c
 struct ftd_published ftd_publish(struct ftd_sender end, uint16_t series, uint32_t tid,
                                  const uint8_t *content, size_t count, uint8_t *log, size_t log_len);
 
+/* Publish for several: as ftd_publish for each of the records, which stand one behind the other. A record is series (2
+ * bytes), TID (4), length of the content (4), each with its high byte first, and the content.
+ * The call goes on until all records are in (FTD_SEVERAL_END), one is refused, or bytes of the last one are missing. A
+ * refused record is taken, those before it are in and stay so, those behind it aren't looked at: call again with what
+ * isn't taken, or drop it. A short rest isn't taken; call again with it and more behind it. Short comes before any
+ * refusal: a length above FTD_MOST_CONTENT is short until all its bytes are there, and then refused with 7. With no
+ * bytes the answer is the end, whatever the log. The numbers that the messages got follow from `published` of their
+ * series.
+ * Refusals: those of ftd_publish. */
+struct ftd_published_several ftd_publish_several(struct ftd_sender end, const uint8_t *records, size_t count,
+                                                 uint8_t *log, size_t log_len);
+
 /* Login: takes the login packet of a receiving end (ftd_request_login) for a series (ftd_find_resume tells which), and
  * writes the answer, one packet with the given content, to the output. The content is an RspUserLoginField (FID
  * 0x0027), with an ErrorField (0x0005) or unlisted ones if wanted; FTD_PACKET_CONTENT bytes at most. The output needs
@@ -568,6 +616,28 @@ struct ftd_confirmed ftd_confirm_login(struct ftd_receiver end, uint16_t series,
  * Refusals: 12, 1, 3, 2, 4, 5, 6, 7, 13, 14, 15, 16, 17, 18. From 15 on the series' open chain is dropped, in `end`. */
 struct ftd_received ftd_receive(struct ftd_receiver end, const uint8_t *packet, size_t packet_len,
                                 uint8_t *buffer, size_t buffer_len);
+
+/* Receive for several: as ftd_receive for each of the packets, which stand one behind the other as a line brings them;
+ * each ends where its first four bytes say. The call goes on until all bytes are taken (FTD_SEVERAL_END), a message is
+ * handed on, a packet is refused, or bytes of the last one are missing. Packets that ftd_receive answers with idle,
+ * again or held are taken, and not told.
+ * `taken` is always the end of a packet: a message's packet is taken, and so is a refused one, with all bytes that its
+ * first four say, so that the next packet stands behind it. A short rest isn't taken, and of it nothing is looked at
+ * but the first four bytes: 01 80 00 00, which ftd_read refuses with 1, is short of 128 bytes here, and is refused with
+ * 1 when they are there. With no bytes the answer is the end. A driver:
+ *
+ *     read behind what is kept; then, until the answer is FTD_SEVERAL_END or FTD_SEVERAL_SHORT:
+ *       call with what is kept, hand the message on or see to the refusal, and drop the first `taken` bytes
+ *
+ * There is one call more than messages and refusals together. What is kept needs FTD_MOST_BYTES bytes, the most that a
+ * packet can say; a driver with fewer drops the line where they are full and nothing was taken.
+ * The content's place counts from the first byte of this call's packets (FTD_IN_PACKET) or of the reassembly buffer. It
+ * stays there until the caller overwrites the packets, or until the next call with the buffer. The message's series is
+ * the one whose `last` has risen in `end`, or that of the last packet taken. A login answer is refused with 13, as by
+ * ftd_receive: take it out before.
+ * Refusals: those of ftd_receive but 12, each of its packet alone; what the packets before it left stays. */
+struct ftd_received_several ftd_receive_several(struct ftd_receiver end, const uint8_t *packets, size_t count,
+                                                uint8_t *buffer, size_t buffer_len);
 
 /* ---- The trading calendar ---- */
 

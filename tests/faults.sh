@@ -93,6 +93,12 @@ expect "yesterday's number counts after the mark rose" "$root/target/lib" calls
 fresh_reader
 change "$work/tests/reader/src/serving.rs" 'u16_at(head, 2) != 0 || ' ''
 expect "an entry's zero bytes may be any" "$root/target/lib" calls
+fresh_reader
+change "$work/tests/reader/src/several.rs" 'Err(row) => return Answer { stop: Stop::Refused(row), taken },' 'Err(row) => return Answer { stop: Stop::Refused(row), taken: taken - length },'
+expect "a refused packet of a bufferful isn't taken" "$root/target/lib" calls
+fresh_reader
+change "$work/tests/reader/src/several.rs" '(false, bytes.as_ptr() as usize)' '(false, bytes.as_ptr() as usize + taken - length)'
+expect "a content's place in a bufferful counts from its packet" "$root/target/lib" calls
 
 # A copy of the repository's library with one thing changed in code and definition, proved and built.
 fresh_library() {

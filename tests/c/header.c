@@ -39,6 +39,7 @@ static void sizes(void) {
     EXPECT(sizeof(struct ftd_sender) == 152);
     EXPECT(sizeof(struct ftd_sender_opened) == 160);
     EXPECT(sizeof(struct ftd_published) == 160);
+    EXPECT(sizeof(struct ftd_published_several) == 176);
     EXPECT(sizeof(struct ftd_logged_in) == 168);
     EXPECT(sizeof(struct ftd_sent) == 168);
     EXPECT(sizeof(struct ftd_kept) == 32);
@@ -46,6 +47,7 @@ static void sizes(void) {
     EXPECT(sizeof(struct ftd_receiver_opened) == 272);
     EXPECT(sizeof(struct ftd_confirmed) == 272);
     EXPECT(sizeof(struct ftd_received) == 296);
+    EXPECT(sizeof(struct ftd_received_several) == 312);
     EXPECT(sizeof(struct ftd_calendar) == 224);
     EXPECT(sizeof(struct ftd_calendar_step) == 228);
     EXPECT(sizeof(struct ftd_trade_time) == 8);
@@ -409,6 +411,183 @@ static void refusals_of_receiving(void) {
     output[17] = 1; /* the header's series */
     output[16] = 1;
     EXPECT(ftd_confirm_login(receiver, 3, output, 26 + sizeof answer).refusal == FTD_OUT_OF_LINE);
+}
+
+/* ---- A bufferful ---- */
+
+/* A heartbeat, the first message, a skipped packet, and the three packets of the second one. */
+enum { FIRST = 6 + PACKET, SECOND = 7 + 3 * PACKET };
+static uint8_t stream[FIRST + SECOND];
+
+static void make_stream(struct ftd_sender *sender) {
+    struct ftd_sent sent = ftd_send(*sender, 3, day_log, sizeof day_log, output, sizeof output);
+
+    memcpy(stream, heart, 6);
+    memcpy(stream + 6, output, PACKET);
+    memcpy(stream + FIRST, skipped, 7);
+    sent = ftd_send(sent.end, 3, day_log, sizeof day_log, output, sizeof output);
+    memcpy(stream + FIRST + 7, output, 3 * PACKET);
+    EXPECT(sent.number == 2 && sent.bytes == 3 * PACKET);
+    *sender = sent.end;
+}
+
+/* What ftd_receive_several says of so many bytes. */
+static struct ftd_received_several taken_of(struct ftd_receiver end, const uint8_t *bytes, size_t count) {
+    struct ftd_received_several got = ftd_receive_several(end, bytes, count, buffer, sizeof buffer);
+
+    EXPECT((got.answer == FTD_SEVERAL_REFUSED) == (got.refusal != 0));
+    EXPECT((got.answer == FTD_SEVERAL_SHORT) == (got.missing != 0));
+    EXPECT((got.answer == FTD_SEVERAL_MESSAGE) == (got.tid != 0) && (got.last != 0) == (got.tid != 0));
+    EXPECT(got.taken <= count && (got.taken == count || got.answer != FTD_SEVERAL_END));
+    return got;
+}
+
+/* Until it is through: a message in its packet, one that is cut within its last packet, and all of it again. */
+static void several_received(void) {
+    struct ftd_sender sender = serving();
+    struct ftd_receiver receiver = receiving();
+    struct ftd_received_several got;
+
+    log_in(&sender, &receiver);
+    make_stream(&sender);
+    got = taken_of(receiver, stream, sizeof stream);
+    EXPECT(got.answer == FTD_SEVERAL_MESSAGE && got.taken == FIRST && got.last == 1 && got.tid == 0x7777);
+    EXPECT(got.origin == FTD_IN_PACKET && got.content.start == 6 + 26 && got.content.len == 4006);
+    EXPECT(got.end.series[1].last == 1 && memcmp(stream + got.content.start, large, 4006) == 0);
+    got = taken_of(got.end, stream + FIRST, SECOND - 1);
+    EXPECT(got.answer == FTD_SEVERAL_SHORT && got.taken == 7 + 2 * PACKET && got.missing == 1);
+    EXPECT(got.end.series[1].chain == 1 && got.end.series[1].held == 2 * 4006 && got.end.series[1].last == 1);
+    got = taken_of(got.end, stream + FIRST + got.taken, PACKET);
+    EXPECT(got.answer == FTD_SEVERAL_MESSAGE && got.taken == PACKET && got.last == 2 && got.tid == 0x7778);
+    EXPECT(got.origin == FTD_IN_BUFFER && got.content.start == FTD_MOST_CONTENT && got.content.len == sizeof large);
+    EXPECT(memcmp(buffer + got.content.start, large, sizeof large) == 0);
+    got = taken_of(got.end, stream, 0);
+    EXPECT(got.answer == FTD_SEVERAL_END && got.taken == 0 && got.end.series[1].last == 2);
+    got = taken_of(got.end, stream, sizeof stream);
+    EXPECT(got.answer == FTD_SEVERAL_END && got.taken == sizeof stream && got.end.series[1].last == 2);
+}
+
+/* A refused packet is taken, and the call stops at it; the next call goes on behind it. */
+static void several_refused(void) {
+    struct ftd_sender sender = serving();
+    struct ftd_receiver receiver = receiving();
+    struct ftd_received_several got;
+
+    log_in(&sender, &receiver);
+    make_stream(&sender);
+    memcpy(stream, dated, sizeof dated); /* series 1 isn't open */
+    memcpy(stream + sizeof dated, output, 2 * PACKET);
+    memcpy(stream + sizeof dated + 2 * PACKET, dated, sizeof dated);
+    got = taken_of(receiver, stream, 2 * sizeof dated + 2 * PACKET);
+    EXPECT(got.answer == FTD_SEVERAL_REFUSED && got.refusal == FTD_UNKNOWN_SERIES && got.taken == sizeof dated);
+    EXPECT(got.content.len == 0 && got.last == 0 && got.missing == 0);
+    got = taken_of(got.end, stream + got.taken, sizeof dated + 2 * PACKET);
+    EXPECT(got.refusal == FTD_OUT_OF_LINE && got.taken == PACKET); /* number 2 before number 1 */
+    receiver.series[1].last = 1;
+    got = taken_of(receiver, stream + sizeof dated, sizeof dated + 2 * PACKET);
+    EXPECT(got.refusal == FTD_UNKNOWN_SERIES && got.taken == sizeof dated + 2 * PACKET);
+    EXPECT(got.end.series[1].chain == 1 && got.end.series[1].held == 2 * 4006); /* the packets before it are received */
+}
+
+/* Short comes before 1 and 3, which come when the bytes are there; then they are taken. */
+static void several_short(void) {
+    static const uint8_t most[4] = {1, 255, 255, 255};
+    static uint8_t extension[132 + 6], body[19 + 6];
+    struct ftd_receiver receiver = receiving();
+    struct ftd_received_several got;
+    size_t i;
+
+    for (i = 1; i < 4; i++)
+        EXPECT(taken_of(receiver, most, i).missing == 4 - i);
+    got = taken_of(receiver, most, 4);
+    EXPECT(got.answer == FTD_SEVERAL_SHORT && got.missing == FTD_MOST_BYTES - 4 && got.taken == 0);
+    extension[0] = body[0] = 1;
+    extension[1] = 128;
+    body[3] = 15;
+    memcpy(extension + 132, heart, 6);
+    memcpy(body + 19, heart, 6);
+    EXPECT(ftd_read(extension, 4).refusal == FTD_LONG_EXTENSION && ftd_read(body, 4).refusal == FTD_BODY_LENGTH);
+    for (i = 4; i < 132; i++)
+        EXPECT(taken_of(receiver, extension, i).missing == 132 - i && taken_of(receiver, extension, i).taken == 0);
+    for (i = 4; i < 19; i++)
+        EXPECT(taken_of(receiver, body, i).missing == 19 - i && taken_of(receiver, body, i).taken == 0);
+    got = taken_of(receiver, extension, sizeof extension);
+    EXPECT(got.refusal == FTD_LONG_EXTENSION && got.taken == 132);
+    got = taken_of(receiver, body, sizeof body);
+    EXPECT(got.refusal == FTD_BODY_LENGTH && got.taken == 19);
+    got = taken_of(got.end, body + got.taken, 6);
+    EXPECT(got.answer == FTD_SEVERAL_END && got.taken == 6);
+}
+
+static uint8_t records[3 * (FTD_RECORD_HEAD + 4006) + FTD_RECORD_HEAD + FTD_MOST_CONTENT + 1];
+
+/* Puts a record behind others, with so many bytes of `large`; gives where it ends. */
+static size_t record_at(size_t at, uint8_t of_series, uint32_t tid, size_t count) {
+    uint8_t *head = records + at;
+
+    memset(head, 0, FTD_RECORD_HEAD);
+    head[1] = of_series;
+    head[4] = (uint8_t)(tid >> 8);
+    head[5] = (uint8_t)tid;
+    head[7] = (uint8_t)(count >> 16);
+    head[8] = (uint8_t)(count >> 8);
+    head[9] = (uint8_t)count;
+    memcpy(head + FTD_RECORD_HEAD, large, count < sizeof large ? count : sizeof large);
+    return at + FTD_RECORD_HEAD + count;
+}
+
+static struct ftd_published_several publish_records(struct ftd_sender end, size_t from, size_t to) {
+    struct ftd_published_several got = ftd_publish_several(end, records + from, to - from, day_log, sizeof day_log);
+
+    EXPECT((got.answer == FTD_SEVERAL_REFUSED) == (got.refusal != 0));
+    EXPECT((got.answer == FTD_SEVERAL_SHORT) == (got.missing != 0));
+    EXPECT(got.taken <= to - from && (got.taken == to - from || got.answer != FTD_SEVERAL_END));
+    return got;
+}
+
+/* Two records, a refused one and another: those before the refused one are in, and it is taken. */
+static void several_published(void) {
+    struct ftd_sender sender = ftd_sender_open(ftd_sender_fresh(), 100, series, 2).end;
+    struct ftd_published_several got;
+    struct ftd_published one;
+    size_t second = record_at(0, 3, 0x7777, 4006), third = record_at(second, 7, 0x7778, 0);
+    size_t fourth = record_at(third, 3, 0x2003, 4006), end = record_at(fourth, 3, 0x7779, 4006);
+    static uint8_t other[sizeof day_log];
+
+    got = publish_records(sender, 0, end);
+    EXPECT(got.answer == FTD_SEVERAL_REFUSED && got.refusal == FTD_COMPOSITION && got.taken == fourth);
+    EXPECT(got.end.series[1].published == 1 && got.end.series[0].published == 1);
+    got = publish_records(got.end, fourth, end);
+    EXPECT(got.answer == FTD_SEVERAL_END && got.taken == end - fourth && got.end.series[1].published == 2);
+    one = ftd_publish(sender, 3, 0x7777, large, 4006, other, sizeof other);
+    one = ftd_publish(one.end, 7, 0x7778, NULL, 0, other, sizeof other);
+    one = ftd_publish(one.end, 3, 0x7779, large, 4006, other, sizeof other);
+    EXPECT(got.end.used == one.end.used && memcmp(day_log, other, one.end.used) == 0);
+    got = publish_records(sender, 0, 0);
+    EXPECT(got.answer == FTD_SEVERAL_END && got.taken == 0 && got.end.used == 0);
+}
+
+/* Short comes before 7, which comes when the bytes are there. */
+static void several_records_short(void) {
+    static const uint8_t most[FTD_RECORD_HEAD] = {0, 3, 0, 0, 0x77, 0x77, 255, 255, 255, 255};
+    struct ftd_sender sender = ftd_sender_open(ftd_sender_fresh(), 100, series, 2).end;
+    struct ftd_published_several got;
+    size_t i, second = record_at(0, 3, 0x7777, 4006), end = record_at(second, 3, 0x7777, FTD_MOST_CONTENT + 1);
+
+    for (i = 1; i < FTD_RECORD_HEAD; i++) {
+        got = publish_records(sender, 0, i);
+        EXPECT(got.missing == FTD_RECORD_HEAD - i && got.taken == 0);
+    }
+    EXPECT(publish_records(sender, 0, FTD_RECORD_HEAD).missing == 4006);
+    got = publish_records(sender, 0, second - 1);
+    EXPECT(got.missing == 1 && got.taken == 0 && got.end.used == 0);
+    got = publish_records(sender, 0, end - 1);
+    EXPECT(got.answer == FTD_SEVERAL_SHORT && got.missing == 1 && got.taken == second);
+    EXPECT(got.end.series[1].published == 1 && got.end.used == 4006 + FTD_LOG_HEAD);
+    got = publish_records(sender, 0, end);
+    EXPECT(got.refusal == FTD_FIELD_RUN && got.taken == end && got.end.series[1].published == 1);
+    got = ftd_publish_several(sender, most, sizeof most, day_log, sizeof day_log);
+    EXPECT(got.answer == FTD_SEVERAL_SHORT && got.missing == UINT32_MAX && got.taken == 0);
 }
 
 /* ---- The trading calendar ---- */
@@ -811,6 +990,8 @@ static void nulls_at_the_ends(void) {
     EXPECT(ftd_request_login(receiver, 3, NULL, 0, login, sizeof login).refusal == FTD_COMPOSITION);
     EXPECT(ftd_request_login(receiver, 3, request, sizeof request, NULL, 0).refusal == FTD_TOO_SMALL);
     EXPECT(ftd_receive(receiver, NULL, 0, NULL, 0).refusal == FTD_NOT_ONE_PACKET);
+    EXPECT(ftd_receive_several(receiver, NULL, 0, NULL, 0).answer == FTD_SEVERAL_END);
+    EXPECT(ftd_publish_several(sender, NULL, 0, NULL, 0).answer == FTD_SEVERAL_END);
     EXPECT(ftd_confirm_login(receiver, 3, NULL, 0).refusal == FTD_NOT_ONE_PACKET);
     log_in(&sender, &receiver);
     EXPECT(ftd_login(sender, 3, NULL, 0, answer, sizeof answer, output, sizeof output).refusal == FTD_NOT_ONE_PACKET);
@@ -861,6 +1042,10 @@ static void any_state(void) {
     EXPECT(ftd_sender_open(sender, 5, series, 2).refusal == FTD_OPENING);
     EXPECT(ftd_receiver_open(receiver, series, 2).refusal == FTD_OPENING);
     EXPECT(ftd_receive(receiver, bytes, sizeof bytes, buffer, sizeof buffer).refusal == FTD_OTHER_DAY);
+    EXPECT(ftd_receive_several(receiver, bytes, sizeof bytes, buffer, sizeof buffer).refusal == FTD_OTHER_DAY);
+    memset(records, 255, FTD_RECORD_HEAD);
+    memset(records + 6, 0, 4);
+    EXPECT(ftd_publish_several(sender, records, FTD_RECORD_HEAD, day_log, sizeof day_log).refusal == FTD_DAMAGED_LOG);
     EXPECT(ftd_request_login(receiver, 65535, request, sizeof request, login, sizeof login).refusal == 0);
     EXPECT(ftd_connect(receiver).series[7].login == 0 && ftd_connect(receiver).series[7].last == UINT32_MAX);
     EXPECT(asked(calendar, 1708304400) == 0);
@@ -890,6 +1075,11 @@ int main(void) {
     flow();
     refusals_of_serving();
     refusals_of_receiving();
+    several_received();
+    several_refused();
+    several_short();
+    several_published();
+    several_records_short();
     calendar_set();
     calendar_asked();
     marks();

@@ -58,6 +58,9 @@ static struct ftd_logged_in logged_in;
 static struct ftd_confirmed confirmed;
 static struct ftd_sent sent;
 static struct ftd_received received;
+static struct ftd_received_several several;
+static struct ftd_published_several published_several;
+static uint8_t records[FTD_RECORD_HEAD + FTD_MOST_CONTENT];
 
 static void nothing(void) {}
 static void check(void) { refusal = ftd_check(0x7777, FTD_DOWN, content, filled, FTD_MOST_CONTENT); }
@@ -122,6 +125,21 @@ static void take(void)
     struct ftd_book_step step = ftd_book_take(book, 0x2001, quotes, quoted);
     refusal = step.refusal;
 }
+static void receive_several(void)
+{
+    several = ftd_receive_several(receiver, output, sent.bytes, buffer, sizeof buffer);
+    refusal = several.refusal;
+}
+static void publish_several(void)
+{
+    records[1] = 8;
+    records[5] = 0x77;
+    records[8] = (uint8_t)(filled >> 8);
+    records[9] = (uint8_t)filled;
+    memcpy(records + FTD_RECORD_HEAD, content, filled);
+    published_several = ftd_publish_several(sender, records, FTD_RECORD_HEAD + filled, log_bytes, sizeof log_bytes);
+    refusal = published_several.refusal;
+}
 static void reconnect(void) { receiver = ftd_connect(receiver); }
 
 static size_t used(void (*body)(void))
@@ -144,7 +162,7 @@ static void row(const char *name, void (*body)(void))
 {
     body(); /* so that the C library's functions are bound */
     size_t n = used(body) - used(nothing);
-    printf("%-18s %6zu%s\n", name, n, refusal ? "  refused" : "");
+    printf("%-19s %6zu%s\n", name, n, refusal ? "  refused" : "");
 }
 
 int main(void)
@@ -168,6 +186,9 @@ int main(void)
     content[8 * 4081 + 5] = 114;
     row("ftd_sender_open", open_sender);
     sender = opened.end;
+    row("ftd_publish_several", publish_several);
+    if (published_several.answer != FTD_SEVERAL_END)
+        puts("not all in");
     row("ftd_publish", publish);
     sender = published.end;
     row("ftd_receiver_open", open_receiver);
@@ -180,6 +201,9 @@ int main(void)
     row("ftd_send", send_next);
     row("ftd_receive", receive_all);
     if (received.answer != FTD_RECEIVE_MESSAGE || received.content.len != filled)
+        puts("not handed on");
+    row("ftd_receive_several", receive_several);
+    if (several.answer != FTD_SEVERAL_MESSAGE || several.content.len != filled)
         puts("not handed on");
     row("ftd_connect", reconnect);
     for (uint8_t i = 0; i < 64; i++) { /* buying, absolute, each at a price of its own */

@@ -4,9 +4,11 @@ use native.Mathlib.Omega.{arith}
 use mathlib.Core.Path.{_≡_, refl, sym, ap, _∙_}
 use mathlib.Core.List.{List, [], _∷_, map}
 use mathlib.Core.Bool.{Bool, true, false, not}
+use mathlib.Core.Option.{Option, none, some}
 use lib.ListN.{length, length-map}
 use lib.Dec.{eqb}
 use Rattle.ftd.specs.Packet.{datedOf}
+use Rattle.ftd.specs.Runs.{runOf}
 use Rattle.ftd.specs.declared.tags.TradeDate.{TradeDate}
 use Rattle.ftd.specs.declared.tags.TradeDate.the-variants.{None, At}
 use Rattle.flow.specs.declared.sender.DaySeries.{DaySeries}
@@ -14,6 +16,8 @@ use Rattle.flow.specs.declared.sender.Place.{Place}
 use Rattle.flow.specs.declared.sender.Sender.{Sender}
 use Rattle.flow.specs.declared.sender.Opened.{Opened}
 use Rattle.flow.specs.declared.sender.Published.{Published}
+use Rattle.flow.specs.declared.sender.Published.the-variants.{Number}
+use Rattle.flow.specs.declared.sender.Published.the-variants.{Refused as NotPublished}
 use Rattle.flow.specs.declared.sender.LoggedIn.{LoggedIn}
 use Rattle.flow.specs.declared.sender.Sent.{Sent}
 use Rattle.flow.specs.declared.receiver.KeptSeries.{KeptSeries}
@@ -25,9 +29,18 @@ use Rattle.flow.specs.declared.receiver.Confirmed.the-variants.{Refused as NotC
 use Rattle.flow.specs.declared.receiver.Received.{Received}
 use Rattle.flow.specs.declared.receiver.Received.the-variants.{Idle, Duplicate, Partial, Complete}
 use Rattle.flow.specs.declared.receiver.Received.the-variants.{Refused as NotTaken}
-use Rattle.flow.specs.Ends.{Left, Wrote, freshSender, freshReceiver, isServed, withEntry, withNext}
+use Rattle.flow.specs.declared.several.ReceivedSeveral.{ReceivedSeveral}
+use Rattle.flow.specs.declared.several.ReceivedSeveral.the-variants.{End, Short}
+use Rattle.flow.specs.declared.several.ReceivedSeveral.the-variants.{Complete as StopComplete}
+use Rattle.flow.specs.declared.several.ReceivedSeveral.the-variants.{Refused as StopRefused}
+use Rattle.flow.specs.declared.several.PublishedSeveral.{PublishedSeveral}
+use Rattle.flow.specs.declared.several.PublishedSeveral.the-variants.{End as AllIn, Short as Cut}
+use Rattle.flow.specs.declared.several.PublishedSeveral.the-variants.{Refused as NotIn}
+use Rattle.flow.specs.Ends.{Left, Wrote, freshSender, freshReceiver, isServed, withNext}
 use Rattle.flow.specs.Serving.{openDayOf, publishOf, loginOf, sendOf}
 use Rattle.flow.specs.Receiving.{openEndOf, connectOf, confirmLoginOf, receiveOf}
+use Rattle.flow.specs.Several.{Repeated, took, stopOr, walkFrom, severalOf, receiving, receiveSeveralOf, publishRecord}
+use Rattle.flow.specs.Several.{publishing, publishSeveralOf}
 use Rattle.flow.proofs.common.Days.{upto-same}
 use Rattle.flow.proofs.ends.SenderLookups.{eight-entry, eight-next}
 use Rattle.flow.proofs.ends.SenderLookups.{Eight as SenderEight}
@@ -45,10 +58,13 @@ use Rattle.exports.specs.declared.serving.FtdSender.{FtdSender}
 use Rattle.exports.specs.declared.receiving.FtdReceiver.{FtdReceiver}
 use Rattle.exports.specs.Numbers.{flag, datedFlag, dateOf, dateFor, paired}
 use Rattle.exports.specs.Serving.{daySeriesFor, placeFor, senderFor, servedNumbers, senderNumbers}
-use Rattle.exports.specs.Serving.{dayOpenedNumbers, publishedNumbers, loggedInNumbers, sentNumbers}
+use Rattle.exports.specs.Serving.{publishedWith, dayOpenedNumbers, publishedNumbers, loggedInNumbers}
+use Rattle.exports.specs.Serving.{sentNumbers}
 use Rattle.exports.specs.Receiving.{keptFor, liveFor, receiverFor, keptNumbers, receiverNumbers}
 use Rattle.exports.specs.Receiving.{confirmedWith, receivedWith, endOpenedNumbers, confirmedNumbers}
 use Rattle.exports.specs.Receiving.{receivedNumbers}
+use Rattle.exports.specs.Several.{receivedSeveralWith, receivedSeveralNumbers, publishedSeveralWith}
+use Rattle.exports.specs.Several.{publishedSeveralNumbers}
 use Rattle.exports.specs.Laws.{EndLaws, SenderIs, ReceiverIs}
 use Rattle.exports.proofs.Filled.{all-eight}
 
@@ -108,6 +124,28 @@ receiver-back e a b =
       second-back keptNumbers liveFor live-back (e .kept .series) (e .live .series) same,
     ) refl
 
+-- What a single call keeps of the end, the call for several keeps.
+module _ {E A B : Type 0} (R : Repeated E A B) (Keeps : E → Type 0)
+    (one : (e : E) (x l : List ℕ) → Keeps e → Keeps (R .call e x l .end)) where
+  walk-keeps : (xs : List (List ℕ)) (e : E) (l : List ℕ) (at : ℕ) (rest : List ℕ) → Keeps e
+      → Keeps (walkFrom R e l at rest xs .end)
+  walk-keeps [] e l at rest h = h
+  walk-keeps (x ∷ xs) e l at rest h =
+      go (R .stops at (R .call e x l .answer)) (walk-keeps xs _ _ _ rest (one e x l h))
+    where
+      go : (o : Option B) →
+          let r = R .call e x l in
+          let on = walkFrom R (r .end) (r .bytes) (at + length x) rest xs in
+          Keeps (on .end) → Keeps (stopOr o (λ b. took (r .end) b (r .bytes) (at + length x)) on .end)
+      go none k = k
+      go (some b) k = one e x l h
+
+  several-keeps : (e : E) (bytes l : List ℕ) → Keeps e → Keeps (severalOf R e bytes l .end)
+  unfolding severalOf
+  several-keeps e bytes l h =
+      let cut = runOf (R .form) bytes in
+      walk-keeps (cut .entries) e l 0 (cut .rest) h
+
 -- ─── The serving end, call by call ───
 
 sender-eight : (e : Sender) → SenderEight e → length (senderNumbers e .series) ≡ 8
@@ -128,11 +166,10 @@ module _ (e : Sender) (z : SenderEight e) where
   opened-is date ss r (open-refused q) = sender-is e z
   opened-is date ss r (open-taken q h) = sender-is (openedSender date ss) (opened-eight date ss q)
 
-  published-is : (s tid : ℕ) (content log : List ℕ) (r : Wrote Sender Published) → PublishDone e s tid content log r
-      → SenderIs (publishedNumbers r .end) (r .end)
-  published-is s tid content log r (publish-refused q) = sender-is e z
-  published-is s tid content log r (publish-taken t) =
-      sender-is (withEntry e s (16 + length content)) (eight-entry e s (t .served) z (16 + length content))
+  published-eight : (s tid : ℕ) (content log : List ℕ) (r : Wrote Sender Published)
+      → PublishDone e s tid content log r → SenderEight (r .end)
+  published-eight s tid content log r (publish-refused q) = z
+  published-eight s tid content log r (publish-taken t) = eight-entry e s (t .served) z (16 + length content)
 
   next-is : (s : ℕ) → isServed e s ≡ true → (next : ℕ)
       → SenderIs (senderNumbers (withNext e s next)) (withNext e s next)
@@ -152,6 +189,20 @@ module _ (e : Sender) (z : SenderEight e) where
   sent-is s log out r (send-small x q h g i) = sender-is e z
   sent-is s log out r (send-taken x q h g i) = next-is s (q .served) _
 
+-- An answer stands beside the end.
+published-end : (n : FtdSender) (a : Published) → publishedWith n a .end ≡ n
+published-end n (Number k) = refl
+published-end n (NotPublished r) = refl
+
+published-several-end : (n : FtdSender) (taken : ℕ) (a : PublishedSeveral) → publishedSeveralWith n taken a .end ≡ n
+published-several-end n taken AllIn = refl
+published-several-end n taken (Cut k) = refl
+published-several-end n taken (NotIn r) = refl
+
+record-eight : (e : Sender) (x log : List ℕ) → SenderEight e → SenderEight (publishRecord e x log .end)
+unfolding publishRecord
+record-eight e x log z = published-eight e z _ _ _ log _ (publish-cases e _ _ _ log)
+
 -- Numbers that are an end: what a call makes of the end that they say, it makes of that end.
 module _ (n : FtdSender) (e : Sender) (h : SenderIs n e) where
   eight-of : SenderEight e
@@ -165,8 +216,17 @@ module _ (n : FtdSender) (e : Sender) (h : SenderIs n e) where
       → SenderIs (publishedNumbers (publishOf (senderFor n) s tid content log) .end)
       (publishOf e s tid content log .end)
   publish s tid content log =
-      rw (h .0)
-      (published-is e eight-of s tid content log (publishOf e s tid content log) (publish-cases e s tid content log))
+      let r = publishOf e s tid content log in
+      rw (h .0, published-end (senderNumbers (r .end)) (r .answer))
+      (sender-is (r .end) (published-eight e eight-of s tid content log r (publish-cases e s tid content log)))
+
+  publish-several : (records log : List ℕ)
+      → SenderIs (publishedSeveralNumbers (publishSeveralOf (senderFor n) records log) .end)
+      (publishSeveralOf e records log .end)
+  publish-several records log =
+      let r = publishSeveralOf e records log in
+      rw (h .0, published-several-end (senderNumbers (r .end)) (r .taken) (r .answer))
+      (sender-is (r .end) (several-keeps publishing SenderEight record-eight e records log eight-of))
 
   login : (s : ℕ) (p content out : List ℕ)
       → SenderIs (loggedInNumbers (loginOf (senderFor n) s p content out) .end) (loginOf e s p content out .end)
@@ -202,6 +262,15 @@ received-end n (Partial k) = refl
 received-end n (Complete last tid origin content) = refl
 received-end n (NotTaken r) = refl
 
+received-several-end : (n : FtdReceiver) (taken : ℕ) (a : ReceivedSeveral) → receivedSeveralWith n taken a .end ≡ n
+received-several-end n taken End = refl
+received-several-end n taken (Short k) = refl
+received-several-end n taken (StopComplete last tid origin content) = refl
+received-several-end n taken (StopRefused r) = refl
+
+received-eight : (e : Receiver) (p buffer : List ℕ) → ReceiverEight e → ReceiverEight (receiveOf e p buffer .end)
+received-eight e p buffer z = turn-eight None false e z _ _ _ (receive-turn None false e p buffer)
+
 module _ (n : FtdReceiver) (e : Receiver) (h : ReceiverIs n e) where
   eight-at : ReceiverEight e
   eight-at = rw (h .0) at (end-eight n (h .1))
@@ -229,7 +298,15 @@ module _ (n : FtdReceiver) (e : Receiver) (h : ReceiverIs n e) where
   receive p buffer =
       let r = receiveOf e p buffer in
       rw (h .0, received-end (receiverNumbers (r .end)) (r .answer))
-      (receiver-is (r .end) (turn-eight None false e eight-at (r .end) _ _ (receive-turn None false e p buffer)))
+      (receiver-is (r .end) (received-eight e p buffer eight-at))
+
+  receive-several : (packets buffer : List ℕ)
+      → ReceiverIs (receivedSeveralNumbers (receiveSeveralOf (receiverFor n) packets buffer) .end)
+      (receiveSeveralOf e packets buffer .end)
+  receive-several packets buffer =
+      let r = receiveSeveralOf e packets buffer in
+      rw (h .0, received-several-end (receiverNumbers (r .end)) (r .taken) (r .answer))
+      (receiver-is (r .end) (several-keeps receiving ReceiverEight received-eight e packets buffer eight-at))
 
 pub end-laws : EndLaws
 end-laws =
@@ -239,6 +316,7 @@ end-laws =
       fresh-sender = sender-is freshSender fresh-eight;
       open-day = open-day;
       publish = publish;
+      publish-several = publish-several;
       login = login;
       send = send;
       fresh-receiver = receiver-is freshReceiver fresh-end-eight;
@@ -246,4 +324,5 @@ end-laws =
       connect = connect;
       confirm = confirm;
       receive = receive;
+      receive-several = receive-several;
     }

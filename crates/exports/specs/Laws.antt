@@ -8,12 +8,14 @@ use Rattle.flow.specs.declared.receiver.Receiver.{Receiver}
 use Rattle.flow.specs.Ends.{freshSender, freshReceiver}
 use Rattle.flow.specs.Serving.{openDayOf, publishOf, loginOf, sendOf}
 use Rattle.flow.specs.Receiving.{openEndOf, connectOf, confirmLoginOf, receiveOf}
+use Rattle.flow.specs.Several.{receiveSeveralOf, publishSeveralOf}
 use Rattle.exports.specs.declared.serving.FtdSender.{FtdSender}
 use Rattle.exports.specs.declared.receiving.FtdReceiver.{FtdReceiver}
 use Rattle.exports.specs.Serving.{senderFor, senderNumbers, dayOpenedNumbers, publishedNumbers, loggedInNumbers}
 use Rattle.exports.specs.Serving.{sentNumbers}
 use Rattle.exports.specs.Receiving.{receiverFor, receiverNumbers, endOpenedNumbers, confirmedNumbers}
 use Rattle.exports.specs.Receiving.{receivedNumbers}
+use Rattle.exports.specs.Several.{receivedSeveralNumbers, publishedSeveralNumbers}
 
 -- Numbers that are an end: they say it. As in every value of the types, they have 8 places.
 abbrev pub SenderIs : FtdSender → Sender → Type 0
@@ -36,6 +38,9 @@ pub record EndLaws : Type 0 where
   pub publish : (n : FtdSender) (e : Sender) → SenderIs n e → (s tid : ℕ) (content log : List ℕ)
       → SenderIs (publishedNumbers (publishOf (senderFor n) s tid content log) .end)
       (publishOf e s tid content log .end)
+  pub publish-several : (n : FtdSender) (e : Sender) → SenderIs n e → (records log : List ℕ)
+      → SenderIs (publishedSeveralNumbers (publishSeveralOf (senderFor n) records log) .end)
+      (publishSeveralOf e records log .end)
   pub login : (n : FtdSender) (e : Sender) → SenderIs n e → (s : ℕ) (p content out : List ℕ)
       → SenderIs (loggedInNumbers (loginOf (senderFor n) s p content out) .end) (loginOf e s p content out .end)
   pub send : (n : FtdSender) (e : Sender) → SenderIs n e → (s : ℕ) (log out : List ℕ)
@@ -49,3 +54,6 @@ pub record EndLaws : Type 0 where
       → ReceiverIs (confirmedNumbers (confirmLoginOf (receiverFor n) s p) .end) (confirmLoginOf e s p .end)
   pub receive : (n : FtdReceiver) (e : Receiver) → ReceiverIs n e → (p buffer : List ℕ)
       → ReceiverIs (receivedNumbers (receiveOf (receiverFor n) p buffer) .end) (receiveOf e p buffer .end)
+  pub receive-several : (n : FtdReceiver) (e : Receiver) → ReceiverIs n e → (packets buffer : List ℕ)
+      → ReceiverIs (receivedSeveralNumbers (receiveSeveralOf (receiverFor n) packets buffer) .end)
+      (receiveSeveralOf e packets buffer .end)

@@ -3,6 +3,7 @@ pub mod Numbers
 pub mod Items
 pub mod Serving
 pub mod Receiving
+pub mod Several
 pub mod Trading
 pub mod Quotes
 pub mod Laws

@@ -45,6 +45,7 @@ pub mod items; // items of fields, and modes
 pub mod resume; // the start field
 pub mod serving; // the serving end
 pub mod receiving; // the receiving end
+pub mod several; // a bufferful of packets or records in one call of an end
 pub mod trading; // the trading calendar
 pub mod quotes; // the book of a contract
 

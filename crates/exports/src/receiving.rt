@@ -73,7 +73,7 @@ pub struct FtdReceived {
 }
 
 // The end that the numbers say.
-fn receiver_for(s: FtdReceiver) -> Receiver
+pub(crate) fn receiver_for(s: FtdReceiver) -> Receiver
     ensures { λ r. ⌜ r ≡ receiverFor s ⌝ }
 {
     let mut kept = [KeptSeries {
@@ -130,7 +130,7 @@ fn numbers(k: KeptSeries, l: LiveSeries) -> FtdKept
 }
 
 // The end as numbers.
-fn receiver_numbers(e: Receiver) -> FtdReceiver
+pub(crate) fn receiver_numbers(e: Receiver) -> FtdReceiver
     ensures { λ r. ⌜ r ≡ receiverNumbers e ⌝ }
 {
     let kept = e.kept;
@@ -248,7 +248,7 @@ pub extern "C" fn ftd_confirm_login(end: FtdReceiver, series: u16, packet: &[u8]
 }
 
 // Where the content lies: 0 in the packet, 1 in the reassembly buffer.
-fn origin_number(o: Origin) -> u8
+pub(crate) fn origin_number(o: Origin) -> u8
     ensures { λ r. ⌜ r ≡ originNumber o ⌝ }
 {
     match o {

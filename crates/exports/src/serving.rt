@@ -70,7 +70,7 @@ pub struct FtdSent {
 }
 
 // The end that the numbers say.
-fn sender_for(s: FtdSender) -> Sender
+pub(crate) fn sender_for(s: FtdSender) -> Sender
     ensures { λ r. ⌜ r ≡ senderFor s ⌝ }
 {
     let mut series = [DaySeries {
@@ -118,7 +118,7 @@ fn served(d: DaySeries, p: Place) -> FtdServed
 }
 
 // The end as numbers.
-fn sender_numbers(e: Sender) -> FtdSender
+pub(crate) fn sender_numbers(e: Sender) -> FtdSender
     ensures { λ r. ⌜ r ≡ senderNumbers e ⌝ }
 {
     let day = e.day;

@@ -60,13 +60,13 @@ pub struct PublishSeveralStep {
 }
 
 // Behind a packet the call goes on, or stops with its answer.
-pub(crate) enum ReceiveTurn {
+pub enum ReceiveTurn {
     On,
     Stop(ReceivedSeveral),
 }
 
 // How many bytes the packet at a place takes; 0 where none stands there whole.
-fn packet_size(s: &[u8], at: usize) -> usize
+pub fn packet_size(s: &[u8], at: usize) -> usize
     requires { ⌜ at ≤ length (now s) ⌝ }
     ensures { λ r. ⌜ (r ≡ front packetForm (drop at (now (s .entry)))) × (r ≤ length (now (s .entry)) - at) ⌝ }
 {
@@ -78,7 +78,7 @@ fn packet_size(s: &[u8], at: usize) -> usize
 }
 
 // No packet stands whole there: end where nothing is left, else short.
-fn packets_rest(p: &[u8]) -> ReceivedSeveral
+pub fn packets_rest(p: &[u8]) -> ReceivedSeveral
     ensures { λ r. ⌜ r ≡ restOf receiving (now (p .entry)) ⌝ }
 {
     if p.len() == 0 {
@@ -104,7 +104,7 @@ fn placed(at: usize, n: usize, origin: Origin, content: Span) -> Span
 }
 
 // What Receive answered to the packet of n bytes at a place: the call stops at a message or a refusal.
-fn receive_turn(at: usize, n: usize, answer: Received) -> ReceiveTurn
+pub fn receive_turn(at: usize, n: usize, answer: Received) -> ReceiveTurn
     requires { ⌜ AnswerIn n answer × (at + n ≤ 18446744073709551615) ⌝ }
     ensures { λ r. ⌜ turnStop r ≡ receivedStops at answer ⌝ }
 {
@@ -128,7 +128,7 @@ fn receive_turn(at: usize, n: usize, answer: Received) -> ReceiveTurn
 }
 
 // How many bytes the record at a place takes; 0 where none stands there whole.
-fn record_size(s: &[u8], at: usize) -> usize
+pub fn record_size(s: &[u8], at: usize) -> usize
     requires { ⌜ at ≤ length (now s) ⌝ }
     ensures { λ r. ⌜ (r ≡ front recordForm (drop at (now (s .entry)))) × (r ≤ length (now (s .entry)) - at) ⌝ }
 {
@@ -155,7 +155,7 @@ fn record_missing(x: &[u8]) -> usize
 }
 
 // No record stands whole there: end where nothing is left, else short.
-fn records_rest(x: &[u8]) -> PublishedSeveral
+pub fn records_rest(x: &[u8]) -> PublishedSeveral
     requires { ⌜ front recordForm (now x) ≡ 0 ⌝ }
     ensures { λ r. ⌜ r ≡ restOf publishing (now (x .entry)) ⌝ }
 {
@@ -166,7 +166,7 @@ fn records_rest(x: &[u8]) -> PublishedSeveral
 }
 
 // Publish of a record.
-fn publish_record(e: Sender, x: &[u8], log: &mut [u8]) -> PublishStep
+pub fn publish_record(e: Sender, x: &[u8], log: &mut [u8]) -> PublishStep
     requires { ⌜ 10 ≤ length (now x) ⌝ }
     ensures { λ r. ⌜ PublishesRecord e (now (x .entry)) (now (log .entry)) r (now (log .exit)) ⌝ }
 {

@@ -68,7 +68,7 @@ fn main() {
     let mut chain = [0u8; 262144];
     let mut bytes = [0u8; 140000];
     let mut out = [0u8; 65536];
-    let mut text = [0u8; 524352];
+    let mut text = [0u8; 1048576];
     let mut now = Reached {
         player: Player::fresh(),
         have: 0,

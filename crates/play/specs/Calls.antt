@@ -13,11 +13,12 @@ use Rattle.play.specs.declared.calls.Verb.the-variants.{Connect as Names
 use Rattle.play.specs.declared.calls.Verb.the-variants.{Answer as NamesAnswer, Receive as NamesReceive}
 use Rattle.play.specs.declared.calls.Verb.the-variants.{State as NamesState, Calendar as NamesCalendar}
 use Rattle.play.specs.declared.calls.Verb.the-variants.{Mark as NamesMark, Book as NamesBook, Take as NamesTake}
-use Rattle.play.specs.declared.calls.Verb.the-variants.{Level as NamesLevel, Mean as NamesMean}
+use Rattle.play.specs.declared.calls.Verb.the-variants.{Level as NamesLevel, Mean as NamesMean, ReceiveAll as NamesReceiveAll}
+use Rattle.play.specs.declared.calls.Verb.the-variants.{PublishAll as NamesPublishAll}
 use Rattle.play.specs.declared.calls.Call.{Call}
 use Rattle.play.specs.declared.calls.Call.the-variants.{Bad, Buffers, OpenDay, Publish, Login, Send, OpenEnd}
 use Rattle.play.specs.declared.calls.Call.the-variants.{Connect, Ask, Answer, Receive, State}
-use Rattle.play.specs.declared.calls.Call.the-variants.{SetCalendar, AskTime, MarkDate}
+use Rattle.play.specs.declared.calls.Call.the-variants.{SetCalendar, AskTime, MarkDate, ReceiveAll, PublishAll}
 use Rattle.play.specs.declared.calls.Call.the-variants.{StartBook, TakeMessage, ShowLevel, ShowMean}
 use Rattle.play.specs.Words.{endOf, numberIn, tidIn, sameWord, argument, hasForm, mostNamed, seriesCount}
 use Rattle.play.specs.Words.{mostTimes, mostDates, mostListed, wordCount}
@@ -32,11 +33,17 @@ bookVerbOf word =
     (cond (sameWord word (108 ∷ 101 ∷ 118 ∷ 101 ∷ 108 ∷ [])) NamesLevel
     (cond (sameWord word (109 ∷ 101 ∷ 97 ∷ 110 ∷ [])) NamesMean Unknown)))
 
+-- `receiveall`, `publishall`, or one of those.
+unfoldable pub severalVerbOf : List ℕ → Verb
+severalVerbOf word =
+    cond (sameWord word (114 ∷ 101 ∷ 99 ∷ 101 ∷ 105 ∷ 118 ∷ 101 ∷ 97 ∷ 108 ∷ 108 ∷ [])) NamesReceiveAll
+    (cond (sameWord word (112 ∷ 117 ∷ 98 ∷ 108 ∷ 105 ∷ 115 ∷ 104 ∷ 97 ∷ 108 ∷ 108 ∷ [])) NamesPublishAll (bookVerbOf word))
+
 -- `calendar`, `mark`, or one of those.
 unfoldable pub tradingVerbOf : List ℕ → Verb
 tradingVerbOf word =
     cond (sameWord word (99 ∷ 97 ∷ 108 ∷ 101 ∷ 110 ∷ 100 ∷ 97 ∷ 114 ∷ [])) NamesCalendar
-    (cond (sameWord word (109 ∷ 97 ∷ 114 ∷ 107 ∷ [])) NamesMark (bookVerbOf word))
+    (cond (sameWord word (109 ∷ 97 ∷ 114 ∷ 107 ∷ [])) NamesMark (severalVerbOf word))
 
 -- `ropen`, `connect`, `ask`, `answer`, `receive`, `state`, or one of those.
 unfoldable pub endVerbOf : List ℕ → Verb
@@ -150,6 +157,8 @@ namedCall line NamesLevel =
     levelWith (hasForm line 2 0) (sameWord (argument line 0) (98 ∷ [])) (sameWord (argument line 0) (115 ∷ []))
     (numberAt line 1)
 namedCall line NamesMean = plainCall (hasForm line 0 0) ShowMean
+namedCall line NamesReceiveAll = plainCall (hasForm line 0 1) ReceiveAll
+namedCall line NamesPublishAll = plainCall (hasForm line 0 1) PublishAll
 
 unfoldable pub callOf : List ℕ → Call
 callOf line = namedCall line (verbOf (take (endOf line 0) line))
@@ -177,3 +186,5 @@ Limited StartBook = Unit {0}
 Limited (TakeMessage tid) = Unit {0}
 Limited (ShowLevel buying place) = Unit {0}
 Limited ShowMean = Unit {0}
+Limited ReceiveAll = Unit {0}
+Limited PublishAll = Unit {0}

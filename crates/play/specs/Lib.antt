@@ -2,4 +2,5 @@ pub mod Words
 pub mod Calls
 pub mod Lines
 pub mod State
+pub mod Several
 pub mod Played

@@ -1,5 +1,5 @@
 -- The lines that the player prints.
-use Prim.Native.Nat.{ℕ, suc, _/_}
+use Prim.Native.Nat.{ℕ, suc, _+_, _/_, _≤_}
 use mathlib.Core.List.{List, [], _∷_, _++_}
 use mathlib.Core.Bool.{cond}
 use lib.ListN.{length, take}
@@ -178,6 +178,14 @@ receivedLine p buffer (Duplicate k) = wordLine (numbered again k)
 receivedLine p buffer (Partial k) = wordLine (numbered held k)
 receivedLine p buffer (Complete last tid origin at) = messageLine last tid (contentIn p buffer origin at)
 receivedLine p buffer (NotTaken r) = refusedLine r
+
+-- Where a bufferful goes on behind an answer (02, No. 8), its line, from a place to an end, is short.
+abbrev pub Passing : Received → ℕ → ℕ → Type 0
+Passing Idle at to = to ≤ at + 28
+Passing (Duplicate k) at to = to ≤ at + 28
+Passing (Partial k) at to = to ≤ at + 28
+Passing (Complete last tid origin c) at to = Unit {0}
+Passing (NotTaken r) at to = Unit {0}
 
 -- ─── The calendar's answers ───
 

@@ -1,5 +1,5 @@
 -- What the player is after a line, what it prints, and every byte of its log and its chain buffer.
-use Prim.Native.Nat.{ℕ, _+_, _-_, _*_, _≤_}
+use Prim.Native.Nat.{ℕ, _+_, _-_, _*_, _/_, _≤_}
 use mathlib.Core.Path.{_≡_}
 use mathlib.Core.List.{List, [], _∷_, _++_}
 use mathlib.Core.Bool.{Bool, true, false, cond}
@@ -10,6 +10,7 @@ use Rattle.flow.specs.declared.receiver.Receiver.{Receiver}
 use Rattle.flow.specs.Ends.{freshSender, freshReceiver}
 use Rattle.flow.specs.Serving.{openDayOf, publishOf, loginOf, sendOf}
 use Rattle.flow.specs.Receiving.{openEndOf, connectOf, requestLoginOf, confirmLoginOf, receiveOf}
+use Rattle.flow.specs.Several.{receiveSeveralOf, publishSeveralOf}
 use Rattle.calendar.specs.declared.trading.Calendar.{Calendar}
 use Rattle.calendar.specs.Calendar.{freshCalendar, setOf, askOf, markDate}
 use Rattle.book.specs.declared.calls.Book.{Book}
@@ -20,7 +21,7 @@ use Rattle.play.specs.declared.player.Played.{Played}
 use Rattle.play.specs.declared.calls.Call.{Call}
 use Rattle.play.specs.declared.calls.Call.the-variants.{Bad, Buffers, OpenDay, Publish, Login, Send, OpenEnd}
 use Rattle.play.specs.declared.calls.Call.the-variants.{Connect, Ask, Answer, Receive, State}
-use Rattle.play.specs.declared.calls.Call.the-variants.{SetCalendar, AskTime, MarkDate}
+use Rattle.play.specs.declared.calls.Call.the-variants.{SetCalendar, AskTime, MarkDate, ReceiveAll, PublishAll}
 use Rattle.play.specs.declared.calls.Call.the-variants.{StartBook, TakeMessage, ShowLevel, ShowMean}
 use Rattle.play.specs.Words.{argument, saidBytes, seriesFrom, wordsFrom}
 use Rattle.play.specs.Calls.{callOf, Limited}
@@ -28,6 +29,7 @@ use Rattle.play.specs.Lines.{wordLine, numbered, openedLine, publishedLi
 use Rattle.play.specs.Lines.{connected, requestedLine, confirmedLine, receivedLine, setLine, timeLine, dateLine}
 use Rattle.play.specs.Lines.{started, taken, outcomeLine, levelLine, meanLine}
 use Rattle.play.specs.State.{stateLines}
+use Rattle.play.specs.Several.{receivedLines, publishedLines, takenLine, receivedWhy, publishedWhy}
 
 -- ─── The player ───
 
@@ -221,6 +223,22 @@ ShowsLevel p buying place r before after = Shows p (levelLine (levelOf (p .book)
 abbrev pub ShowsMean : Player → Played → List ℕ → List ℕ → Type 0
 ShowsMean p r before after = Shows p (meanLine (bookMean (p .book))) r before after
 
+-- Several packets: end and chain buffer are those of the call for several, and what is printed is the line of each
+-- single answer and then what the call took and why it stopped. Several records likewise, in the log.
+abbrev pub ShowsReceiveAll : Player → List ℕ → List ℕ → List ℕ → Played → List ℕ → List ℕ → Type 0
+ShowsReceiveAll p packets buffer buffer′ r before after =
+    let m = receiveSeveralOf (p .receiver) packets buffer in
+    Shows (withReceiver p (m .end))
+    (receivedLines (p .receiver) packets buffer ++ takenLine (m .taken) (receivedWhy (m .answer))) r before after
+    × (buffer′ ≡ m .bytes)
+
+abbrev pub ShowsPublishAll : Player → List ℕ → List ℕ → List ℕ → Played → List ℕ → List ℕ → Type 0
+ShowsPublishAll p records log log′ r before after =
+    let m = publishSeveralOf (p .sender) records log in
+    Shows (withSender p (m .end))
+    (publishedLines (p .sender) records log ++ takenLine (m .taken) (publishedWhy (m .answer))) r before after
+    × (log′ ≡ m .bytes)
+
 -- ─── The calls, as a line makes them ───
 
 -- What a line leaves: the player, what is printed, and all bytes of log and chain buffer.
@@ -279,6 +297,20 @@ calendarTurn p line sessions holidays log chain =
     let m = setOf (p .calendar) (wordsFrom line 1 (3 * sessions)) (wordsFrom line (1 + 3 * sessions) holidays) in
     turn (withCalendar p (m .calendar)) (setLine (m .answer)) log chain
 
+abbrev pub receiveAllTurn : Player → List ℕ → List ℕ → List ℕ → Turn
+receiveAllTurn p packets log chain =
+    let m = receiveSeveralOf (p .receiver) packets (take (p .chain) chain) in
+    turn (withReceiver p (m .end))
+    (receivedLines (p .receiver) packets (take (p .chain) chain) ++ takenLine (m .taken) (receivedWhy (m .answer))) log
+    (within (p .chain) (m .bytes) chain)
+
+abbrev pub publishAllTurn : Player → List ℕ → List ℕ → List ℕ → Turn
+publishAllTurn p records log chain =
+    let m = publishSeveralOf (p .sender) records (take (p .log) log) in
+    turn (withSender p (m .end))
+    (publishedLines (p .sender) records (take (p .log) log) ++ takenLine (m .taken) (publishedWhy (m .answer)))
+    (within (p .log) (m .bytes) log) chain
+
 -- A call in buffers that are laid out: the words that say bytes are the line's.
 abbrev pub readyTurn : Player → List ℕ → List ℕ → List ℕ → Call → Turn
 readyTurn p line log chain Bad = badTurn p log chain
@@ -313,6 +345,8 @@ readyTurn p line log chain (TakeMessage tid) =
 readyTurn p line log chain (ShowLevel buying place) =
     turn p (levelLine (levelOf (p .book) buying place)) log chain
 readyTurn p line log chain ShowMean = turn p (meanLine (bookMean (p .book))) log chain
+readyTurn p line log chain ReceiveAll = receiveAllTurn p (saidBytes (argument line 0)) log chain
+readyTurn p line log chain PublishAll = publishAllTurn p (saidBytes (argument line 0)) log chain
 
 -- Before that, `buffers` is the only call.
 abbrev pub startTurn : Player → List ℕ → List ℕ → Call → Turn
@@ -335,6 +369,8 @@ startTurn p log chain StartBook = badTurn p log chain
 startTurn p log chain (TakeMessage tid) = badTurn p log chain
 startTurn p log chain (ShowLevel buying place) = badTurn p log chain
 startTurn p log chain ShowMean = badTurn p log chain
+startTurn p log chain ReceiveAll = badTurn p log chain
+startTurn p log chain PublishAll = badTurn p log chain
 
 unfoldable pub callTurn : Player → List ℕ → List ℕ → List ℕ → Call → Turn
 callTurn p line log chain call =
@@ -343,10 +379,10 @@ callTurn p line log chain call =
 -- A buffer is too small for what a line of n bytes may need.
 unfoldable pub lacksRoom : Player → ℕ → ℕ → ℕ → ℕ → ℕ → ℕ → Bool
 lacksRoom p n log chain bytes out text =
-    cond (ltb text 524352) true
+    cond (ltb text 524448) true
     (cond (ltb out 65536) true
     (cond (ltb bytes n) true
-    (cond (ltb (text - 64) n) true
+    (cond (ltb ((text - 524448) / 7) (n / 2)) true
     (cond (ltb 262144 (p .chain)) true
     (cond (ltb log (p .log)) true (ltb chain (p .chain)))))))
 
@@ -354,7 +390,7 @@ lacksRoom p n log chain bytes out text =
 abbrev pub Fits : Player → Call → ℕ → ℕ → ℕ → ℕ → ℕ → ℕ → Type 0
 Fits p call n log chain bytes out text =
     Limited call × (n ≤ bytes) × (65536 ≤ out) × (64 + n ≤ text) × (64 + 2 * p .chain ≤ text) × (131136 ≤ text)
-    × (p .log ≤ log) × (p .chain ≤ chain)
+    × (p .log ≤ log) × (p .chain ≤ chain) × (160 + 7 * (n / 2) + 2 * p .chain ≤ text)
 
 -- The line that the first `len` bytes of a buffer are; one longer than the buffer is no call. The last three are the
 -- lengths of the other buffers; where one is too small, nothing is done.
@@ -395,3 +431,13 @@ abbrev pub PlaysReceive : Player → List ℕ → List ℕ → List ℕ → Play
 PlaysReceive p packet chain chain′ r before after =
     let t = receiveTurn p packet [] chain in
     Shows (t .player) (t .said) r before after × (chain′ ≡ t .chain)
+
+abbrev pub PlaysReceiveAll : Player → List ℕ → List ℕ → List ℕ → Played → List ℕ → List ℕ → Type 0
+PlaysReceiveAll p packets chain chain′ r before after =
+    let t = receiveAllTurn p packets [] chain in
+    Shows (t .player) (t .said) r before after × (chain′ ≡ t .chain)
+
+abbrev pub PlaysPublishAll : Player → List ℕ → List ℕ → List ℕ → Played → List ℕ → List ℕ → Type 0
+PlaysPublishAll p records log log′ r before after =
+    let t = publishAllTurn p records log [] in
+    Shows (t .player) (t .said) r before after × (log′ ≡ t .log)

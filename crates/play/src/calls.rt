@@ -1,7 +1,8 @@
 // What a script's line says: a call, with its numbers. The words that say bytes stay in the line.
 ghost use mathlib.Core.Path.{_≡_};
 ghost use Prim.Native.Nat.{_≤_};
-ghost use Rattle.play.specs.Calls.{tradingVerbOf, timeWith, calendarWith, markWith, bookVerbOf, takeWith, levelWith};
+ghost use Rattle.play.specs.Calls.{severalVerbOf, tradingVerbOf, timeWith, calendarWith, markWith, bookVerbOf};
+ghost use Rattle.play.specs.Calls.{takeWith, levelWith};
 ghost use Rattle.play.specs.Calls.{endVerbOf, verbOf, buffersWith, openDayWith, publishWith, loginCallWith, sendWith};
 ghost use Rattle.play.specs.Calls.{openEndWith, askWith, answerWith, plainCall, namedCall, numberAt, callOf};
 use crate::words::argument;
@@ -32,6 +33,8 @@ enum Verb {
     Take,
     Level,
     Mean,
+    ReceiveAll,
+    PublishAll,
 }
 
 // A call, with the numbers that its line says.
@@ -63,6 +66,9 @@ pub enum Call {
     // A side, and a place on it.
     ShowLevel { buying: bool, place: usize },
     ShowMean,
+    // Several packets, several records.
+    ReceiveAll,
+    PublishAll,
 }
 
 // Which call of the book a line's first word names.
@@ -84,7 +90,20 @@ fn book_verb_of(word: &[u8]) -> Verb
     Verb::Unknown
 }
 
-// Which call of the trading calendar a line's first word names, or of the book.
+// Which call for several packets or records a line's first word names, or of the book.
+fn several_verb_of(word: &[u8]) -> Verb
+    ensures { λ r. ⌜ r ≡ severalVerbOf (now (word .entry)) ⌝ }
+{
+    if is_word(word, b"receiveall") {
+        return Verb::ReceiveAll;
+    }
+    if is_word(word, b"publishall") {
+        return Verb::PublishAll;
+    }
+    book_verb_of(word)
+}
+
+// Which call of the trading calendar a line's first word names, or for several, or of the book.
 fn trading_verb_of(word: &[u8]) -> Verb
     ensures { λ r. ⌜ r ≡ tradingVerbOf (now (word .entry)) ⌝ }
 {
@@ -94,7 +113,7 @@ fn trading_verb_of(word: &[u8]) -> Verb
     if is_word(word, b"mark") {
         return Verb::Mark;
     }
-    book_verb_of(word)
+    several_verb_of(word)
 }
 
 // Which call of the receiving end a line's first word names, or of the calendar.
@@ -424,6 +443,8 @@ fn named_call(line: &[u8], verb: Verb) -> Call
             number_at(line, 1),
         ),
         Verb::Mean => plain_call(has_form(line, 0, 0), Call::ShowMean),
+        Verb::ReceiveAll => plain_call(has_form(line, 0, 1), Call::ReceiveAll),
+        Verb::PublishAll => plain_call(has_form(line, 0, 1), Call::PublishAll),
     }
 }
 

@@ -7,6 +7,7 @@ mod state; // both ends as lines
 pub mod calls; // a line as a call
 mod serving; // the calls of the serving end
 mod receiving; // the calls of the receiving end
+mod several; // the calls for several packets or records
 mod trading; // the calls of the trading calendar
 mod quoting; // the calls of the book
 pub mod player; // the player

@@ -22,6 +22,8 @@ use crate::serving::play_login;
 use crate::serving::play_open_day;
 use crate::serving::play_publish;
 use crate::serving::play_send;
+use crate::several::play_publish_all;
+use crate::several::play_receive_all;
 use crate::text::number_line;
 use crate::text::word_line;
 use crate::trading::ask_time;
@@ -284,6 +286,8 @@ impl Player {
             Call::TakeMessage { tid } => play_take(self, tid, line, bytes, text),
             Call::ShowLevel { buying, place } => show_level(self, buying, place, text),
             Call::ShowMean => show_mean(self, text),
+            Call::ReceiveAll => play_receive_all(self, line, chain, bytes, text),
+            Call::PublishAll => play_publish_all(self, line, log, bytes, text),
         }
     }
 
@@ -321,7 +325,7 @@ impl Player {
     ) -> bool
         ensures { λ r. ⌜ r ≡ lacksRoom self line log chain bytes out text ⌝ }
     {
-        if text < 524352 {
+        if text < 524448 {
             return true;
         }
         if out < 65536 {
@@ -330,7 +334,9 @@ impl Player {
         if bytes < line {
             return true;
         }
-        if text - 64 < line {
+        let left = text - 524448;
+        let most = left / 7;
+        if most < line / 2 {
             return true;
         }
         if 262144 < self.chain {

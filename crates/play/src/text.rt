@@ -7,7 +7,7 @@ ghost use Rattle.flow.specs.Answers.{contentIn};
 ghost use Rattle.ftd.specs.Bytes.{part};
 ghost use Rattle.play.specs.Lines.{hexBytes, contentText, numbered, wordLine, bytesLine, refusedLine, openedLine};
 ghost use Rattle.play.specs.Lines.{publishedLine, loginAnswerLine, sentLine, requestedLine, confirmedLine};
-ghost use Rattle.play.specs.Lines.{messageStart, messageLine, receivedLine, setLine, timeLine, dateLine};
+ghost use Rattle.play.specs.Lines.{messageStart, messageLine, receivedLine, Passing, setLine, timeLine, dateLine};
 use calendar::trading::SetAnswer;
 use calendar::trading::TradeTime;
 use flow::receiver::Confirmed;
@@ -48,7 +48,7 @@ pub(crate) fn put_pairs(out: &mut [u8], at: usize, bytes: &[u8]) -> usize
 pub(crate) fn word_line(out: &mut [u8], word: &[u8]) -> usize
     requires { ⌜ (64 ≤ length (now out)) × (length (now word) ≤ 16) ⌝ }
     ensures { λ r. ⌜ WroteText (now (out .entry)) 0 (wordLine (now (word .entry))) (now (out .exit)) r
-        × (r ≤ length (now (out .exit))) ⌝ }
+        × (r ≤ length (now (out .exit))) × (r ≤ 28) ⌝ }
 {
     let n = put_word(out, 0, word);
     put_byte(out, n, 10)
@@ -116,7 +116,8 @@ fn front_line(out: &mut [u8], word: &[u8], bytes: &[u8], n: usize) -> usize
 pub(crate) fn refused_line(out: &mut [u8], r: Refusal) -> usize
     requires { ⌜ 64 ≤ length (now out) ⌝ }
     ensures { λ n.
-        ⌜ WroteText (now (out .entry)) 0 (refusedLine r) (now (out .exit)) n × (n ≤ length (now (out .exit))) ⌝ }
+        ⌜ WroteText (now (out .entry)) 0 (refusedLine r) (now (out .exit)) n × (n ≤ length (now (out .exit)))
+        × (n ≤ 28) ⌝ }
 {
     number_line(out, b"refused", size8(number(r)))
 }
@@ -137,7 +138,7 @@ pub(crate) fn opened_line(out: &mut [u8], answer: Opened) -> usize
 pub(crate) fn published_line(out: &mut [u8], answer: Published) -> usize
     requires { ⌜ 64 ≤ length (now out) ⌝ }
     ensures { λ r. ⌜ WroteText (now (out .entry)) 0 (publishedLine answer) (now (out .exit)) r
-        × (r ≤ length (now (out .exit))) ⌝ }
+        × (r ≤ length (now (out .exit))) × (r ≤ 28) ⌝ }
 {
     match answer {
         Published::Number(k) => number_line(out, b"published", size32(k)),
@@ -255,7 +256,7 @@ fn complete_line(
 pub(crate) fn received_line(out: &mut [u8], answer: Received, packet: &[u8], buffer: &[u8]) -> usize
     requires { ⌜ (64 + 2 * length (now packet) ≤ length (now out)) × (64 + 2 * length (now buffer) ≤ length (now out)) ⌝ }
     ensures { λ r. ⌜ WroteText (now (out .entry)) 0 (receivedLine (now (packet .entry)) (now (buffer .entry)) answer)
-        (now (out .exit)) r × (r ≤ length (now (out .exit))) ⌝ }
+        (now (out .exit)) r × (r ≤ length (now (out .exit))) × Passing answer 0 r ⌝ }
 {
     match answer {
         Received::Idle => word_line(out, b"idle"),

@@ -35,15 +35,26 @@ impl Bench {
         Bench { runs: number(0, 5), passes: number(1, 21), only: words.get(2).cloned() }
     }
 
+    /// Library and reader.
+    pub fn compare(&self, name: &str, library: impl FnMut() -> u64, reader: impl FnMut() -> u64) {
+        self.compare_as(name, ["library", "reader"], library, reader);
+    }
+
     /// Times two sides that answer the same number, so that no work can be left out.
-    pub fn compare(&self, name: &str, mut library: impl FnMut() -> u64, mut reader: impl FnMut() -> u64) {
+    pub fn compare_as(
+        &self,
+        name: &str,
+        [first, second]: [&str; 2],
+        mut library: impl FnMut() -> u64,
+        mut reader: impl FnMut() -> u64,
+    ) {
         match self.only.as_deref() {
             // One pass of one side, for a profile.
-            Some(only) if only == format!("{name}/library") => {
+            Some(only) if only == format!("{name}/{first}") => {
                 black_box(library());
                 return;
             }
-            Some(only) if only == format!("{name}/reader") => {
+            Some(only) if only == format!("{name}/{second}") => {
                 black_box(reader());
                 return;
             }
@@ -75,7 +86,7 @@ impl Bench {
         medians.sort_by(f64::total_cmp);
         let spread = |r: &[f64]| format!("{:.2} ({:.2} to {:.2})", r[r.len() / 2], r[0], r[r.len() - 1]);
         println!(
-            "{name:<24} library {library_best:8.3} ms, reader {reader_best:8.3} ms; ratio of bests {}, of medians {}",
+            "{name:<24} {first} {library_best:8.3} ms, {second} {reader_best:8.3} ms; ratio of bests {}, of medians {}",
             spread(&bests),
             spread(&medians)
         );

@@ -15,6 +15,8 @@ use reader::start::start_field_bytes;
 use std::collections::BTreeMap;
 use std::rc::Rc;
 
+mod several;
+
 const REQUEST: u32 = 0x0023;
 const ANSWER: u32 = 0x0027;
 const MATCH: u32 = 0x000A;
@@ -304,7 +306,8 @@ impl Lists {
             0 => self.open_day(r),
             1 => self.open_end(r),
             2 => self.connect(),
-            3..=22 => self.publish(r),
+            3..=19 => self.publish(r),
+            20..=22 => self.publish_several(r),
             23..=26 => {
                 let series = self.series(r);
                 self.ask(r, series)
@@ -315,7 +318,8 @@ impl Lists {
                 let series = self.series(r);
                 self.send(r, series)
             }
-            59..=86 => self.run(r),
+            59..=80 => self.run(r),
+            81..=86 => self.receive_several(r),
             87..=94 => {
                 let series = self.series(r);
                 self.whole_login(r, series)
@@ -531,14 +535,7 @@ impl Lists {
     /// A message's packets, all or the first few. Otherwise any of them, damaged or made up.
     fn run(&mut self, r: &mut Random) -> Result<(), String> {
         if self.kind != Kind::Honest && r.once_in(3) {
-            let packet = match r.below(4) {
-                0 => {
-                    let form = r.pick(&FORMS);
-                    packet_input(r, form)
-                }
-                1 => r.pick(&[&[0, 2, 0, 0, 4, 0][..], &[1, 0, 0, 0], &[7, 0, 0, 1, 0], &[0, 2, 0, 0, 4, 1]]).to_vec(),
-                _ => self.made_up_piece(r),
-            };
+            let packet = self.made_up_packet(r);
             return self.receive(r, &packet);
         }
         let Some((_, packets)) = late(r, &self.line.messages) else { return Ok(()) };
@@ -559,6 +556,18 @@ impl Lists {
             self.receive(r, packet)?;
         }
         Ok(())
+    }
+
+    /// Any bytes, a packet that bears no message, or one around what the receiving end has.
+    fn made_up_packet(&self, r: &mut Random) -> Vec<u8> {
+        match r.below(4) {
+            0 => {
+                let form = r.pick(&FORMS);
+                packet_input(r, form)
+            }
+            1 => r.pick(&[&[0, 2, 0, 0, 4, 0][..], &[1, 0, 0, 0], &[7, 0, 0, 1, 0], &[0, 2, 0, 0, 4, 1]]).to_vec(),
+            _ => self.made_up_piece(r),
+        }
     }
 
     /// A packet around what the receiving end has.
@@ -597,7 +606,8 @@ impl Lists {
         self.receive(r, &packet)
     }
 
-    fn receive(&mut self, r: &mut Random, packet: &[u8]) -> Result<(), String> {
+    /// How much of the chain buffer is lent.
+    fn buffer(&self, r: &mut Random) -> usize {
         let (all, parts) = (self.world.buffers[0].len(), self.world.receiving.open.len() * BUFFER);
         let buffer = match r.below(24) {
             0 => parts.saturating_sub(1),
@@ -605,7 +615,12 @@ impl Lists {
             2..=6 => parts,
             _ => all,
         };
-        self.receive_with(packet, buffer.min(all))
+        buffer.min(all)
+    }
+
+    fn receive(&mut self, r: &mut Random, packet: &[u8]) -> Result<(), String> {
+        let buffer = self.buffer(r);
+        self.receive_with(packet, buffer)
     }
 
     fn receive_with(&mut self, packet: &[u8], buffer: usize) -> Result<(), String> {
@@ -659,6 +674,11 @@ impl Lists {
             self.answer_with(series, &packet)?;
             while self.send_with(series, log, 33_210)? {
                 let (_, packets) = self.line.messages.pop().expect("the message just sent");
+                if series % 2 == 0 {
+                    let bytes = packets.concat();
+                    self.receive_cut(&bytes, bytes.len() / 2, all)?;
+                    continue;
+                }
                 for packet in packets {
                     self.receive_with(&packet, all)?;
                 }

@@ -4,6 +4,7 @@ use crate::{Span, Written};
 use reader::few::{Few, MOST_SERIES};
 use reader::receiving::{self, Content, Receiving};
 use reader::serving::{self, Serving};
+use reader::several::{Answer, Stop};
 use std::fmt::{Debug, Formatter};
 
 #[repr(C)]
@@ -117,6 +118,35 @@ pub struct Received {
     pub refusal: u8,
 }
 
+pub const SEVERAL_END: u8 = 0;
+pub const SEVERAL_SHORT: u8 = 1;
+pub const SEVERAL_MESSAGE: u8 = 3;
+pub const SEVERAL_REFUSED: u8 = 4;
+
+#[repr(C)]
+#[derive(Clone, Copy, Debug, PartialEq, Eq)]
+pub struct ReceivedSeveral {
+    pub end: Receiver,
+    pub content: Span,
+    pub taken: usize,
+    pub missing: usize,
+    pub last: u32,
+    pub tid: u32,
+    pub answer: u8,
+    pub origin: u8,
+    pub refusal: u8,
+}
+
+#[repr(C)]
+#[derive(Clone, Copy, Debug, PartialEq, Eq)]
+pub struct PublishedSeveral {
+    pub end: Sender,
+    pub taken: usize,
+    pub missing: usize,
+    pub answer: u8,
+    pub refusal: u8,
+}
+
 /// The open places of a list; all where another one isn't 0.
 fn shown<T: Default + PartialEq>(all: &[T; MOST_SERIES], count: usize) -> &[T] {
     let open = count.min(MOST_SERIES);
@@ -178,6 +208,20 @@ extern "C" {
     fn ftd_confirm_login(end: Receiver, series: u16, packet: *const u8, packet_len: usize) -> Confirmed;
     fn ftd_receive(end: Receiver, packet: *const u8, packet_len: usize, buffer: *mut u8, buffer_len: usize)
         -> Received;
+    fn ftd_receive_several(
+        end: Receiver,
+        packets: *const u8,
+        count: usize,
+        buffer: *mut u8,
+        buffer_len: usize,
+    ) -> ReceivedSeveral;
+    fn ftd_publish_several(
+        end: Sender,
+        records: *const u8,
+        count: usize,
+        log: *mut u8,
+        log_len: usize,
+    ) -> PublishedSeveral;
 }
 
 impl Sender {
@@ -191,6 +235,10 @@ impl Sender {
 
     pub fn publish(self, series: u16, tid: u32, content: &[u8], log: &mut [u8]) -> Published {
         unsafe { ftd_publish(self, series, tid, content.as_ptr(), content.len(), log.as_mut_ptr(), log.len()) }
+    }
+
+    pub fn publish_several(self, records: &[u8], log: &mut [u8]) -> PublishedSeveral {
+        unsafe { ftd_publish_several(self, records.as_ptr(), records.len(), log.as_mut_ptr(), log.len()) }
     }
 
     pub fn login(self, series: u16, packet: &[u8], content: &[u8], out: &mut [u8]) -> LoggedIn {
@@ -252,6 +300,10 @@ impl Receiver {
 
     pub fn receive(self, packet: &[u8], buffer: &mut [u8]) -> Received {
         unsafe { ftd_receive(self, packet.as_ptr(), packet.len(), buffer.as_mut_ptr(), buffer.len()) }
+    }
+
+    pub fn receive_several(self, packets: &[u8], buffer: &mut [u8]) -> ReceivedSeveral {
+        unsafe { ftd_receive_several(self, packets.as_ptr(), packets.len(), buffer.as_mut_ptr(), buffer.len()) }
     }
 }
 
@@ -319,4 +371,40 @@ pub fn received(
             Received { answer: HANDED_ON, content, last, tid, origin, ..none }
         }
     }
+}
+
+/// An answer of the model to a bufferful of packets.
+pub fn received_several(end: Receiver, Answer { stop, taken }: Answer) -> ReceivedSeveral {
+    let content = Span::default();
+    let none = ReceivedSeveral {
+        end,
+        content,
+        taken,
+        missing: 0,
+        last: 0,
+        tid: 0,
+        answer: SEVERAL_END,
+        origin: 0,
+        refusal: 0,
+    };
+    match stop {
+        Stop::End => none,
+        Stop::Short(missing) => ReceivedSeveral { answer: SEVERAL_SHORT, missing, ..none },
+        Stop::Refused(refusal) => ReceivedSeveral { answer: SEVERAL_REFUSED, refusal, ..none },
+        Stop::Message { last, tid, buffer, start, len } => {
+            let origin = if buffer { IN_BUFFER } else { IN_PACKET };
+            ReceivedSeveral { answer: SEVERAL_MESSAGE, content: Span { start, len }, last, tid, origin, ..none }
+        }
+    }
+}
+
+/// An answer of the model to a bufferful of records.
+pub fn published_several(end: Sender, Answer { stop, taken }: Answer) -> PublishedSeveral {
+    let (answer, missing, refusal) = match stop {
+        Stop::End => (SEVERAL_END, 0, 0),
+        Stop::Short(missing) => (SEVERAL_SHORT, missing, 0),
+        Stop::Refused(refusal) => (SEVERAL_REFUSED, 0, refusal),
+        Stop::Message { .. } => unreachable!("Publish hands no message on"),
+    };
+    PublishedSeveral { end, taken, missing, answer, refusal }
 }

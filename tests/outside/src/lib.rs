@@ -12,6 +12,7 @@ pub mod compare;
 pub mod ends;
 pub mod history;
 pub mod items;
+pub mod several;
 pub mod world;
 
 pub const SHORT: u8 = 0;

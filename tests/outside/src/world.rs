@@ -3,7 +3,8 @@
 
 use crate::compare::{hex, Asked};
 use crate::ends::{
-    self, Confirmed, LoggedIn, Published, Received, Receiver, ReceiverOpened, Sender, SenderOpened, Sent, Served,
+    self, Confirmed, LoggedIn, Published, PublishedSeveral, Received, ReceivedSeveral, Receiver, ReceiverOpened,
+    Sender, SenderOpened, Sent, Served,
 };
 use crate::ends::{SEND_MESSAGE, SEND_NONE, SEND_REFUSED};
 use crate::Written;
@@ -266,5 +267,32 @@ impl World {
         self.asked.same("Receive", given, right)?;
         self.receiver = right.end;
         Ok(if right.refusal == 0 { Ok(right) } else { Err(right.refusal) })
+    }
+    /// A bufferful of packets; lends the first bytes of the chain buffer, so many. (A refusal is an answer here.)
+    pub fn receive_several(&mut self, packets: &[u8], buffer: usize) -> Result<ReceivedSeveral, String> {
+        let end = self.receiver();
+        let [library, reader] = &mut self.buffers;
+        let answer = self.receiving.receive_several(packets, &mut reader[..buffer]);
+        let right = ends::received_several(ends::receiver(&self.receiving), answer);
+        let mut given = end.receive_several(packets, &mut library[..buffer]);
+        same_bytes(&mut self.asked, "chain buffer", library, reader)?;
+        given.end = self.receiver_left(given.end);
+        self.asked.same("Receive several", given, right)?;
+        self.receiver = right.end;
+        Ok(right)
+    }
+
+    /// A bufferful of records; lends the first bytes of the log, so many.
+    pub fn publish_several(&mut self, records: &[u8], log: usize) -> Result<PublishedSeveral, String> {
+        let end = self.sender();
+        let [library, reader] = &mut self.logs;
+        let answer = self.serving.publish_several(records, &mut reader[..log]);
+        let right = ends::published_several(ends::sender(&self.serving), answer);
+        let mut given = end.publish_several(records, &mut library[..log]);
+        same_bytes(&mut self.asked, "log", library, reader)?;
+        given.end = self.sender_left(given.end);
+        self.asked.same("Publish several", given, right)?;
+        self.sender = right.end;
+        Ok(right)
     }
 }

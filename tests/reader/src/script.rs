@@ -3,8 +3,10 @@
 
 use crate::book::{Book, Side};
 use crate::calendar::{Calendar, Days, Session};
+use crate::packet::said_length;
 use crate::receiving::{Received, Receiving};
 use crate::serving::Serving;
+use crate::several::{Answer, Stop, RECORD_HEADER};
 
 mod book;
 mod calendar;
@@ -12,6 +14,7 @@ mod line;
 mod parts;
 mod receiving;
 mod serving;
+mod several;
 
 pub use line::faulty_line;
 
@@ -30,7 +33,7 @@ pub struct Script {
     book: Book,
     log: Vec<u8>,
     chain: Vec<u8>,
-    /// Each line, and what is printed for it: one line, for `state` several.
+    /// Each line, and what is printed for it: one line, for `state` and a bufferful several.
     pub calls: Vec<(String, String)>,
 }
 
@@ -50,6 +53,33 @@ fn price_text(units: i64) -> String {
     let digits = format!("{:05}", units.unsigned_abs());
     let (whole, fraction) = digits.split_at(digits.len() - 4);
     format!("{}{whole}.{fraction}", if units < 0 { "-" } else { "" })
+}
+
+fn published_text(answer: Result<u32, u8>) -> String {
+    answer.map_or_else(refused, |number| format!("published {number}"))
+}
+
+fn received_text(answer: Result<Received, u8>) -> String {
+    match answer {
+        Err(row) => refused(row),
+        Ok(Received::Idle) => "idle".to_string(),
+        Ok(Received::Again(last)) => format!("again {last}"),
+        Ok(Received::Held(last)) => format!("held {last}"),
+        Ok(Received::Message { last, tid, content }) => {
+            format!("message {last} {tid:08X} {}", hex(content.bytes()))
+        }
+    }
+}
+
+/// What a bufferful took, and what it stopped at.
+fn taken_text(answer: Answer) -> String {
+    let stop = match answer.stop {
+        Stop::End => "end".to_string(),
+        Stop::Short(missing) => format!("short {missing}"),
+        Stop::Refused(row) => refused(row),
+        Stop::Message { .. } => "message".to_string(),
+    };
+    format!("taken {} {stop}", answer.taken)
 }
 
 /// A call that writes: its answer as text, and the bytes.
@@ -109,8 +139,7 @@ impl Script {
 
     fn published(&mut self, series: u16, tid: u32, content: &[u8]) -> Result<u32, u8> {
         let answer = self.serving.publish(series, tid, content, &mut self.log);
-        let text = answer.map_or_else(refused, |number| format!("published {number}"));
-        self.add(format!("publish {series} {tid:08X} {}", hex(content)), text);
+        self.add(format!("publish {series} {tid:08X} {}", hex(content)), published_text(answer));
         answer
     }
 
@@ -162,16 +191,44 @@ impl Script {
     }
 
     fn received(&mut self, packet: &[u8]) {
-        let text = match self.receiving.receive(packet, &mut self.chain) {
-            Err(row) => refused(row),
-            Ok(Received::Idle) => "idle".to_string(),
-            Ok(Received::Again(last)) => format!("again {last}"),
-            Ok(Received::Held(last)) => format!("held {last}"),
-            Ok(Received::Message { last, tid, content }) => {
-                format!("message {last} {tid:08X} {}", hex(content.bytes()))
-            }
-        };
+        let text = received_text(self.receiving.receive(packet, &mut self.chain));
         self.add(format!("receive {}", hex(packet)), text);
+    }
+
+    /// A bufferful of packets: the answers to the packets taken, each by the single call, and what the call for several
+    /// says. Both leave the same.
+    fn received_all(&mut self, packets: &[u8]) -> usize {
+        let (mut single, mut chain) = (self.receiving, self.chain.clone());
+        let answer = self.receiving.receive_several(packets, &mut self.chain);
+        let mut lines = vec![];
+        let mut rest = &packets[..answer.taken];
+        while let Some(length) = said_length(rest) {
+            lines.push(received_text(single.receive(&rest[..length], &mut chain)));
+            rest = &rest[length..];
+        }
+        assert!(single == self.receiving && chain == self.chain, "single calls leave something else");
+        lines.push(taken_text(answer));
+        self.add(format!("receiveall {}", hex(packets)), lines.join("\n"));
+        answer.taken
+    }
+
+    /// A bufferful of records, likewise.
+    fn published_all(&mut self, records: &[u8]) -> usize {
+        let (mut single, mut log) = (self.serving, self.log.clone());
+        let answer = self.serving.publish_several(records, &mut self.log);
+        let mut lines = vec![];
+        let mut rest = &records[..answer.taken];
+        while !rest.is_empty() {
+            let number = |at: usize, n: usize| rest[at..at + n].iter().fold(0, |x, &byte| x << 8 | u32::from(byte));
+            let end = RECORD_HEADER + number(6, 4) as usize;
+            let content = &rest[RECORD_HEADER..end];
+            lines.push(published_text(single.publish(number(0, 2) as u16, number(2, 4), content, &mut log)));
+            rest = &rest[end..];
+        }
+        assert!(single == self.serving && log == self.log, "single calls leave something else");
+        lines.push(taken_text(answer));
+        self.add(format!("publishall {}", hex(records)), lines.join("\n"));
+        answer.taken
     }
 
     /// Both ends: a line each, and one for each open series.
@@ -298,6 +355,29 @@ impl Script {
         self.begins(expected);
     }
 
+    /// A bufferful of packets, and what each line of the answer begins with. Gives how many bytes it took.
+    fn receive_all(&mut self, packets: &[u8], expected: &[&str]) -> usize {
+        let taken = self.received_all(packets);
+        self.all_begin(expected);
+        taken
+    }
+
+    fn publish_all(&mut self, records: &[u8], expected: &[&str]) -> usize {
+        let taken = self.published_all(records);
+        self.all_begin(expected);
+        taken
+    }
+
+    /// Each line of the last answer is this one, or begins with these words.
+    fn all_begin(&self, expected: &[&str]) {
+        let lines: Vec<&str> = self.calls.last().expect("a call").1.split('\n').collect();
+        assert_eq!(lines.len(), expected.len(), "line {}", self.calls.len());
+        for (line, start) in lines.iter().zip(expected) {
+            let begins = line.strip_prefix(start).is_some_and(|more| more.is_empty() || more.starts_with(' '));
+            assert!(begins, "line {}: {} for {start}", self.calls.len(), &line[..line.len().min(120)]);
+        }
+    }
+
     /// The states of both ends, each line of them written by hand.
     fn states(&mut self, expected: &str) {
         self.state();
@@ -305,8 +385,8 @@ impl Script {
     }
 }
 
-/// The whole script: the worked examples of both ends, of the calendar and of the book, and both ends over a faulty line.
-/// Gives it with the place of the call that the faulty line begins with.
+/// The whole script: the worked examples of both ends, of the calendar, of the book and of a bufferful, and both ends over a
+/// faulty line. Gives it with the place of the call that the faulty line begins with.
 pub fn whole_script() -> (Script, usize) {
     let mut s = Script::new(LOG, CHAIN);
     serving::examples(&mut s);
@@ -314,6 +394,7 @@ pub fn whole_script() -> (Script, usize) {
     serving::biggest(&mut s);
     calendar::examples(&mut s);
     book::examples(&mut s);
+    several::examples(&mut s);
     let from = s.calls.len();
     faulty_line(&mut s, 2_000_000_000);
     serving::last_marks(&mut s);

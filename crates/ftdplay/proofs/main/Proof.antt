@@ -9,7 +9,7 @@ use Rattle.ftdplay.proofs.main.Tie as tie
 abbrev Inv-loop : tie.InvT-loop
 Inv-loop input₀ line₀ log₀ chain₀ bytes₀ out₀ text₀ now₀ turns₀ input line log chain bytes out text now turns =
     (65536 ≡ length input) × (140000 ≡ length line) × (1048576 ≡ length log)
-    × (262144 ≡ length chain) × (140000 ≡ length bytes) × (65536 ≡ length out) × (524352 ≡ length text)
+    × (262144 ≡ length chain) × (140000 ≡ length bytes) × (65536 ≡ length out) × (1048576 ≡ length text)
 
 abbrev μ-loop : tie.MeasureT-loop
 μ-loop input₀ line₀ log₀ chain₀ bytes₀ out₀ text₀ now₀ turns₀ input line log chain bytes out text now turns = turns
@@ -25,7 +25,7 @@ loop-holds c = (
   sym (length-replicate {A = ℕ} 262144 0),
   sym (length-replicate {A = ℕ} 140000 0),
   sym (length-replicate {A = ℕ} 65536 0),
-  sym (length-replicate {A = ℕ} 524352 0),
+  sym (length-replicate {A = ℕ} 1048576 0),
 )
 
 slice-aggregate-read-full : tie.Need-slice-aggregate-read-full Inv-loop μ-loop

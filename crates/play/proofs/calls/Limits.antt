@@ -16,10 +16,12 @@ use Rattle.play.specs.declared.calls.Verb.the-variants.{Connect as Names
 use Rattle.play.specs.declared.calls.Verb.the-variants.{Answer as NamesAnswer, Receive as NamesReceive}
 use Rattle.play.specs.declared.calls.Verb.the-variants.{State as NamesState, Calendar as NamesCalendar}
 use Rattle.play.specs.declared.calls.Verb.the-variants.{Mark as NamesMark, Book as NamesBook, Take as NamesTake}
-use Rattle.play.specs.declared.calls.Verb.the-variants.{Level as NamesLevel, Mean as NamesMean}
+use Rattle.play.specs.declared.calls.Verb.the-variants.{Level as NamesLevel, Mean as NamesMean, ReceiveAll as NamesReceiveAll}
+use Rattle.play.specs.declared.calls.Verb.the-variants.{PublishAll as NamesPublishAll}
 use Rattle.play.specs.declared.calls.Call.{Call}
 use Rattle.play.specs.declared.calls.Call.the-variants.{Bad, OpenDay, Login, Send, OpenEnd, Connect}
 use Rattle.play.specs.declared.calls.Call.the-variants.{Ask, Receive, State, SetCalendar, StartBook, ShowLevel, ShowMean}
+use Rattle.play.specs.declared.calls.Call.the-variants.{ReceiveAll, PublishAll}
 use Rattle.play.specs.Words.{endOf}
 use Rattle.play.specs.Calls.{verbOf, buffersWith, openDayWith, publishWith, loginCallWith, sendWith, openEndWith}
 use Rattle.play.specs.Calls.{askWith, answerWith, timeWith, calendarWith, markWith, plainCall, namedCall, callOf}
@@ -118,6 +120,8 @@ named-limited line NamesBook = plain-limited _ StartBook tt
 named-limited line NamesTake = take-limited _ _
 named-limited line NamesLevel = level-limited _ _ _ _
 named-limited line NamesMean = plain-limited _ ShowMean tt
+named-limited line NamesReceiveAll = plain-limited _ ReceiveAll tt
+named-limited line NamesPublishAll = plain-limited _ PublishAll tt
 
 pub limited : (line : List ℕ) (c : Call) → c ≡ callOf line → Limited c
 unfolding callOf

@@ -14,9 +14,10 @@ use Rattle.play.specs.declared.calls.Verb.the-variants.{Connect as Names
 use Rattle.play.specs.declared.calls.Verb.the-variants.{Answer as NamesAnswer, Receive as NamesReceive}
 use Rattle.play.specs.declared.calls.Verb.the-variants.{State as NamesState, Calendar as NamesCalendar}
 use Rattle.play.specs.declared.calls.Verb.the-variants.{Mark as NamesMark, Book as NamesBook, Take as NamesTake}
-use Rattle.play.specs.declared.calls.Verb.the-variants.{Level as NamesLevel, Mean as NamesMean}
+use Rattle.play.specs.declared.calls.Verb.the-variants.{Level as NamesLevel, Mean as NamesMean, ReceiveAll as NamesReceiveAll}
+use Rattle.play.specs.declared.calls.Verb.the-variants.{PublishAll as NamesPublishAll}
 use Rattle.play.specs.declared.calls.Call.{Call}
-use Rattle.play.specs.declared.calls.Call.the-variants.{Bad, Connect, Receive, State, StartBook, ShowMean}
+use Rattle.play.specs.declared.calls.Call.the-variants.{Bad, Connect, Receive, State, StartBook, ShowMean, ReceiveAll, PublishAll}
 use Rattle.play.specs.Words.{endOf, tidIn, sameWord, argument, hasForm, seriesCount, wordCount}
 use Rattle.play.specs.Calls.{verbOf, buffersWith, openDayWith, publishWith, loginCallWith, sendWith, openEndWith}
 use Rattle.play.specs.Calls.{askWith, answerWith, timeWith, calendarWith, markWith, plainCall, numberAt}
@@ -66,6 +67,9 @@ module _ (line : List ℕ) (v : Verb) (r : Call) where
         → x ≡ numberAt line 0 → y ≡ tidIn w → w ≡ argument line 1 → r ≡ namedCall line v
     names-publish w k e h q p f = let z : y ≡ tidIn (argument line 1) = rw f at p in rw (e, ← h, ← q, ← z) k
 
+  pub names-unknown : v ≡ Unknown → Bad ≡ namedCall line v
+  names-unknown e = rw e
+
   pub names-day : (x n : ℕ) → r ≡ openDayWith x n → v ≡ NamesOpenDay → x ≡ numberAt line 0 → n ≡ seriesCount line 1
       → r ≡ namedCall line v
   names-day x n k e q p = rw (e, ← q, ← p) k
@@ -112,6 +116,12 @@ module _ (line : List ℕ) (v : Verb) (r : Call) where
 
     pub names-mean : r ≡ plainCall b ShowMean → v ≡ NamesMean → b ≡ hasForm line 0 0 → r ≡ namedCall line v
     names-mean k e h = rw (e, ← h) k
+
+    pub names-receive-all : r ≡ plainCall b ReceiveAll → v ≡ NamesReceiveAll → b ≡ hasForm line 0 1 → r ≡ namedCall line v
+    names-receive-all k e h = rw (e, ← h) k
+
+    pub names-publish-all : r ≡ plainCall b PublishAll → v ≡ NamesPublishAll → b ≡ hasForm line 0 1 → r ≡ namedCall line v
+    names-publish-all k e h = rw (e, ← h) k
 
   pub line-is : (e : ℕ) → r ≡ namedCall line v → v ≡ verbOf (take e line) → e ≡ endOf line 0 → r ≡ callOf line
   unfolding callOf

@@ -16,7 +16,7 @@ use Rattle.play.specs.declared.player.Played.{Played}
 use Rattle.play.specs.declared.calls.Call.{Call}
 use Rattle.play.specs.declared.calls.Call.the-variants.{Bad, Buffers, OpenDay, Publish, Login, Send, OpenEnd}
 use Rattle.play.specs.declared.calls.Call.the-variants.{Connect, Ask, Answer, Receive, State}
-use Rattle.play.specs.declared.calls.Call.the-variants.{SetCalendar, AskTime, MarkDate}
+use Rattle.play.specs.declared.calls.Call.the-variants.{SetCalendar, AskTime, MarkDate, ReceiveAll, PublishAll}
 use Rattle.play.specs.declared.calls.Call.the-variants.{StartBook, TakeMessage, ShowLevel, ShowMean}
 use Rattle.play.proofs.calls.Call.{the-type}
 use Rattle.play.specs.Words.{argument, saidBytes, seriesFrom, wordsFrom}
@@ -26,7 +26,7 @@ use Rattle.play.specs.Played.{Turn, Shows, Plays, badLine, okLine, laidO
 use Rattle.play.specs.Played.{readyTurn, startTurn, callTurn, lacksRoom, playTurn, ShowsOpenDay, ShowsOpenEnd}
 use Rattle.play.specs.Played.{ShowsConnect, ShowsAnswer, ShowsState, PlaysPublish, PlaysLogin, PlaysSend, PlaysAsk}
 use Rattle.play.specs.Played.{PlaysReceive, ShowsCalendar, ShowsTime, ShowsDate, ShowsStart, ShowsTake}
-use Rattle.play.specs.Played.{ShowsLevel, ShowsMean}
+use Rattle.play.specs.Played.{ShowsLevel, ShowsMean, PlaysReceiveAll, PlaysPublishAll}
 
 -- A turn that is another.
 is-turn : {u t : Turn} {r : Played} {b a log chain : List ℕ} → t ≡ u → Plays u r b a log chain → Plays t r b a log chain
@@ -142,10 +142,20 @@ module _ (p : Player) (line log chain : List ℕ) (call : Call) (r : Played) (t 
   pub ready-mean : call ≡ ShowMean → ShowsMean p r t t′ → Plays (readyTurn p line log chain call) r t t′ log chain
   ready-mean e h = rw e (h, refl, refl)
 
-  others : (c : Call) → OneOf (0 ∷ 2 ∷ 3 ∷ 4 ∷ 5 ∷ 6 ∷ 7 ∷ 8 ∷ 9 ∷ 10 ∷ 11 ∷ 12 ∷ 13 ∷ 14 ∷ 15 ∷ 16 ∷ 17 ∷ 18 ∷ []) (tagOf the-type c)
+  pub ready-receive-all : (chain′ : List ℕ) → call ≡ ReceiveAll
+      → PlaysReceiveAll p (saidBytes (argument line 0)) chain chain′ r t t′
+      → Plays (readyTurn p line log chain call) r t t′ log chain′
+  ready-receive-all chain′ e h = rw e (h .0, refl, h .1)
+
+  pub ready-publish-all : (log′ : List ℕ) → call ≡ PublishAll
+      → PlaysPublishAll p (saidBytes (argument line 0)) log log′ r t t′
+      → Plays (readyTurn p line log chain call) r t t′ log′ chain
+  ready-publish-all log′ e h = rw e (h .0, h .1, refl)
+
+  others : (c : Call) → OneOf (0 ∷ 2 ∷ 3 ∷ 4 ∷ 5 ∷ 6 ∷ 7 ∷ 8 ∷ 9 ∷ 10 ∷ 11 ∷ 12 ∷ 13 ∷ 14 ∷ 15 ∷ 16 ∷ 17 ∷ 18 ∷ 19 ∷ 20 ∷ []) (tagOf the-type c)
       → startTurn p log chain c ≡ badTurn p log chain
   others Bad k = refl
-  others (Buffers n m) k = absurd (miss (0 ∷ 2 ∷ 3 ∷ 4 ∷ 5 ∷ 6 ∷ 7 ∷ 8 ∷ 9 ∷ 10 ∷ 11 ∷ 12 ∷ 13 ∷ 14 ∷ 15 ∷ 16 ∷ 17 ∷ 18 ∷ []) 1 tt k)
+  others (Buffers n m) k = absurd (miss (0 ∷ 2 ∷ 3 ∷ 4 ∷ 5 ∷ 6 ∷ 7 ∷ 8 ∷ 9 ∷ 10 ∷ 11 ∷ 12 ∷ 13 ∷ 14 ∷ 15 ∷ 16 ∷ 17 ∷ 18 ∷ 19 ∷ 20 ∷ []) 1 tt k)
   others (OpenDay date n) k = refl
   others (Publish s tid) k = refl
   others (Login s n) k = refl
@@ -163,8 +173,10 @@ module _ (p : Player) (line log chain : List ℕ) (call : Call) (r : Played) (t 
   others (TakeMessage tid) k = refl
   others (ShowLevel buying i) k = refl
   others ShowMean k = refl
+  others ReceiveAll k = refl
+  others PublishAll k = refl
 
-  pub start-other : OneOf (0 ∷ 2 ∷ 3 ∷ 4 ∷ 5 ∷ 6 ∷ 7 ∷ 8 ∷ 9 ∷ 10 ∷ 11 ∷ 12 ∷ 13 ∷ 14 ∷ 15 ∷ 16 ∷ 17 ∷ 18 ∷ []) (tagOf the-type call)
+  pub start-other : OneOf (0 ∷ 2 ∷ 3 ∷ 4 ∷ 5 ∷ 6 ∷ 7 ∷ 8 ∷ 9 ∷ 10 ∷ 11 ∷ 12 ∷ 13 ∷ 14 ∷ 15 ∷ 16 ∷ 17 ∷ 18 ∷ 19 ∷ 20 ∷ []) (tagOf the-type call)
       → Shows p (badLine (p .lines)) r t t′ → Plays (startTurn p log chain call) r t t′ log chain
   start-other k h = is-turn (others call k) (h, refl, refl)
 

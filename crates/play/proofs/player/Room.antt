@@ -1,5 +1,5 @@
 -- Buffers that lack no room are large enough for each call. Assumes nothing.
-use Prim.Native.Nat.{ℕ, _+_, _-_, _≤_}
+use Prim.Native.Nat.{ℕ, _+_, _-_, _/_, _≤_}
 use mathlib.Core.Path.{_≡_, refl, sym, _∙_}
 use mathlib.Core.List.{List}
 use mathlib.Core.Bool.{Bool, true, false, cond}
@@ -62,21 +62,21 @@ module _ (p : Player) where
 
 module _ (p : Player) (line : List ℕ) (log chain bytes out text : ℕ) (b : Bool)
     (h : b ≡ lacksRoom p (length line) log chain bytes out text) (f : b ≡ false) where
-  pub roomy : (524352 ≤ text) × (65536 ≤ out) × (length line ≤ bytes) × (length line ≤ text - 64)
+  pub roomy : (524448 ≤ text) × (65536 ≤ out) × (length line ≤ bytes) × (length line / 2 ≤ (text - 524448) / 7)
       × (p .chain ≤ 262144) × (p .log ≤ log) × (p .chain ≤ chain)
   unfolding lacksRoom
   roomy =
       let a1 = sym h ∙ f in
-      let a2 = then-no (ltb text 524352) _ a1 in
+      let a2 = then-no (ltb text 524448) _ a1 in
       let a3 = then-no (ltb out 65536) _ a2 in
       let a4 = then-no (ltb bytes (length line)) _ a3 in
-      let a5 = then-no (ltb (text - 64) (length line)) _ a4 in
+      let a5 = then-no (ltb ((text - 524448) / 7) (length line / 2)) _ a4 in
       let a6 = then-no (ltb 262144 (p .chain)) _ a5 in
       let a7 = then-no (ltb log (p .log)) _ a6 in (
-        ltb-false text 524352 (first-no (ltb text 524352) _ a1),
+        ltb-false text 524448 (first-no (ltb text 524448) _ a1),
         ltb-false out 65536 (first-no (ltb out 65536) _ a2),
         ltb-false bytes (length line) (first-no (ltb bytes (length line)) _ a3),
-        ltb-false (text - 64) (length line) (first-no (ltb (text - 64) (length line)) _ a4),
+        ltb-false ((text - 524448) / 7) (length line / 2) (first-no (ltb ((text - 524448) / 7) (length line / 2)) _ a4),
         ltb-false 262144 (p .chain) (first-no (ltb 262144 (p .chain)) _ a5),
         ltb-false log (p .log) (first-no (ltb log (p .log)) _ a6),
         ltb-false chain (p .chain) a7,
@@ -100,4 +100,5 @@ module _ (p : Player) (line : List ℕ) (log chain bytes out text : ℕ) (b : Bo
         omega (arith, r .0),
         omega (arith, l, r .5),
         omega (arith, k, r .6),
+        omega (arith, n, k, r .3, r .4, r .0),
       )

@@ -7,9 +7,10 @@ use native.Mathlib.Numerals.{add-one}
 use native.Mathlib.Omega.{arith}
 use borrow.Author.Tests.{eq-eqb, ne-eqb}
 use native.Mathlib.Nat.{add-sub-cancel-left}
-use lib.ListN.{length, getD, take, drop, drop-of-length-le, length-drop, length-take}
+use lib.ListN.{length, getD, take, drop, drop-of-length-le, length-append, length-drop, length-take}
 use lib.Seq.{take-suc, take-all, length-take-le}
-use Rattle.listing.specs.Text.{WroteText, hexOf, refused}
+use Rattle.listing.specs.Text.{WroteText, hexOf, decimalOf, refused}
+use Rattle.listing.proofs.Numbers.{digits-most}
 use Rattle.listing.proofs.Texts.{wrote-both}
 use Rattle.ftd.specs.Refusal.{numberOf}
 use Rattle.ftd.specs.declared.refusal.Refusal.{Refusal}
@@ -48,7 +49,7 @@ use Rattle.flow.specs.Answers.{contentIn}
 use Rattle.play.specs.Lines.{hexBytes, contentText, wordLine, numbered, bytesLine, refusedLine, openedLine}
 use Rattle.play.specs.Lines.{publishedLine, loginAnswerLine, sentLine, opened, published, login, sent, none}
 use Rattle.play.specs.Lines.{requestedLine, confirmedLine, messageLine, receivedLine, asked, answered, idle, again}
-use Rattle.play.specs.Lines.{held, set, inside, outside, date, setLine, timeLine, dateLine}
+use Rattle.play.specs.Lines.{Passing, held, set, inside, outside, date, setLine, timeLine, dateLine}
 
 pub hex-append : (l m : List ℕ) → hexBytes (l ++ m) ≡ hexBytes l ++ hexBytes m
 unfolding hexBytes
@@ -105,6 +106,45 @@ module _ (b : List ℕ) (start len : ℕ) where
 
 pub front-room : (b : List ℕ) (n m : ℕ) → n < length b → 64 + 2 * length b ≤ m → 64 + 2 * length (take n b) ≤ m
 front-room b n m h r = rw (length-take-le n b (omega arith)) (omega arith)
+
+-- A word and a number of four bytes make a short line.
+number-short : (w : List ℕ) (x : ℕ) (l o : List ℕ) (to : ℕ) → WroteText l 0 (wordLine (numbered w x)) o to
+    → x < 4294967296 → to ≤ length w + 12
+unfolding wordLine numbered
+number-short w x l o to q h =
+    let e : length (w ++ (32 ∷ []) ++ decimalOf x ++ (10 ∷ [])) ≡ length w + 1 + length (decimalOf x) + 1 =
+    rw (length-append, length-append, length-append) in
+    omega (arith, q .place, e, digits-most 9 x (omega arith))
+
+module _ (x : ℕ) (l o : List ℕ) (to : ℕ) where
+  pub again-short : WroteText l 0 (wordLine (numbered again x)) o to → x < 4294967296 → to ≤ 28
+  again-short q h = let k : to ≤ 17 = number-short again x l o to q h in omega arith
+
+  pub held-short : WroteText l 0 (wordLine (numbered held x)) o to → x < 4294967296 → to ≤ 28
+  held-short q h = let k : to ≤ 16 = number-short held x l o to q h in omega arith
+
+  pub published-short : WroteText l 0 (wordLine (numbered published x)) o to → x < 4294967296 → to ≤ 28
+  published-short q h = let k : to ≤ 21 = number-short published x l o to q h in omega arith
+
+  pub refused-short : WroteText l 0 (wordLine (numbered refused x)) o to → x < 256 → to ≤ 28
+  refused-short q h = let k : to ≤ 19 = number-short refused x l o to q (omega arith) in omega arith
+
+-- Where a bufferful goes on, the line is short.
+module _ (a : Received) (at to : ℕ) where
+  pub passes-idle : a ≡ Idle → to ≤ at + 28 → Passing a at to
+  passes-idle e h = rw e h
+
+  pub passes-again : (k : ℕ) → a ≡ Duplicate k → to ≤ at + 28 → Passing a at to
+  passes-again k e h = rw e h
+
+  pub passes-held : (k : ℕ) → a ≡ Partial k → to ≤ at + 28 → Passing a at to
+  passes-held k e h = rw e h
+
+  pub stops-message : (last tid : ℕ) (origin : Origin) (c : Span) → a ≡ Complete last tid origin c → Passing a at to
+  stops-message last tid origin c e = rw e tt
+
+  pub stops-refused : (r : Refusal) → a ≡ NotTaken r → Passing a at to
+  stops-refused r e = rw e tt
 
 module _ {l o : List ℕ} {to : ℕ} where
   pub front-all : (w b : List ℕ) (n : ℕ) → length b ≤ n → WroteText l 0 (bytesLine w b) o to

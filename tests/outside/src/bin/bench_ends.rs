@@ -2,13 +2,15 @@
 //! with its state in place, once as a function that isn't inlined and takes and gives its state by value, as the library does.
 
 use outside::bench::Bench;
-use outside::ends::{Receiver, Sender};
+use outside::ends::{Receiver, Sender, HANDED_ON, SEVERAL_END};
+use outside::several::record;
 use reader::cut::{write_message, Header};
 use reader::generate::{known_field_bytes, raw_field, Random};
 use reader::items::known_field;
-use reader::packet::said_length;
+use reader::packet::{said_length, u16_at, u32_at};
 use reader::receiving::{Received, Receiving};
 use reader::serving::Serving;
+use reader::several::Stop;
 use std::hint::black_box;
 
 const TID: u32 = 0x2002;
@@ -237,6 +239,87 @@ fn receives(bench: &Bench, name: &str, packets: &[Vec<u8>], times: usize) {
     });
 }
 
+/// A stream of packets through the call for several until it is through, beside one Receive a packet, both of the library, and
+/// beside the model.
+fn bufferfuls(bench: &Bench, name: &str, stream: &[u8], times: usize) {
+    let mut model = Receiving::default();
+    model.open(&[1, 2, 3]).expect("an end");
+    let one = &mut model.open[1];
+    (one.mark, one.logged_in) = (Some(DAY), true);
+    let start = outside::ends::receiver(&model);
+    let mut buffers = [(); 3].map(|()| vec![0; 3 * 32_768]);
+    let [ours, singles, theirs] = &mut buffers;
+    let mut several = || {
+        let mut sum = 0;
+        for _ in 0..times {
+            let (mut end, mut at): (Receiver, usize) = (start, 0);
+            loop {
+                let answer = end.receive_several(&stream[at..], ours);
+                end = answer.end;
+                at += answer.taken;
+                sum += u64::from(answer.last) + answer.content.len as u64;
+                if answer.answer == SEVERAL_END {
+                    break;
+                }
+            }
+        }
+        sum
+    };
+    bench.compare_as(name, ["several", "singles"], &mut several, || {
+        let mut sum = 0;
+        for _ in 0..times {
+            let (mut end, mut at): (Receiver, usize) = (start, 0);
+            while at < stream.len() {
+                let length = outside::said_length(&stream[at..]);
+                let answer = end.receive(&stream[at..at + length], singles);
+                end = answer.end;
+                at += length;
+                if answer.answer == HANDED_ON {
+                    sum += u64::from(answer.last) + answer.content.len as u64;
+                }
+            }
+        }
+        sum
+    });
+    bench.compare(&format!("{name}, several"), &mut several, || {
+        let mut sum = 0;
+        for _ in 0..times {
+            let (mut end, mut at) = (model, 0);
+            loop {
+                let answer = end.receive_several(&stream[at..], theirs);
+                at += answer.taken;
+                match answer.stop {
+                    Stop::Message { last, len, .. } => sum += u64::from(last) + len as u64,
+                    Stop::Refused(_) | Stop::Short(_) => {}
+                    Stop::End => break,
+                }
+            }
+        }
+        sum
+    });
+}
+
+/// A stream of records in one call, beside one Publish a record, both of the library, and beside the model.
+fn record_bufferfuls(bench: &Bench, name: &str, content: &[u8], count: usize) {
+    let start = day(0, TID, &[], 1);
+    let records: Vec<u8> = (0..count).flat_map(|_| record(2, TID, content)).collect();
+    let mut logs = [(); 3].map(|()| vec![0; count * (16 + content.len())]);
+    let [ours, singles, theirs] = &mut logs;
+    let mut several = || start.library.publish_several(black_box(&records), ours).end.used as u64;
+    bench.compare_as(name, ["several", "singles"], &mut several, || {
+        let mut end = start.library;
+        for one in black_box(&records).chunks(10 + content.len()) {
+            end = end.publish(u16_at(one, 0), u32_at(one, 2), &one[10..], singles).end;
+        }
+        end.used as u64
+    });
+    bench.compare(&format!("{name}, several"), &mut several, || {
+        let mut end = start.model;
+        end.publish_several(black_box(&records), theirs);
+        end.day.map_or(0, |day| day.used as u64)
+    });
+}
+
 /// Connect: hardly more than the state, taken and given.
 fn connects(bench: &Bench, times: usize) {
     let mut start = Receiving::default();
@@ -359,6 +442,20 @@ fn main() {
     let chain = packets(1, &long);
     assert_eq!(chain.len(), 17);
     receives(&bench, "Receive, 17 packets", &chain, 100);
+    let megabyte: Vec<u8> = (1..)
+        .flat_map(|number| packets(number, &row))
+        .take_while({
+            let mut total = 0;
+            move |packet| {
+                total += packet.len();
+                total <= 1_000_000
+            }
+        })
+        .flatten()
+        .collect();
+    bufferfuls(&bench, "A megabyte of S", &megabyte, 1);
+    bufferfuls(&bench, "17 packets", &chain.concat(), 100);
+    record_bufferfuls(&bench, "1,000 records", &row, 1000);
     connects(&bench, 1000);
     logins(&bench, 1000);
 }

@@ -1,7 +1,8 @@
 //! The differential test of the two ends: `calls [CALLS [SEED]]`. Random lists of calls on both sides, the proved ends and the models;
-//! each difference is printed with the calls before it, and makes the run fail.
+//! each difference is printed with the calls before it, and makes the run fail. Then streams for a bufferful, cut at every place.
 
 use outside::calls::Lists;
+use outside::several::Cuts;
 use std::time::Instant;
 
 /// More differences than these aren't printed.
@@ -36,6 +37,20 @@ fn main() {
             _ => println!("  {call}: {name} {row} {n}"),
         }
     }
+    let (start, mut cuts) = (Instant::now(), Cuts::default());
+    if let Err(text) = cuts.streams(seed, (calls / 5000).clamp(20, 400)) {
+        differences += 1;
+        println!("DIFFERENCE in {text}");
+    }
+    println!(
+        "{} streams cut at {} places, {} calls, {} messages and {} refusals in them, {:.1} s",
+        cuts.streams,
+        cuts.places,
+        cuts.calls,
+        cuts.messages,
+        cuts.refusals,
+        start.elapsed().as_secs_f64()
+    );
     println!("{differences} differences");
     if differences > 0 {
         std::process::exit(1);

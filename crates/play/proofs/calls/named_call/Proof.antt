@@ -4,6 +4,7 @@ use Rattle.play.proofs.calls.Rows.{names-buffers, names-day, names-publ
 use Rattle.play.proofs.calls.Rows.{names-end, names-connect, names-ask, names-answer, names-receive}
 use Rattle.play.proofs.calls.Rows.{names-state, names-calendar, names-mark, names-none}
 use Rattle.play.proofs.calls.Rows.{names-book, names-take, names-level, names-mean}
+use Rattle.play.proofs.calls.Rows.{names-receive-all, names-publish-all}
 use Rattle.play.proofs.calls.named_call.Statement.{statement}
 use Rattle.play.proofs.calls.named_call.Tie as tie
 
@@ -244,6 +245,24 @@ has-form-requires-15 c κs = search needs
 plain-call-requires-5 : tie.Need-plain-call-requires-5
 plain-call-requires-5 c κs = search needs
 
+enum-told-19 : tie.Need-enum-told-19
+enum-told-19 c = search needs
+
+has-form-requires-16 : tie.Need-has-form-requires-16
+has-form-requires-16 c κs = search needs
+
+plain-call-requires-6 : tie.Need-plain-call-requires-6
+plain-call-requires-6 c κs = search needs
+
+enum-told-20 : tie.Need-enum-told-20
+enum-told-20 c = search needs
+
+has-form-requires-17 : tie.Need-has-form-requires-17
+has-form-requires-17 c κs = search needs
+
+plain-call-requires-7 : tie.Need-plain-call-requires-7
+plain-call-requires-7 c κs = search needs
+
 returns : tie.Need-returns
 returns c = search (needs, names-none)
 
@@ -297,6 +316,12 @@ returns-17 c = search (needs, names-level)
 
 returns-18 : tie.Need-returns-18
 returns-18 c = search (needs, names-mean)
+
+returns-19 : tie.Need-returns-19
+returns-19 c = search (needs, names-receive-all)
+
+returns-20 : tie.Need-returns-20
+returns-20 c = search (needs, names-publish-all)
 
 pub named-call-spec : {M : Type 1} → statement M
 named-call-spec =
@@ -381,6 +406,12 @@ named-call-spec =
     enum-told-18
     has-form-requires-15
     plain-call-requires-5
+    enum-told-19
+    has-form-requires-16
+    plain-call-requires-6
+    enum-told-20
+    has-form-requires-17
+    plain-call-requires-7
     returns
     returns-2
     returns-3
@@ -398,4 +429,6 @@ named-call-spec =
     returns-15
     returns-16
     returns-17
-    returns-18)
+    returns-18
+    returns-19
+    returns-20)

@@ -25,8 +25,8 @@ returns-2 : tie.Need-returns-2
 unfolding tradingVerbOf
 returns-2 c = search (needs, found, passed)
 
-book-verb-of-requires : tie.Need-book-verb-of-requires
-book-verb-of-requires c κs = search needs
+several-verb-of-requires : tie.Need-several-verb-of-requires
+several-verb-of-requires c κs = search needs
 
 returns-3 : tie.Need-returns-3
 unfolding tradingVerbOf
@@ -42,5 +42,5 @@ trading-verb-of-spec =
     slice-aggregate-is-word-2
     is-word-requires-2
     returns-2
-    book-verb-of-requires
+    several-verb-of-requires
     returns-3)

@@ -1,6 +1,6 @@
 -- `text::published_line` meets its contract. Assumes nothing.
 use borrow.Author.Needs.{needs}
-use Rattle.play.proofs.text.Turns.{published-as, published-not}
+use Rattle.play.proofs.text.Turns.{published-as, published-not, published-short}
 use Rattle.play.proofs.text.published_line.Statement.{statement}
 use Rattle.play.proofs.text.published_line.Tie as tie
 
@@ -26,13 +26,13 @@ same-length : tie.Need-same-length
 same-length c = search needs
 
 returns : tie.Need-returns
-returns c = (search (needs, published-as), search needs)
+returns c = (search (needs, published-as), search needs, search (needs, published-short))
 
 same-length-2 : tie.Need-same-length-2
 same-length-2 c = search needs
 
 returns-2 : tie.Need-returns-2
-returns-2 c = (search (needs, published-not), search needs)
+returns-2 c = (search (needs, published-not), search needs, search needs)
 
 pub published-line-spec : {M : Type 1} → statement M
 published-line-spec =

@@ -1,6 +1,7 @@
 -- `text::received_line` meets its contract. Assumes nothing.
 use borrow.Author.Needs.{needs}
 use Rattle.play.proofs.text.Turns.{received-idle, received-again, received-held, received-message, received-not}
+use Rattle.play.proofs.text.Turns.{passes-idle, passes-again, passes-held, stops-message, stops-refused, again-short, held-short}
 use Rattle.play.proofs.text.received_line.Statement.{statement}
 use Rattle.play.proofs.text.received_line.Tie as tie
 
@@ -53,31 +54,31 @@ same-length : tie.Need-same-length
 same-length c = search needs
 
 returns : tie.Need-returns
-returns c = (search (needs, received-idle), search needs)
+returns c = (search (needs, received-idle), search needs, search (needs, passes-idle))
 
 same-length-2 : tie.Need-same-length-2
 same-length-2 c = search needs
 
 returns-2 : tie.Need-returns-2
-returns-2 c = (search (needs, received-again), search needs)
+returns-2 c = (search (needs, received-again), search needs, search (needs, passes-again, again-short))
 
 same-length-3 : tie.Need-same-length-3
 same-length-3 c = search needs
 
 returns-3 : tie.Need-returns-3
-returns-3 c = (search (needs, received-held), search needs)
+returns-3 c = (search (needs, received-held), search needs, search (needs, passes-held, held-short))
 
 same-length-4 : tie.Need-same-length-4
 same-length-4 c = search needs
 
 returns-4 : tie.Need-returns-4
-returns-4 c = (search (needs, received-message), search needs)
+returns-4 c = (search (needs, received-message), search needs, search (needs, stops-message))
 
 same-length-5 : tie.Need-same-length-5
 same-length-5 c = search needs
 
 returns-5 : tie.Need-returns-5
-returns-5 c = (search (needs, received-not), search needs)
+returns-5 c = (search (needs, received-not), search needs, search (needs, stops-refused))
 
 pub received-line-spec : {M : Type 1} → statement M
 received-line-spec =

@@ -1,6 +1,6 @@
 -- `text::refused_line` meets its contract. Assumes nothing.
 use borrow.Author.Needs.{needs}
-use Rattle.play.proofs.text.Turns.{refused-is}
+use Rattle.play.proofs.text.Turns.{refused-is, refused-short}
 use Rattle.play.proofs.text.refused_line.Statement.{statement}
 use Rattle.play.proofs.text.refused_line.Tie as tie
 
@@ -20,7 +20,7 @@ same-length : tie.Need-same-length
 same-length c = search needs
 
 returns : tie.Need-returns
-returns c = (search (needs, refused-is), search needs)
+returns c = (search (needs, refused-is), search needs, search (needs, refused-short))
 
 pub refused-line-spec : {M : Type 1} → statement M
 refused-line-spec =

@@ -21,6 +21,7 @@ returns c = (
   wrote-both (omega arith) (c .before .before .before .before .before .before .put-word .ensures)
       (c .before .before .put-byte .ensures),
   search needs,
+  search needs,
 )
 
 pub word-line-spec : {M : Type 1} → statement M

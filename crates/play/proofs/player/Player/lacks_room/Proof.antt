@@ -1,5 +1,4 @@
 -- `player::Player::lacks_room` meets its contract. Assumes nothing.
-use borrow.Author.Needs.{needs}
 use Rattle.ftd.proofs.Tests.{tests}
 use Rattle.play.specs.Played.{lacksRoom}
 use Rattle.play.proofs.player.Player.lacks_room.Statement.{statement}
@@ -16,9 +15,6 @@ returns-2 c = search tests
 returns-3 : tie.Need-returns-3
 unfolding lacksRoom
 returns-3 c = search tests
-
-sub-if4 : tie.Need-sub-if4
-sub-if4 c = search needs
 
 returns-4 : tie.Need-returns-4
 unfolding lacksRoom
@@ -39,4 +35,4 @@ returns-7 c = search tests
 pub lacks-room-spec : {M : Type 1} → statement M
 lacks-room-spec =
     tie.close
-    (tie.spec returns returns-2 returns-3 sub-if4 returns-4 returns-5 returns-6 returns-7)
+    (tie.spec returns returns-2 returns-3 returns-4 returns-5 returns-6 returns-7)

@@ -6,6 +6,7 @@ use Rattle.play.proofs.player.Plays.{ready-bad, ready-buffers, ready-da
 use Rattle.play.proofs.player.Plays.{ready-send, ready-end, ready-connect, ready-ask, ready-answer}
 use Rattle.play.proofs.player.Plays.{ready-receive, ready-state, ready-calendar, ready-time, ready-date}
 use Rattle.play.proofs.player.Plays.{ready-book, ready-take, ready-level, ready-mean}
+use Rattle.play.proofs.player.Plays.{ready-receive-all, ready-publish-all}
 use Rattle.play.proofs.player.Player.play_ready.Statement.{statement}
 use Rattle.play.proofs.player.Player.play_ready.Tie as tie
 
@@ -122,6 +123,18 @@ enum-told-7 c = search needs
 
 show-mean-requires : tie.Need-show-mean-requires
 show-mean-requires c κs = search needs
+
+enum-told-8 : tie.Need-enum-told-8
+enum-told-8 c = search needs
+
+play-receive-all-requires : tie.Need-play-receive-all-requires
+play-receive-all-requires c κs = search needs
+
+enum-told-9 : tie.Need-enum-told-9
+enum-told-9 c = search needs
+
+play-publish-all-requires : tie.Need-play-publish-all-requires
+play-publish-all-requires c κs = search needs
 
 same-length : tie.Need-same-length
 same-length c = search needs
@@ -276,6 +289,30 @@ same-length-32 c = search needs
 returns-19 : tie.Need-returns-19
 returns-19 c = search (needs, ready-mean)
 
+same-length-33 : tie.Need-same-length-33
+same-length-33 c = search needs
+
+same-length-34 : tie.Need-same-length-34
+same-length-34 c = search needs
+
+same-length-35 : tie.Need-same-length-35
+same-length-35 c = search needs
+
+returns-20 : tie.Need-returns-20
+returns-20 c = search (needs, ready-receive-all)
+
+same-length-36 : tie.Need-same-length-36
+same-length-36 c = search needs
+
+same-length-37 : tie.Need-same-length-37
+same-length-37 c = search needs
+
+same-length-38 : tie.Need-same-length-38
+same-length-38 c = search needs
+
+returns-21 : tie.Need-returns-21
+returns-21 c = search (needs, ready-publish-all)
+
 pub play-ready-spec : {M : Type 1} → statement M
 play-ready-spec =
     tie.close
@@ -318,6 +355,10 @@ play-ready-spec =
     show-level-requires
     enum-told-7
     show-mean-requires
+    enum-told-8
+    play-receive-all-requires
+    enum-told-9
+    play-publish-all-requires
     same-length
     returns
     same-length-2
@@ -368,4 +409,12 @@ play-ready-spec =
     same-length-31
     returns-18
     same-length-32
-    returns-19)
+    returns-19
+    same-length-33
+    same-length-34
+    same-length-35
+    returns-20
+    same-length-36
+    same-length-37
+    same-length-38
+    returns-21)

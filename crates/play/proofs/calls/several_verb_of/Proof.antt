@@ -1,0 +1,46 @@
+-- `calls::several_verb_of` meets its contract. Assumes nothing.
+use borrow.Author.Needs.{needs}
+use Rattle.play.specs.Calls.{severalVerbOf}
+use Rattle.play.proofs.calls.Rows.{found, passed}
+use Rattle.play.proofs.calls.several_verb_of.Statement.{statement}
+use Rattle.play.proofs.calls.several_verb_of.Tie as tie
+
+slice-aggregate-is-word : tie.Need-slice-aggregate-is-word
+slice-aggregate-is-word c = search needs
+
+is-word-requires : tie.Need-is-word-requires
+is-word-requires c κs = search needs
+
+returns : tie.Need-returns
+unfolding severalVerbOf
+returns c = search (needs, found, passed)
+
+slice-aggregate-is-word-2 : tie.Need-slice-aggregate-is-word-2
+slice-aggregate-is-word-2 c = search needs
+
+is-word-requires-2 : tie.Need-is-word-requires-2
+is-word-requires-2 c κs = search needs
+
+returns-2 : tie.Need-returns-2
+unfolding severalVerbOf
+returns-2 c = search (needs, found, passed)
+
+book-verb-of-requires : tie.Need-book-verb-of-requires
+book-verb-of-requires c κs = search needs
+
+returns-3 : tie.Need-returns-3
+unfolding severalVerbOf
+returns-3 c = search (needs, found, passed)
+
+pub several-verb-of-spec : {M : Type 1} → statement M
+several-verb-of-spec =
+    tie.close
+    (tie.spec
+    slice-aggregate-is-word
+    is-word-requires
+    returns
+    slice-aggregate-is-word-2
+    is-word-requires-2
+    returns-2
+    book-verb-of-requires
+    returns-3)

@@ -1,0 +1,4 @@
+-- The laws of a bufferful.
+pub mod Lines
+pub mod Received
+pub mod Shown
