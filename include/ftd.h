@@ -692,8 +692,8 @@ struct ftd_book_step ftd_book_take(struct ftd_book book, uint32_t tid, const uin
  * answered. */
 struct ftd_listed ftd_book_level(struct ftd_book book, uint8_t side, size_t place);
 
-/* Mean: the mean match price since ftd_book_start, turnover over volume, cut toward zero; none without volume. The book
- * stays as it is, and isn't answered. */
+/* Mean: the mean match price since ftd_book_start, turnover over volume, to the nearest 0.0001 and at the exact half to the
+ * even last digit; none without volume. The book stays as it is, and isn't answered. */
 struct ftd_mean ftd_book_mean(struct ftd_book book);
 
 #ifdef __cplusplus

@@ -904,10 +904,10 @@ static void book_sums(void) {
     int i;
 
     EXPECT(trade(&book, 0, P) == 0 && ftd_book_mean(book).found == 0 && trade(&book, 5, P) == 0);
-    EXPECT(trade(&book, 3, 1234600) == 0 && book.turnover == 9876300 && book.volume == 8 && mean_is(book, 1234537));
+    EXPECT(trade(&book, 3, 1234600) == 0 && book.turnover == 9876300 && book.volume == 8 && mean_is(book, 1234538));
     book = started();
     EXPECT(trade(&book, 1, -1) == 0 && mean_is(book, -1) && trade(&book, 1, 0) == 0 && mean_is(book, 0));
-    EXPECT(trade(&book, 1, -4) == 0 && mean_is(book, -1)); /* -5 units over 3 */
+    EXPECT(trade(&book, 1, -4) == 0 && mean_is(book, -2)); /* -5 units over 3 */
     book = started();
     for (i = 0; i < 90; i++)
         match(own, FTD_MOST_VOLUME, 99999999999);

@@ -5,7 +5,7 @@ use Rattle.ftd.specs.Content.{contentCheck}
 use Rattle.ftd.proofs.Opened.{opened}
 use Rattle.book.specs.Levels.{better, samePrice, isFull, heldBy, quantityAt, inserted, removed, putAt, placed}
 use Rattle.book.specs.Quantity.{twos, newOf, lacks}
-use Rattle.book.specs.Sums.{beyond, addedTo, summedWith, meanOf}
+use Rattle.book.specs.Sums.{beyond, addedTo, summedWith, goesUp, nearestOf, meanOf}
 use Rattle.book.specs.Event.{priceOf, faced, sided, quotationIn, matchIn, eventOf}
 use Rattle.book.specs.Calls.{oneMore, quoteOn, quotationOn, lowered, matchCheck, matchSummed, matchOn, applied}
 use Rattle.book.specs.Calls.{eventsOf, takeOf, bookMean}
@@ -13,6 +13,6 @@ use Rattle.book.specs.Examples.{examples, Examples}
 
 pub examples-hold : Examples
 unfolding opened fieldWith numberBytes floatBytes contentCheck better samePrice isFull heldBy quantityAt inserted removed
-    putAt placed twos newOf lacks beyond addedTo summedWith meanOf priceOf faced sided quotationIn matchIn eventOf oneMore
+    putAt placed twos newOf lacks beyond addedTo summedWith goesUp nearestOf meanOf priceOf faced sided quotationIn matchIn eventOf oneMore
     quoteOn quotationOn lowered matchCheck matchSummed matchOn applied eventsOf takeOf bookMean examples
 examples-hold = tt

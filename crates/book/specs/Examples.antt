@@ -1,4 +1,4 @@
--- Worked examples of request No. 2, computed over the definitions; the others are run by the program `bookcheck`.
+-- Worked examples of requests No. 2 and No. 9, computed over the definitions; the others are run by the program `bookcheck`.
 use Prim.Native.Nat.{ℕ, suc, _-_}
 use mathlib.Core.List.{List, [], _∷_, _++_}
 use mathlib.Core.Bool.{Bool, true, false, cond, _&&_}
@@ -19,7 +19,7 @@ use Rattle.book.specs.declared.calls.Step.{Step}
 use Rattle.book.specs.declared.sums.Total.{Total}
 use Rattle.book.specs.declared.sums.Total.the-variants.{Beyond, Within}
 use Rattle.book.specs.Levels.{used}
-use Rattle.book.specs.Sums.{addedTo}
+use Rattle.book.specs.Sums.{addedTo, meanOf}
 use Rattle.book.specs.Calls.{started, takeOf, bookMean}
 
 -- ─── Messages ───
@@ -175,11 +175,11 @@ examples =
     ∷ meets (met 1000001 10000 ∷ met 9 p ∷ []) (says 24 (level 5 p) none none)
     ∷ meets (met 9 p ∷ met 1000001 10000 ∷ []) (says 22 (level 5 p) none none)
     ∷ [])
-    -- 16 and 17 the mean, cut toward zero
-    ∷ (meets (met 5 p ∷ met 3 1234600 ∷ []) (says 0 none none (mean 1234537)) ∷ [])
+    -- 16 and 17 the mean, to the nearest
+    ∷ (meets (met 5 p ∷ met 3 1234600 ∷ []) (says 0 none none (mean 1234538)) ∷ [])
     ∷ (meets (metBelow 1 1 ∷ []) (says 0 none none (meanBelow 1))
     ∷ meets (met 1 0 ∷ []) (says 0 none none (mean 0))
-    ∷ meets (metBelow 1 4 ∷ []) (says 0 none none (meanBelow 1))
+    ∷ meets (metBelow 1 4 ∷ []) (says 0 none none (meanBelow 2))
     ∷ [])
     -- 18 no mean without volume
     ∷ (meets (met 0 p ∷ []) (says 0 none none none) ∷ meets (met 1 0 ∷ []) (says 0 none none (mean 0)) ∷ [])
@@ -229,6 +229,52 @@ abbrev pub rightSums : List Addition → Bool
 rightSums [] = true
 rightSums (a ∷ rest) = same (totalShown (addedTo (a .sum) (a .more))) (a .paper) && rightSums rest
 
+-- ─── The mean to the nearest (request No. 9) ───
+
+-- The sum of price times volume, the sum of volumes, and the mean as it is shown.
+pub record Quotient : Type 0 where
+  pub sum : ℤ
+  pub volume : ℤ
+  pub paper : List ℕ
+
+abbrev pub ratio : ℤ → ℤ → List ℕ → Quotient
+ratio sum volume paper = record { sum = sum; volume = volume; paper = paper }
+
+-- Halves go to the even number, on either side of zero; what is above the half goes up, though its double has 65 bits.
+abbrev pub quotients : List Quotient
+quotients =
+    ratio (pos 3) (pos 2) (mean 2)
+    ∷ ratio (pos 1) (pos 2) (mean 0)
+    ∷ ratio (pos 5) (pos 2) (mean 2)
+    ∷ ratio (pos 7) (pos 2) (mean 4)
+    ∷ ratio (negsuc 0) (pos 2) (mean 0)
+    ∷ ratio (negsuc 2) (pos 2) (meanBelow 2)
+    ∷ ratio (negsuc 4) (pos 2) (meanBelow 2)
+    ∷ ratio (negsuc 6) (pos 2) (meanBelow 4)
+    ∷ ratio (pos 10) (pos 4) (mean 2)
+    ∷ ratio (pos 14) (pos 4) (mean 4)
+    ∷ ratio (pos 25) (pos 10) (mean 2)
+    ∷ ratio (pos 15) (pos 10) (mean 2)
+    ∷ ratio (pos 2) (pos 3) (mean 1)
+    ∷ ratio (pos 1) (pos 3) (mean 0)
+    ∷ ratio (negsuc 1) (pos 3) (meanBelow 1)
+    ∷ ratio (negsuc 4) (pos 3) (meanBelow 2)
+    ∷ ratio (pos 0) (pos 5) (mean 0)
+    ∷ ratio (pos 0) (pos 0) none
+    ∷ ratio (pos 9876300) (pos 8) (mean 1234538)
+    ∷ ratio (pos 9876308) (pos 8) (mean 1234538)
+    ∷ ratio (pos 9000000000000000000) (pos 91000000) (mean 98901098901)
+    ∷ ratio (pos 4500000000000000000) (pos 9000000000000000000) (mean 0)
+    ∷ ratio (pos 4500000000000000001) (pos 9000000000000000000) (mean 1)
+    ∷ ratio (pos 8000000000000000000) (pos 9000000000000000000) (mean 1)
+    ∷ ratio (pos 4500000000000000000) (pos 3000000000000000000) (mean 2)
+    ∷ ratio (pos 8999999999999999999) (pos 2) (mean 4500000000000000000)
+    ∷ []
+
+abbrev pub rightMeans : List Quotient → Bool
+rightMeans [] = true
+rightMeans (q ∷ rest) = same (meanShown (meanOf (q .sum) (q .volume))) (q .paper) && rightMeans rest
+
 -- ─── The test ───
 
 abbrev pub rightAfter : Book → List Line → Bool
@@ -241,6 +287,6 @@ abbrev pub allRight : List (List Line) → Bool
 allRight [] = true
 allRight (ls ∷ rest) = rightAfter (started code) ls && allRight rest
 
--- Each call of each row is answered, and shows, what the paper says; so do the sums at their limits.
+-- Each call of each row is answered, and shows, what the paper says; so do the sums at their limits, and the means.
 abbrev pub Examples : Type 0
-Examples = T (allRight examples && rightSums additions)
+Examples = T (allRight examples && (rightSums additions && rightMeans quotients))

@@ -1,7 +1,10 @@
--- The sums of price times volume and of volumes over the day's matches, and their mean (request No. 2).
-use mathlib.Core.Bool.{Bool, true, cond}
-use lib.IntN.{ℤ, pos, negsuc, _+ℤ_, _*ℤ_}
-use lib.Signed.{ltZ, quotZ}
+-- The sums of price times volume and of volumes over the day's matches (request No. 2), and their mean (No. 9).
+pub mod Laws
+use Prim.Native.Nat.{ℕ, _+_, _-_, _/_, _%_}
+use mathlib.Core.Bool.{Bool, true, false, cond}
+use lib.IntN.{ℤ, pos, negsuc, negℤ, natAbs, _+ℤ_, _*ℤ_}
+use lib.Signed.{ltZ}
+use lib.Dec.{ltb, eqb}
 use Rattle.book.specs.declared.levels.Level.{Level}
 use Rattle.book.specs.declared.sums.Sums.{Sums}
 use Rattle.book.specs.declared.sums.Totals.{Totals}
@@ -31,6 +34,21 @@ bothOf (Within turnover) (Within volume) = Both (record { turnover = turnover; v
 unfoldable pub summedWith : Sums → Level → Totals
 summedWith s o = bothOf (addedTo (s .turnover) (o .price *ℤ pos (o .quantity))) (addedTo (s .volume) (pos (o .quantity)))
 
--- The mean match price: the sum of price times volume over the sum of volumes, cut toward zero; none without volume.
+-- ─── The mean, to the nearest 0.0001 and at the exact half to the even last digit (request No. 9) ───
+
+-- A quotient cut down is one too low: what remains is above half the volume, or is the half, and the quotient is odd.
+unfoldable pub goesUp : ℕ → ℕ → ℕ → Bool
+goesUp q r v = cond (ltb (v - r) r) true (cond (ltb r (v - r)) false (eqb (q % 2) 1))
+
+-- The whole number nearest to a size over a volume.
+unfoldable pub nearestOf : ℕ → ℕ → ℕ
+nearestOf size v = cond (goesUp (size / v) (size % v) v) (size / v + 1) (size / v)
+
+-- A size with the sign of a sum.
+abbrev pub withSign : ℤ → ℕ → ℤ
+withSign (pos n) size = pos size
+withSign (negsuc n) size = negℤ (pos size)
+
+-- The mean match price: the sum of price times volume over the sum of volumes, to the nearest; none without volume.
 unfoldable pub meanOf : ℤ → ℤ → Mean
-meanOf sum volume = cond (ltZ (pos 0) volume) (Price (quotZ sum volume)) NoMean
+meanOf sum volume = cond (ltZ (pos 0) volume) (Price (withSign sum (nearestOf (natAbs sum) (natAbs volume)))) NoMean

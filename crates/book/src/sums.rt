@@ -1,8 +1,9 @@
 // The sums of price times volume and of volumes, and their mean.
 ghost use mathlib.Core.Path.{_≡_};
-ghost use Prim.Native.Nat.{_≤_};
+ghost use Prim.Native.Nat.{_<_, _≤_};
 ghost use lib.IntN.{pos, natAbs, _*ℤ_};
-ghost use Rattle.book.specs.Sums.{noSums, beyond, addedTo, summedWith, meanOf};
+ghost use Rattle.book.specs.Sums.{noSums, beyond, addedTo, summedWith, goesUp, nearestOf, withSign, meanOf};
+ghost use Rattle.book.specs.Sums.Laws.{MeanLaws};
 use crate::levels::Level;
 
 // The sums over the day's matches: price times volume, in units of 0.0001, and volume.
@@ -109,12 +110,63 @@ pub(crate) fn add_match(sums: Sums, offer: Level) -> Totals
     }
 }
 
+// The size of a number, of the least one too.
+fn size_of(x: i64) -> u64
+    ensures { λ r. ⌜ r ≡ natAbs x ⌝ }
+{
+    if x < 0 {
+        return (-1 - x) as u64 + 1;
+    }
+    x as u64
+}
+
+// A size with the sign of a sum.
+fn with_sign(sum: i64, size: u64) -> i64
+    requires { ⌜ size ≤ natAbs sum ⌝ }
+    ensures { λ r. ⌜ r ≡ withSign sum size ⌝ }
+{
+    if sum < 0 {
+        if 0 < size {
+            return -1 - (size - 1) as i64;
+        }
+        return 0;
+    }
+    size as i64
+}
+
+// A quotient cut down is one too low. The remainder is compared with what it leaves of the volume: its double may not fit.
+fn goes_up(quotient: u64, remainder: u64, volume: u64) -> bool
+    requires { ⌜ remainder ≤ volume ⌝ }
+    ensures { λ r. ⌜ r ≡ goesUp quotient remainder volume ⌝ }
+{
+    let left = volume - remainder;
+    if left < remainder {
+        return true;
+    }
+    if remainder < left {
+        return false;
+    }
+    quotient % 2 == 1
+}
+
+// The whole number nearest to a size over a volume, at the exact half the even one.
+fn nearest(size: u64, volume: u64) -> u64
+    requires { ⌜ 0 < volume ⌝ }
+    ensures { λ r. ⌜ (r ≡ nearestOf size volume) × (r ≤ size) ⌝ }
+{
+    let quotient = size / volume;
+    if goes_up(quotient, size % volume, volume) {
+        return quotient + 1;
+    }
+    quotient
+}
+
 // The mean of two sums.
 fn mean_of(sum: i64, volume: i64) -> Mean
     ensures { λ r. ⌜ r ≡ meanOf sum volume ⌝ }
 {
     if 0 < volume {
-        return Mean::Price(sum / volume);
+        return Mean::Price(with_sign(sum, nearest(size_of(sum), size_of(volume))));
     }
     Mean::NoMean
 }
@@ -125,3 +177,8 @@ pub(crate) fn sums_mean(sums: Sums) -> Mean
 {
     mean_of(sums.turnover, sums.volume)
 }
+
+// What the mean is, as a promise.
+pub fn keeps_mean_laws()
+    ensures { λ _. ⌜ MeanLaws ⌝ }
+{}

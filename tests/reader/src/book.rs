@@ -1,5 +1,5 @@
 //! A book beside the flow (request No. 2), with sorted vectors: the levels of one contract from quotations and matches,
-//! and the mean match price.
+//! and the mean match price (to the nearest: request No. 9).
 
 use crate::makeup::{check, Direction};
 use crate::packet::{fields, u32_at};
@@ -59,6 +59,14 @@ fn price(bytes: &[u8]) -> i64 {
     } else {
         units
     }
+}
+
+/// The whole number nearest to a quotient, of two that are equally near the even one: chosen between the two around it.
+pub fn nearest(sum: i128, volume: i128) -> i64 {
+    let below = sum.div_euclid(volume);
+    let off = |n: i128| (n * volume - sum).abs();
+    let nearest = [below, below + 1].into_iter().min_by_key(|&n| (off(n), n.rem_euclid(2)));
+    nearest.expect("one of two") as i64
 }
 
 impl Book {
@@ -162,8 +170,8 @@ impl Book {
         (self.turnover as i64, self.volume as i64)
     }
 
-    /// Mean: the sum of price times volume over the sum of volumes, cut toward zero.
+    /// Mean: the sum of price times volume over the sum of volumes, to the nearest (request No. 9).
     pub fn mean(&self) -> Option<i64> {
-        (self.volume > 0).then(|| (self.turnover / self.volume) as i64)
+        (self.volume > 0).then(|| nearest(self.turnover, self.volume))
     }
 }

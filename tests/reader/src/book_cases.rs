@@ -1,4 +1,4 @@
-//! The worked examples of request No. 2, each with its answers written by hand, as calls of a book.
+//! The worked examples of request No. 2 (and of No. 9: the mean), each with its answers written by hand, as calls of a book.
 //!
 //! A message is written as its fields parted by commas: `B=10@123.4500` an absolute buying quotation, `B+2@..` and `B-3@..`
 //! increments, `S` likewise selling, `M5@..` a match; a `'` in front names another contract.
@@ -225,11 +225,11 @@ fn sums(c: &mut Cases) {
     c.raw(0x2002, content("M1@-0.0001"), 24, None);
     c.row(16);
     c.take("M5@123.4500", 0, "||1234500");
-    c.take("M3@123.4600", 0, "||1234537");
+    c.take("M3@123.4600", 0, "||1234538");
     c.row(17);
     c.take("M1@-0.0001", 0, "||-1");
     c.take("M1@0.0000", 0, "||0");
-    c.take("M1@-0.0004", 0, "||-1");
+    c.take("M1@-0.0004", 0, "||-2");
     c.row(18);
     c.take("M0@123.4500", 0, "||-");
     c.take("M1@0.0000", 0, "||0");
@@ -278,7 +278,32 @@ fn others(c: &mut Cases) {
     c.start(b"cu0405   \xff", 0);
 }
 
-/// Rows 1 to 23.
+/// Row 24, of request No. 9: the mean to the nearest, at the exact half to the even last digit.
+fn means(c: &mut Cases) {
+    for (text, shown) in [
+        ("M1@0.0001, M1@0.0002", "||2"),
+        ("M1@0.0000, M1@0.0001", "||0"),
+        ("M1@0.0002, M1@0.0003", "||2"),
+        ("M1@0.0003, M1@0.0004", "||4"),
+        ("M1@0.0000, M1@-0.0001", "||0"),
+        ("M1@-0.0001, M1@-0.0002", "||-2"),
+        ("M1@-0.0002, M1@-0.0003", "||-2"),
+        ("M1@-0.0003, M1@-0.0004", "||-4"),
+        ("M2@0.0002, M2@0.0003", "||2"),
+        ("M2@0.0003, M2@0.0004", "||4"),
+        ("M5@0.0002, M5@0.0003", "||2"),
+        ("M5@0.0001, M5@0.0002", "||2"),
+        ("M1@0.0000, M2@0.0001", "||1"),
+        ("M2@0.0000, M1@0.0001", "||0"),
+        ("M1@0.0000, M2@-0.0001", "||-1"),
+        ("M4@123.4500, M4@123.4577", "||1234538"),
+    ] {
+        c.row(24);
+        c.take(text, 0, shown);
+    }
+}
+
+/// Rows 1 to 24.
 pub fn cases() -> Vec<Case> {
     let mut c = Cases { row: 0, all: Vec::new() };
     quotations(&mut c);
@@ -286,6 +311,7 @@ pub fn cases() -> Vec<Case> {
     levels(&mut c);
     sums(&mut c);
     others(&mut c);
+    means(&mut c);
     c.all
 }
 

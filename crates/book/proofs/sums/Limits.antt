@@ -1,17 +1,17 @@
 -- Signed sums and products of sixty-four bits. Assumes nothing.
-use Prim.Native.Nat.{ℕ, zero, suc, _+_, _-_, _*_, _/_, _<_, _≤_}
+use Prim.Native.Nat.{ℕ, zero, suc, _+_, _-_, _*_, _<_, _≤_}
 use mathlib.Core.Path.{_≡_, refl, sym, ap, _∙_}
 use mathlib.Core.Bool.{Bool, true, false, cond, false≢true}
 use native.Mathlib.Omega.{arith}
-use native.Mathlib.Nat.{mul-le-mul, div-le-self}
-use borrow.Author.Tests.{ltb-true, ltb-false}
-use lib.IntN.{ℤ, pos, negsuc, negℤ, natAbs, subℕ, _+ℤ_, _*ℤ_}
-use lib.Signed.{ltZ, quotZ}
-use lib.Dec.{ltb}
+use native.Mathlib.Nat.{mul-le-mul, zero-add}
+use borrow.Author.Tests.{ltb-true, ltb-false, le-ltb}
+use lib.IntN.{ℤ, pos, negsuc, negℤ, natAbs, subℕ, _+ℤ_, _-ℤ_, _*ℤ_}
+use lib.Signed.{ltZ, nonNeg}
+use lib.Dec.{T, ltb}
 use mir.Syntax.{w64}
-use mir.Val.{toZ, ofZ, SFits}
-use mir.ValLaws.{toZ-ofZ}
-use Rattle.book.specs.Sums.{beyond, addedTo, meanOf}
+use mir.Val.{toZ, ofZ, SFits, Fits}
+use mir.ValLaws.{toZ-ofZ, toZ-pos}
+use Rattle.book.specs.Sums.{beyond, addedTo, nearestOf, withSign, meanOf}
 use Rattle.book.specs.declared.sums.Total.{Total}
 use Rattle.book.specs.declared.sums.Total.the-variants.{Beyond, Within}
 use Rattle.book.specs.declared.sums.Mean.{Mean}
@@ -136,48 +136,140 @@ module _ (z y : ℤ) (e : y ≡ z) where
   unfolding beyond
   beyond-below t = rw (← e, t)
 
+-- ─── Sizes and signs ───
+
+-- One below the negative: the size less one.
+minus-one : (k : ℕ) → negsuc 0 -ℤ pos k ≡ negsuc k
+minus-one zero = refl
+minus-one (suc k) = ap (λ (n : ℕ). negsuc (suc n)) (zero-add k)
+
+from-one : (n : ℕ) → negsuc 0 -ℤ negsuc n ≡ pos n
+from-one n = rw (le-ltb (suc n) 1 (omega arith)) (ap pos (omega arith))
+
+wide-size : (n : ℕ) → n < 9223372036854775808 → (y : ℤ) → y ≡ pos n → T (nonNeg y) × Fits w64 (natAbs y)
+wide-size n h y e = rw e (tt, record { fits = omega arith })
+
+module _ (x : ℤ) (f : SFits w64 x) where
+  module _ (t : ltZ (toZ w64 (ofZ w64 x)) (pos 0) ≡ true) where
+    minus : (n : ℕ) × (x ≡ negsuc n) × (n < 9223372036854775808)
+    minus = go x f (rw (plain x f) at t)
+      where
+        go : (x : ℤ) → SFits w64 x → ltZ x (pos 0) ≡ true → (n : ℕ) × (x ≡ negsuc n) × (n < 9223372036854775808)
+        go (pos n) f t = absurd (omega (arith, ltb-true n 0 t))
+        go (negsuc n) f t = (n, refl, omega (arith, f .sfits))
+
+    turned : negsuc 0 -ℤ toZ w64 (ofZ w64 x) ≡ pos (minus .0)
+    turned = ap (λ (y : ℤ). negsuc 0 -ℤ y) (plain x f ∙ minus .1) ∙ from-one (minus .0)
+
+    pub size-fits : SFits w64 (negsuc 0 -ℤ toZ w64 (ofZ w64 x))
+    size-fits = rw turned (record { sfits = omega (arith, minus .2) })
+
+    turned-again : toZ w64 (ofZ w64 (negsuc 0 -ℤ toZ w64 (ofZ w64 x))) ≡ pos (minus .0)
+    turned-again = plain (negsuc 0 -ℤ toZ w64 (ofZ w64 x)) size-fits ∙ turned
+
+    pub size-casts : T (nonNeg (toZ w64 (ofZ w64 (negsuc 0 -ℤ toZ w64 (ofZ w64 x)))))
+        × Fits w64 (natAbs (toZ w64 (ofZ w64 (negsuc 0 -ℤ toZ w64 (ofZ w64 x)))))
+    size-casts = wide-size (minus .0) (minus .2) _ turned-again
+
+    pub size-adds : Fits w64 (natAbs (toZ w64 (ofZ w64 (negsuc 0 -ℤ toZ w64 (ofZ w64 x)))) + 1)
+    size-adds = rw turned-again (record { fits = omega (arith, minus .2) })
+
+    pub size-below : natAbs (toZ w64 (ofZ w64 (negsuc 0 -ℤ toZ w64 (ofZ w64 x)))) + 1 ≡ natAbs x
+    size-below =
+        let e : minus .0 + 1 ≡ suc (minus .0) = omega arith in
+        ap (λ (y : ℤ). natAbs y + 1) turned-again ∙ e ∙ sym (ap natAbs (minus .1))
+
+  module _ (t : ltZ (toZ w64 (ofZ w64 x)) (pos 0) ≡ false) where
+    plus : (n : ℕ) × (x ≡ pos n) × (n < 9223372036854775808)
+    plus = go x f (rw (plain x f) at t)
+      where
+        go : (x : ℤ) → SFits w64 x → ltZ x (pos 0) ≡ false → (n : ℕ) × (x ≡ pos n) × (n < 9223372036854775808)
+        go (pos n) f t = (n, refl, omega (arith, f .sfits))
+        go (negsuc n) f t = absurd (false≢true (sym t))
+
+    pub size-wide : T (nonNeg (toZ w64 (ofZ w64 x))) × Fits w64 (natAbs (toZ w64 (ofZ w64 x)))
+    size-wide = wide-size (plus .0) (plus .2) (toZ w64 (ofZ w64 x)) (plain x f ∙ plus .1)
+
+-- A size no larger than a sum's, with its sign.
+pub signed-fits : (s : ℤ) (n : ℕ) → SFits w64 s → n ≤ natAbs s → SFits w64 (withSign s n)
+signed-fits (pos a) n f h = record { sfits = omega (arith, f .sfits) }
+signed-fits (negsuc a) zero f h = record { sfits = omega arith }
+signed-fits (negsuc a) (suc n) f h = record { sfits = omega (arith, f .sfits) }
+
+module _ (s : ℤ) (n : ℕ) (f : SFits w64 s) (h : n ≤ natAbs s) where
+  module _ (t : ltZ (toZ w64 (ofZ w64 s)) (pos 0) ≡ true) where
+    n-small : n ≤ 9223372036854775808
+    n-small =
+        let e : natAbs s ≡ suc (minus s f t .0) = ap natAbs (minus s f t .1) in
+        omega (arith, h, e, minus s f t .2)
+
+    module _ (k : 0 < n) where
+      pub sign-casts : SFits w64 (pos (n - 1))
+      sign-casts = record { sfits = omega (arith, n-small) }
+
+      below-it : negsuc 0 -ℤ toZ w64 (n - 1) ≡ negsuc (n - 1)
+      below-it = rw (toZ-pos w64 (n - 1) (omega (arith, n-small))) (minus-one (n - 1))
+
+      pub sign-subtracts : SFits w64 (negsuc 0 -ℤ toZ w64 (n - 1))
+      sign-subtracts = rw below-it (record { sfits = omega (arith, n-small) })
+
+      pub sign-below : toZ w64 (ofZ w64 (negsuc 0 -ℤ toZ w64 (n - 1))) ≡ withSign s n
+      sign-below =
+          plain (negsuc 0 -ℤ toZ w64 (n - 1)) sign-subtracts ∙ below-it ∙ go n k
+          ∙ sym (ap (λ (y : ℤ). withSign y n) (minus s f t .1))
+        where
+          go : (n : ℕ) → 0 < n → negsuc (n - 1) ≡ negℤ (pos n)
+          go zero k = absurd (omega arith)
+          go (suc n) k = ap negsuc (omega arith)
+
+    pub sign-zero : n ≤ 0 → pos 0 ≡ withSign s n
+    sign-zero k =
+        let e : n ≡ 0 = omega arith in
+        rw (e, minus s f t .1)
+
+  module _ (t : ltZ (toZ w64 (ofZ w64 s)) (pos 0) ≡ false) where
+    n-half : n < 9223372036854775808
+    n-half =
+        let e : natAbs s ≡ plus s f t .0 = ap natAbs (plus s f t .1) in
+        omega (arith, h, e, plus s f t .2)
+
+    pub sign-wide : SFits w64 (pos n)
+    sign-wide = record { sfits = omega (arith, n-half) }
+
+    pub sign-above : toZ w64 n ≡ withSign s n
+    sign-above = toZ-pos w64 n (omega (arith, n-half)) ∙ sym (ap (λ (y : ℤ). withSign y n) (plus s f t .1))
+
 -- ─── The mean ───
 
-mean-fits : (s : ℤ) (v : ℕ) → SFits w64 s → SFits w64 (quotZ s (pos v))
-mean-fits (pos a) v f = record { sfits = omega (arith, div-le-self a v, f .sfits) }
-mean-fits (negsuc a) v f = go (suc a / v) (div-le-self (suc a) v)
-  where
-    go : (q : ℕ) → q ≤ suc a → SFits w64 (negℤ (pos q))
-    go zero h = record { sfits = omega arith }
-    go (suc q) h = record { sfits = omega (arith, f .sfits) }
+-- A volume that the test passes is above zero.
+pub positive : (v : ℤ) → ltZ (pos 0) v ≡ true → 0 < natAbs v
+positive (pos n) t = ltb-true 0 n t
+positive (negsuc n) t = absurd (false≢true t)
 
 module _ (s v : ℤ) (f : SFits w64 s) (g : SFits w64 v) where
-  same-sum : toZ w64 (ofZ w64 s) ≡ s
-  same-sum = toZ-ofZ w64 s f
-
-  same-volume : toZ w64 (ofZ w64 v) ≡ v
-  same-volume = toZ-ofZ w64 v g
-
   module _ (t : ltZ (pos 0) (toZ w64 (ofZ w64 v)) ≡ true) where
-    above : (v : ℤ) → ltZ (pos 0) v ≡ true → (n : ℕ) × (v ≡ pos (suc n))
-    above (pos zero) t = absurd (omega (arith, ltb-true 0 0 t))
-    above (pos (suc n)) t = (n, refl)
-    above (negsuc n) t = absurd (false≢true t)
+    pub volume-above : (y : ℕ) → y ≡ natAbs (toZ w64 (ofZ w64 v)) → 0 < y
+    volume-above y e = rw e (positive (toZ w64 (ofZ w64 v)) t)
 
-    is-above : (n : ℕ) × (v ≡ pos (suc n))
-    is-above = above v (rw same-volume at t)
-
-    quot-fits : SFits w64 (quotZ s v)
-    quot-fits = rw (is-above .1) (mean-fits s (suc (is-above .0)) f)
-
-    pub mean-divides : (0 < ofZ w64 v) × SFits w64 (quotZ (toZ w64 (ofZ w64 s)) (toZ w64 (ofZ w64 v)))
-    mean-divides = (rw (is-above .1) (omega arith), rw (same-sum, same-volume) quot-fits)
-
-    pub mean-some : Price (toZ w64 (ofZ w64 (quotZ (toZ w64 (ofZ w64 s)) (toZ w64 (ofZ w64 v))))) ≡ meanOf s v
+    pub mean-some : (x y n : ℕ) (m : ℤ) → x ≡ natAbs (toZ w64 (ofZ w64 s)) → y ≡ natAbs (toZ w64 (ofZ w64 v))
+        → n ≡ nearestOf x y
+        → n ≤ x
+        → m ≡ withSign (toZ w64 (ofZ w64 s)) n
+        → Price (toZ w64 (ofZ w64 m)) ≡ meanOf s v
     unfolding meanOf
-    mean-some =
-        let b : ltZ (pos 0) v ≡ true = rw same-volume at t in
-        rw (same-sum, same-volume, toZ-ofZ w64 (quotZ s v) quot-fits, b)
+    mean-some x y n m a b c d e =
+        let b′ : y ≡ natAbs v = rw (plain v g) at b in
+        let a′ : x ≡ natAbs s = rw (plain s f) at a in
+        let e′ : m ≡ withSign s n = rw (plain s f) at e in
+        let c′ : n ≡ nearestOf (natAbs s) (natAbs v) = rw (a′, b′) at c in
+        let u : ltZ (pos 0) v ≡ true = rw (plain v g) at t in
+        let z : toZ w64 (ofZ w64 m) ≡ m = rw e′ (plain (withSign s n) (signed-fits s n f (omega (arith, a′, d)))) in
+        ap Price (z ∙ e′ ∙ ap (λ (i : ℕ). withSign s i) c′) ∙ sym (rw u)
 
   pub mean-none : ltZ (pos 0) (toZ w64 (ofZ w64 v)) ≡ false → NoMean ≡ meanOf s v
   unfolding meanOf
   mean-none t =
-      let b : ltZ (pos 0) v ≡ false = rw same-volume at t in
+      let b : ltZ (pos 0) v ≡ false = rw (plain v g) at t in
       rw b
 
 -- Of the sums as the program holds them.

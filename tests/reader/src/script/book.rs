@@ -66,7 +66,7 @@ fn best_first(s: &mut Script) {
     s.level(Selling, 1, "level 124.0000 2");
     s.level(Selling, 2, "none");
     s.take(0x2002, &content("M5@123.4500, M3@123.4600"), "taken");
-    s.mean("mean 123.4537");
+    s.mean("mean 123.4538");
     s.level(Buying, 1, "level 123.4500 5");
     for i in [63, 64, 4_294_967_295] {
         s.level(Buying, i, "none");
@@ -105,7 +105,7 @@ fn lowest(s: &mut Script) {
     s.take(0x2002, &content("M1@0.0000"), "taken");
     s.mean("mean 0.0000");
     s.take(0x2002, &content("M1@-0.0004"), "taken");
-    s.mean("mean -0.0001");
+    s.mean("mean -0.0002");
 }
 
 /// Up to the limit of the sum and no further.
