@@ -1,12 +1,13 @@
 /* The FTD flow repeater (JR/T 0016-2004) for C and C++: packets, data fields and items, the two ends of a flow, the
- * trading calendar, and the book of a contract.
+ * trading calendar, and the book of a contract; and for the frames of JR/T 0087-2012, after FIX 4.2.
  *
  * The library is libftd.a, for x86-64 Linux; README.md has the lines that build and link it. Of other libraries it
  * needs memcpy, memmove and memset alone. It keeps no state, takes no memory from the heap and at most 5500 bytes of
- * stack (ftd_book_take: 20000), makes no system call and always returns: each call has an answer for any bytes and
+ * stack (ftd_book_take: 22000), makes no system call and always returns: each call has an answer for any bytes and
  * numbers, and is proved to give the answer, the state and every byte of every buffer that its definition says
- * (crates/exports/specs, crates/flow/specs, crates/calendar/specs, crates/book/specs, crates/ftd/specs). As calls share
- * nothing, threads need no lock. examples/driver.c is a driver of both ends, to be read along with this header.
+ * (crates/exports/specs, crates/flow/specs, crates/calendar/specs, crates/book/specs, crates/fix/specs,
+ * crates/ftd/specs). As calls share nothing, threads need no lock. examples/driver.c is a driver of both ends, and
+ * examples/frames.c a session of frames, to be read along with this header.
  *
  * THE TERMS
  * A flow is a list of messages, numbered from 1 in each series and day. A series is a number from 1 up that both sides
@@ -49,7 +50,7 @@
  * `refusal` is 0, or a number of enum ftd_refusal: then the call did nothing, state and buffers are as they were (one
  * exception is said at ftd_receive; of a bufferful it is said of the refused packet or record alone). Where more than
  * one refusal applies, the answer is the one that stands first in the call's list below. What an answer doesn't have is
- * 0: of a refusal all but `refusal`, `answer`, `taken` and the state.
+ * 0: of a refusal all but `refusal`, `answer`, `taken`, `expected` and the state.
  */
 #ifndef FTD_H
 #define FTD_H
@@ -95,6 +96,9 @@ enum ftd_refusal {
     FTD_SESSIONS = 26,       /* ftd_set_calendar: more than 8 sessions, one without a second or with an end above 86400,
                                 two that overlap, numbers that aren't three for each */
     FTD_HOLIDAY = 27,        /* ftd_set_calendar: more than 32 holidays, or one that isn't a real date */
+    FTD_NOT_ONE_FRAME = 28,  /* frames: not exactly the bytes of one whole frame, or a number wrong */
+    FTD_REQUIRED_TAG = 29,   /* frames: a required tag missing, it or the flag (43) twice */
+    FTD_LOW_NUMBER = 30,     /* ftd_frame_read: a number lower than the expected one, without the flag */
     FTD_NOT_PLAIN = 255      /* ftd_write_plain alone: neither a link packet nor a skipped one; not in the table */
 };
 
@@ -123,7 +127,9 @@ enum ftd_limit {
     FTD_MOST_HOLIDAYS = 32,      /* holidays of a calendar */
     FTD_CODE = 10,               /* bytes of a contract's code */
     FTD_MOST_LEVELS = 64,        /* levels of a side of a book */
-    FTD_MOST_VOLUME = 1000000    /* volume of a match */
+    FTD_MOST_VOLUME = 1000000,   /* volume of a match */
+    FTD_MOST_FRAME = 4096,       /* bytes of a frame: an output that is always large enough */
+    FTD_MOST_NUMBER = 999999999  /* value of a number in a frame, and of a tag */
 };
 
 /* The side of a book. */
@@ -449,6 +455,59 @@ struct ftd_mean {
     uint8_t found; /* 0: there is none */
 };
 
+/* ---- Frames of JR/T 0087: answers ---- */
+
+/* How a frame is judged by its number (tag 34). */
+enum ftd_frame_answer {
+    FTD_FRAME_REFUSED = 0, /* see refusal; the expected number stays */
+    FTD_FRAME_NEXT = 1,    /* the expected number: it is one higher then */
+    FTD_FRAME_AGAIN = 2,   /* a lower number with the flag 43=Y: sent again. The expected number stays */
+    FTD_FRAME_GAP = 3,     /* a higher number: the ones from the expected one on are missing. It stays */
+    FTD_FRAME_RESET = 4    /* a sequence reset that isn't a gap fill, whatever its number. It stays: see `first` */
+};
+
+/* The type of a message (tag 35): one of the six that are looked into, or another. */
+enum ftd_frame_kind {
+    FTD_FRAME_OTHER = 0,
+    FTD_FRAME_HEARTBEAT = 1,      /* "0" */
+    FTD_FRAME_TEST_REQUEST = 2,   /* "1" */
+    FTD_FRAME_RESEND_REQUEST = 3, /* "2" */
+    FTD_FRAME_SEQUENCE_RESET = 4, /* "4" */
+    FTD_FRAME_LOGOUT = 5,         /* "5" */
+    FTD_FRAME_LOGON = 6           /* "A" */
+};
+
+/* A frame that was read; places count from its first byte. Of a refusal all but `expected` and `refusal` is 0. */
+struct ftd_reading {
+    struct ftd_span name;   /* the type's text */
+    struct ftd_span fields; /* the fields behind the type and before the checksum: a run, for the calls below */
+    struct ftd_span text;   /* the text of `first`'s tag; 0, 0 where the type has none */
+    uint32_t expected;      /* the number that is expected then */
+    uint32_t number;        /* the frame's number (34) */
+    uint32_t first;         /* resend request: its first number (7); sequence reset: the new number (36); logon: the
+                               encryption (98); test request: 112 where it is a number, and see `text`; else 0 */
+    uint32_t second;        /* resend request: its last number (16), 0 for all that follow; logon: the heartbeat's
+                               seconds (108); else 0 */
+    uint8_t answer;         /* enum ftd_frame_answer */
+    uint8_t refusal;        /* refused: 28, 29 or 30 */
+    uint8_t kind;           /* enum ftd_frame_kind */
+    uint8_t fill;           /* 1: a field says 123=Y; of a sequence reset: it is a gap fill */
+};
+
+/* A field of a run. */
+struct ftd_tagged {
+    size_t start;  /* where its text starts in the run */
+    size_t len;    /* how many bytes it has, at least one */
+    uint32_t tag;  /* 1 to 999999999 */
+    uint8_t found; /* 0: there is none */
+};
+
+/* A text as a number. */
+struct ftd_number {
+    uint32_t number;
+    uint8_t found; /* 0: it is none */
+};
+
 #ifdef __cplusplus
 extern "C" {
 #endif
@@ -695,6 +754,58 @@ struct ftd_listed ftd_book_level(struct ftd_book book, uint8_t side, size_t plac
 /* Mean: the mean match price since ftd_book_start, turnover over volume, to the nearest 0.0001 and at the exact half to the
  * even last digit; none without volume. The book stays as it is, and isn't answered. */
 struct ftd_mean ftd_book_mean(struct ftd_book book);
+
+/* ---- Frames of JR/T 0087 ---- */
+
+/* A frame is one message: 8=FIX.4.2, 9=body length, 35=type, the fields, 10=checksum, each TAG=TEXT and the byte 1
+ * behind it, at most FTD_MOST_FRAME bytes in all. The fields are one run: TAG=TEXT and the byte 1, one behind the
+ * other, in any order. A tag and a body length have no zero in front. A text has at least one byte, and none that is 1;
+ * only that of a data field (89, 91, 96, 355) may have any, and is as long as the field directly before it says (93,
+ * 90, 95, 354). A number is 1 to 9 digits, zeros in front allowed; so are the texts of 34 and, in the six types, of all
+ * integers that their tables list. Texts are never changed.
+ *
+ * The expected number is all there is of a session, and the caller keeps it. It is given with each frame and comes back
+ * in the answer:
+ *
+ *     read = ftd_frame_read(bytes, count, expected);
+ *     expected = read.expected;
+ *
+ * So the numbers that are answered next follow each other, none twice, as long as nothing else sets the expected
+ * number. The caller applies resets. Three things ask it to set the number:
+ *
+ *     FTD_FRAME_RESET: to read.first
+ *     FTD_FRAME_NEXT of a sequence reset, which is a gap fill then: to read.first, unless that is lower
+ *     a logon that says 141=Y, with number 1 where a higher one is expected: it is refused with 30. Read the frame once
+ *     more with 1 expected; where it is then a logon, next, and says 141=Y: to 2
+ *
+ * Behind 999999999 nothing is next any more, until the number is set. */
+
+/* Reads one frame: exactly its bytes, none before it and none behind. A frame ends with the checksum, which starts as
+ * many bytes behind the field 9 as that one says. Of FTD_FRAME_GAP too all that the frame says is answered; whoever
+ * asks for the missing ones, by a resend request from the expected number to 0 (all that follow), is sent this one
+ * again.
+ * Refusals: 28 (also of a resend request: a last number that is neither 0 nor at least the first); 29 (required are of
+ * all types 8, 9, 35, 34, 10; of the six also 49, 56, 52; of a test request 112, of a resend request 7 and 16, of a
+ * sequence reset 36, of a logon 98 and 108); 30. */
+struct ftd_reading ftd_frame_read(const uint8_t *bytes, size_t count, uint32_t expected);
+
+/* Writes the frame of a type (the text of 35) and a run of fields to the start of the output. 8, 9, 35 and 10 are
+ * written by the call: a run that has one of them is refused (29). What ftd_frame_read would refuse with 28 or 29 is
+ * refused alike; so what is written is read back with this type and this run, and what was read is written as the same
+ * bytes.
+ * Refusals: 28, 18, 29. */
+struct ftd_written ftd_frame_write(const uint8_t *name, size_t name_len, const uint8_t *fields, size_t count,
+                                   uint8_t *output, size_t room);
+
+/* Field i of a run, counted from 0; none behind the last, and none from a place on where no whole field stands. Each
+ * call walks the run anew. */
+struct ftd_tagged ftd_frame_field(const uint8_t *fields, size_t count, size_t i);
+
+/* The first field of a run with that tag. */
+struct ftd_tagged ftd_frame_first(const uint8_t *fields, size_t count, uint32_t tag);
+
+/* A text as a number: 1 to 9 digits, and nothing else. */
+struct ftd_number ftd_frame_number(const uint8_t *text, size_t count);
 
 #ifdef __cplusplus
 }

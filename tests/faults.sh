@@ -76,6 +76,15 @@ expect "the next trading day is looked for among 46 days" "$root/target/lib"
 fresh_reader
 change "$work/tests/reader/src/book.rs" 'turnover.abs() > MOST_SUM' 'turnover.abs() >= MOST_SUM'
 expect "a book's sum may not reach its limit" "$root/target/lib"
+fresh_reader
+change "$work/tests/reader/src/fix.rs" '(1..=9).contains(&text.len())' '(1..=10).contains(&text.len())'
+expect "a number of a frame may have ten digits" "$root/target/lib"
+fresh_reader
+change "$work/tests/reader/src/fix.rs" 'last != 0 && all(7)' 'all(7)'
+expect "a resend request for all that follow is refused" "$root/target/lib"
+fresh_reader
+change "$work/tests/reader/src/fix.rs" '} else if yes(43) {' '} else if pairs.iter().any(|field| field.0 == 43) {'
+expect "a lower number with 43=N is again" "$root/target/lib"
 
 echo "- the models of the ends"
 fresh_reader
@@ -104,10 +113,10 @@ expect "a content's place in a bufferful counts from its packet" "$root/target/l
 fresh_library() {
     rm -rf "$work/library"
     mkdir -p "$work/library/crates" "$work/library/target"
-    for crate in ftd flow calendar book exports; do
+    for crate in ftd flow calendar book fix exports; do
         cp -R "$root/crates/$crate" "$work/library/crates/"
     done
-    printf 'ftd:\nflow: ftd\ncalendar: ftd\nbook: ftd\nexports: ftd flow calendar book\n' >"$work/library/crates.txt"
+    printf 'ftd:\nflow: ftd\ncalendar: ftd\nbook: ftd\nfix: ftd\nexports: ftd flow calendar book fix\n' >"$work/library/crates.txt"
     # What is proved of ftd is taken over where ftd isn't changed.
     cp -R "$root/target/rlib" "$root/target/stamp" "$work/library/target/"
 }

@@ -1,7 +1,8 @@
 #!/usr/bin/env bash
 # The outside tests: checks the names that the texts cite (tests/names.py), builds the static library, the lister and the Rust side,
 # compares the proved library with the independent reader on generated inputs and captures, and the two ends with their models on random
-# lists of calls; shows that deliberate faults are found, and times both sides. Any failure makes it fail.
+# lists of calls; the reader's frames with QuickFIX where that is installed; shows that deliberate faults are found, and times both sides.
+# Any failure makes it fail.
 #   tests/run.sh           all of it, some minutes on top of the proofs
 #   tests/run.sh --quick   the comparison alone, on a million inputs and calls: a minute or so where the crates are proved already
 # Needs the Rattle kit (rt) and cargo; no network. The benchmark says nothing where the machine is busy.
@@ -34,6 +35,7 @@ else
 fi
 
 (cd tests/reader && cargo test --offline --quiet)
+bash tests/quickfix/run.sh
 (cd tests/outside && cargo build --release --offline --quiet)
 outside=$root/tests/outside/target/release
 if [ "$quick" -eq 1 ]; then
@@ -48,6 +50,7 @@ else
     "$outside/bench"
     "$outside/bench_ends"
     "$outside/bench_book"
+    "$outside/bench_frames"
     "$outside/sends"
 fi
 echo "outside tests: ok"

@@ -57,6 +57,9 @@ static void sizes(void) {
     EXPECT(sizeof(struct ftd_book_step) == 2088);
     EXPECT(sizeof(struct ftd_listed) == 16);
     EXPECT(sizeof(struct ftd_mean) == 16);
+    EXPECT(sizeof(struct ftd_reading) == 72 && offsetof(struct ftd_reading, answer) == 64);
+    EXPECT(sizeof(struct ftd_tagged) == 24);
+    EXPECT(sizeof(struct ftd_number) == 8);
 }
 
 /* ---- Packets ---- */
@@ -952,6 +955,217 @@ static void book_of_others(void) {
     EXPECT(give(&book, QUOTES) == FTD_FIELD_RUN && stands(book, FTD_BUYING, 0, 0, 0) && book.volume == 1);
 }
 
+/* ---- Frames of JR/T 0087 ---- */
+
+/* Worked frames, `|` for the byte 1: the expected number, the answer, the refusal, and the number expected then. */
+static const struct {
+    const char *frame;
+    uint32_t expected;
+    uint8_t answer;
+    uint8_t refusal;
+    uint32_t after;
+} worked[] = {
+    {"8=FIX.4.2|9=61|35=A|49=FUND|56=BROKER|34=1|52=20121226-01:00:00|98=0|108=30|10=016|",
+     1, FTD_FRAME_NEXT, 0, 2}, /* logon */
+    {"8=FIX.4.2|9=49|35=0|49=FUND|56=BROKER|34=5|52=20121226-01:00:00|10=240|",
+     5, FTD_FRAME_NEXT, 0, 6}, /* heartbeat, equal */
+    {"8=FIX.4.2|9=49|35=0|49=FUND|56=BROKER|34=5|52=20121226-01:00:00|10=240|",
+     3, FTD_FRAME_GAP, 0, 3}, /* heartbeat, higher */
+    {"8=FIX.4.2|9=49|35=0|49=FUND|56=BROKER|34=5|52=20121226-01:00:00|10=240|",
+     9, FTD_FRAME_REFUSED, FTD_LOW_NUMBER, 9}, /* heartbeat, lower, no flag */
+    {"8=FIX.4.2|9=54|35=0|49=FUND|56=BROKER|34=5|52=20121226-01:00:00|43=Y|10=234|",
+     9, FTD_FRAME_AGAIN, 0, 9}, /* heartbeat, lower, flag */
+    {"8=FIX.4.2|9=54|35=0|49=FUND|56=BROKER|34=5|52=20121226-01:00:00|43=N|10=223|",
+     9, FTD_FRAME_REFUSED, FTD_LOW_NUMBER, 9}, /* heartbeat, lower, flag N */
+    {"8=FIX.4.2|9=51|35=0|49=FUND|56=BROKER|34=005|52=20121226-01:00:00|10=073|",
+     5, FTD_FRAME_NEXT, 0, 6}, /* number with zeros in front */
+    {"8=FIX.4.2|9=56|35=1|49=FUND|56=BROKER|34=5|52=20121226-01:00:00|112=T1|10=070|",
+     5, FTD_FRAME_NEXT, 0, 6}, /* test request */
+    {"8=FIX.4.2|9=49|35=1|49=FUND|56=BROKER|34=5|52=20121226-01:00:00|10=241|",
+     5, FTD_FRAME_REFUSED, FTD_REQUIRED_TAG, 5}, /* test request, 112 missing */
+    {"8=FIX.4.2|9=58|35=2|49=FUND|56=BROKER|34=5|52=20121226-01:00:00|7=3|16=0|10=111|",
+     5, FTD_FRAME_NEXT, 0, 6}, /* resend request, all that follow */
+    {"8=FIX.4.2|9=58|35=2|49=FUND|56=BROKER|34=5|52=20121226-01:00:00|7=4|16=3|10=115|",
+     5, FTD_FRAME_REFUSED, FTD_NOT_ONE_FRAME, 5}, /* resend request, last below first */
+    {"8=FIX.4.2|9=60|35=4|49=FUND|56=BROKER|34=5|52=20121226-01:00:00|123=Y|36=9|10=250|",
+     5, FTD_FRAME_NEXT, 0, 6}, /* gap fill, equal */
+    {"8=FIX.4.2|9=60|35=4|49=FUND|56=BROKER|34=5|52=20121226-01:00:00|123=Y|36=9|10=250|",
+     7, FTD_FRAME_REFUSED, FTD_LOW_NUMBER, 7}, /* gap fill, lower, no flag */
+    {"8=FIX.4.2|9=54|35=4|49=FUND|56=BROKER|34=5|52=20121226-01:00:00|36=9|10=208|",
+     7, FTD_FRAME_RESET, 0, 7}, /* reset, lower, no flag */
+    {"8=FIX.4.2|9=56|35=5|49=FUND|56=BROKER|34=5|52=20121226-01:00:00|58=bye|10=222|",
+     5, FTD_FRAME_NEXT, 0, 6}, /* logout */
+    {"8=FIX.4.2|9=75|35=A|49=FUND|56=BROKER|34=5|52=20121226-01:00:00|98=0|108=30|95=5|96=a|b=c|10=011|",
+     5, FTD_FRAME_NEXT, 0, 6}, /* raw data with SOH inside */
+    {"8=FIX.4.2|9=75|35=A|49=FUND|56=BROKER|34=5|52=20121226-01:00:00|98=0|108=30|95=4|96=a|b=c|10=010|",
+     5, FTD_FRAME_REFUSED, FTD_NOT_ONE_FRAME, 5}, /* raw data, length one less */
+    {"8=FIX.4.2|9=10|35=D|34=5|10=187|", 5, FTD_FRAME_NEXT, 0, 6}, /* order, only the number */
+    {"8=FIX.4.2|9=13|35=D|49=FUND|10=188|", 5, FTD_FRAME_REFUSED, FTD_REQUIRED_TAG, 5}, /* order, no number */
+    {"8=FIX.4.2|9=15|35=D|34=5|34=5|10=154|", 5, FTD_FRAME_REFUSED, FTD_REQUIRED_TAG, 5}, /* order, 34 twice */
+    {"8=FIX.4.2|9=20|35=D|34=5|43=Y|43=Y|10=184|", 5, FTD_FRAME_REFUSED, FTD_REQUIRED_TAG, 5}, /* order, flag twice */
+    {"8=FIX.4.2|9=15|35=D|34=5|35=D|10=170|", 5, FTD_FRAME_REFUSED, FTD_REQUIRED_TAG, 5}, /* order, type twice */
+    {"8=FIX.4.2|9=15|35=D|34=5|34=x|10=221|",
+     5, FTD_FRAME_REFUSED, FTD_NOT_ONE_FRAME, 5}, /* order, 34 twice, one no number */
+    {"8=FIX.4.2|9=11|35=D|034=5|10=236|", 5, FTD_FRAME_REFUSED, FTD_NOT_ONE_FRAME, 5}, /* tag with a zero in front */
+    {"8=FIX.4.2|9=010|35=D|34=5|10=235|",
+     5, FTD_FRAME_REFUSED, FTD_NOT_ONE_FRAME, 5}, /* body length with a zero in front */
+    {"8=FIX.4.2|9=19|35=D|34=0000000005|10=116|", 5, FTD_FRAME_REFUSED, FTD_NOT_ONE_FRAME, 5}, /* ten digits */
+    {"8=FIX.4.2|9=14|35=D|34=5|58=|10=106|", 5, FTD_FRAME_REFUSED, FTD_NOT_ONE_FRAME, 5}, /* empty text */
+    {"8=FIX.4.2|9=10|35=D|34=5|10=188|", 5, FTD_FRAME_REFUSED, FTD_NOT_ONE_FRAME, 5}, /* checksum one more */
+    {"8=CSIFP.1.0.0|9=10|35=D|34=5|10=162|", 5, FTD_FRAME_REFUSED, FTD_NOT_ONE_FRAME, 5}, /* other begin string */
+    {"8=FIX.4.2|9=18|35=D|34=999999999|10=143|",
+     999999999, FTD_FRAME_NEXT, 0, 1000000000}, /* the last number there is */
+    {"8=FIX.4.2|9=18|35=D|34=999999999|10=143|",
+     1000000000, FTD_FRAME_REFUSED, FTD_LOW_NUMBER, 1000000000}, /* nothing is next any more */
+    {"8=FIX.4.2|9=10|35=D|34=5|10=187|8=FIX.4.2|9=10|35=D|34=6|10=188|",
+     5, FTD_FRAME_REFUSED, FTD_NOT_ONE_FRAME, 5}, /* two frames */
+};
+
+/* The bytes that a text with `|` stands for. */
+static size_t bytes_of(const char *text, uint8_t *bytes) {
+    size_t i, n = strlen(text);
+
+    for (i = 0; i < n; i++)
+        bytes[i] = text[i] == '|' ? 1 : (uint8_t)text[i];
+    return n;
+}
+
+static struct ftd_reading frame_read(const char *text, uint32_t expected) {
+    uint8_t bytes[256];
+    size_t n = bytes_of(text, bytes);
+
+    return ftd_frame_read(bytes, n, expected);
+}
+
+/* A type and a run of fields, both with `|`, written and held to a frame with `|`. */
+static int frame_is(const char *name, const char *fields, const char *frame) {
+    uint8_t type[64], run[256], right[512], out[512];
+    size_t types = bytes_of(name, type), runs = bytes_of(fields, run), n = bytes_of(frame, right);
+    struct ftd_written written;
+
+    memset(out, 0xA5, sizeof out);
+    written = ftd_frame_write(type, types, run, runs, out, sizeof out);
+    return written.refusal == 0 && written.bytes == n && memcmp(out, right, n) == 0 && out[n] == 0xA5;
+}
+
+static uint8_t frame_refused(const char *name, const char *fields, size_t room) {
+    uint8_t type[64], run[256], out[512];
+    size_t types = bytes_of(name, type), runs = bytes_of(fields, run);
+    struct ftd_written written;
+
+    memset(out, 0xA5, sizeof out);
+    written = ftd_frame_write(type, types, run, runs, out, room);
+    EXPECT(written.bytes == 0 && out[0] == 0xA5 && out[sizeof out - 1] == 0xA5);
+    return written.refusal;
+}
+
+/* Each worked frame as it is judged; where it isn't refused, written again it is the same bytes, and one byte less of
+ * room, or of the frame, is one too few. */
+static void frames_judged(void) {
+    size_t i;
+
+    for (i = 0; i < sizeof worked / sizeof worked[0]; i++) {
+        uint8_t bytes[256], out[256];
+        size_t n = bytes_of(worked[i].frame, bytes);
+        struct ftd_reading r = ftd_frame_read(bytes, n, worked[i].expected);
+        struct ftd_written written;
+
+        expect(r.answer == worked[i].answer && r.refusal == worked[i].refusal && r.expected == worked[i].after,
+               worked[i].frame, __LINE__);
+        EXPECT(ftd_frame_read(bytes, n - 1, worked[i].expected).refusal == FTD_NOT_ONE_FRAME);
+        if (r.answer == FTD_FRAME_REFUSED) {
+            EXPECT(r.name.len == 0 && r.fields.start == 0 && r.fields.len == 0 && r.text.len == 0 && r.number == 0);
+            EXPECT(r.first == 0 && r.second == 0 && r.kind == 0 && r.fill == 0);
+            continue;
+        }
+        written = ftd_frame_write(bytes + r.name.start, r.name.len, bytes + r.fields.start, r.fields.len, out, n);
+        expect(written.refusal == 0 && written.bytes == n && memcmp(out, bytes, n) == 0, worked[i].frame, __LINE__);
+        written = ftd_frame_write(bytes + r.name.start, r.name.len, bytes + r.fields.start, r.fields.len, out, n - 1);
+        EXPECT(written.refusal == FTD_TOO_SMALL && written.bytes == 0);
+    }
+}
+
+#define HEAD "49=FUND|56=BROKER|34=5|52=20121226-01:00:00|"
+
+/* What a frame says: its type, its number and its own values. */
+static void frames_say(void) {
+    struct ftd_reading r = frame_read(worked[0].frame, 1); /* logon */
+
+    EXPECT(r.kind == FTD_FRAME_LOGON && r.number == 1 && r.first == 0 && r.second == 30 && r.fill == 0);
+    EXPECT(r.name.start == 18 && r.name.len == 1 && r.fields.start == 20 && r.fields.len == 56);
+    EXPECT(worked[0].frame[r.text.start] == '0' && r.text.len == 1);
+    r = frame_read(worked[1].frame, 5); /* heartbeat */
+    EXPECT(r.kind == FTD_FRAME_HEARTBEAT && r.number == 5 && r.first == 0 && r.second == 0 && r.text.len == 0);
+    EXPECT(frame_read(worked[6].frame, 5).number == 5); /* 005 */
+    r = frame_read(worked[7].frame, 5); /* test request */
+    EXPECT(r.kind == FTD_FRAME_TEST_REQUEST && r.first == 0 && r.text.len == 2);
+    EXPECT(strncmp(worked[7].frame + r.text.start, "T1|", 3) == 0);
+    r = frame_read(worked[9].frame, 5); /* resend request */
+    EXPECT(r.kind == FTD_FRAME_RESEND_REQUEST && r.first == 3 && r.second == 0);
+    r = frame_read(worked[11].frame, 5); /* gap fill */
+    EXPECT(r.kind == FTD_FRAME_SEQUENCE_RESET && r.first == 9 && r.fill == 1);
+    r = frame_read(worked[13].frame, 7); /* reset */
+    EXPECT(r.kind == FTD_FRAME_SEQUENCE_RESET && r.first == 9 && r.fill == 0 && r.number == 5 && r.expected == 7);
+    r = frame_read(worked[14].frame, 5); /* logout */
+    EXPECT(r.kind == FTD_FRAME_LOGOUT && r.first == 0 && r.text.len == 0);
+    r = frame_read(worked[17].frame, 5); /* order */
+    EXPECT(r.kind == FTD_FRAME_OTHER && r.number == 5 && r.fields.len == 5 && worked[17].frame[r.name.start] == 'D');
+}
+
+static void frame_fields(void) {
+    uint8_t run[64];
+    size_t n = bytes_of("34=005|95=5|96=a|b=c|95=7|58=x=y|0=z|", run);
+    struct ftd_tagged f = ftd_frame_field(run, n, 0);
+
+    EXPECT(f.found == 1 && f.tag == 34 && f.start == 3 && f.len == 3);
+    EXPECT(ftd_frame_number(run + f.start, f.len).number == 5 && ftd_frame_number(run + f.start, f.len).found == 1);
+    f = ftd_frame_field(run, n, 2); /* data with the byte 1 inside */
+    EXPECT(f.found == 1 && f.tag == 96 && f.start == 15 && f.len == 5 && ftd_frame_number(run + 15, 5).found == 0);
+    f = ftd_frame_field(run, n, 4);
+    EXPECT(f.found == 1 && f.tag == 58 && f.start == 29 && f.len == 3);
+    f = ftd_frame_field(run, n, 5); /* no field has the tag 0 */
+    EXPECT(f.found == 0 && f.tag == 0 && f.start == 0 && f.len == 0 && ftd_frame_field(run, n, SIZE_MAX).found == 0);
+    f = ftd_frame_first(run, n, 95);
+    EXPECT(f.found == 1 && f.tag == 95 && f.start == 10 && f.len == 1);
+    EXPECT(ftd_frame_first(run, n, 43).found == 0 && ftd_frame_first(run, n, 0).found == 0);
+    EXPECT(ftd_frame_first(run, n - 5, 58).found == 0); /* not closed */
+    n = bytes_of("9999999990000000000", run);
+    EXPECT(ftd_frame_number(run, 9).number == FTD_MOST_NUMBER && ftd_frame_number(run, 10).found == 0);
+    EXPECT(ftd_frame_number(run + 10, 9).found == 1 && ftd_frame_number(run + 10, 9).number == 0);
+}
+
+static void frames_written(void) {
+    EXPECT(frame_is("0", HEAD, worked[1].frame) && frame_is("1", HEAD "112=T1|", worked[7].frame));
+    EXPECT(frame_is("D", "34=5|", worked[17].frame));
+    EXPECT(frame_refused("", HEAD, 512) == FTD_NOT_ONE_FRAME && frame_refused("0|", HEAD, 512) == FTD_NOT_ONE_FRAME);
+    EXPECT(frame_refused("0", HEAD "58=a", 512) == FTD_NOT_ONE_FRAME);
+    EXPECT(frame_refused("0", HEAD "58=|", 512) == FTD_NOT_ONE_FRAME);
+    EXPECT(frame_refused("0", HEAD "96=a|", 512) == FTD_NOT_ONE_FRAME);
+    EXPECT(frame_refused("2", HEAD "7=4|16=3|", 512) == FTD_NOT_ONE_FRAME);
+    EXPECT(frame_refused("1", HEAD, 512) == FTD_REQUIRED_TAG && frame_refused("1", HEAD, 70) == FTD_TOO_SMALL);
+    EXPECT(frame_refused("0", HEAD "10=240|", 512) == FTD_REQUIRED_TAG);
+    EXPECT(frame_refused("D", "34=5|35=D|", 512) == FTD_REQUIRED_TAG);
+    EXPECT(frame_refused("D", "34=5|43=Y|43=Y|", 512) == FTD_REQUIRED_TAG);
+}
+
+/* The longest frame, read and written, and one byte more. */
+static void frames_limit(void) {
+    static uint8_t run[FTD_MOST_FRAME], out[FTD_MOST_FRAME + 1];
+    const uint8_t order = 'D';
+    size_t n = bytes_of("34=5|58=", run);
+    struct ftd_written written;
+
+    memset(run + n, 'x', 4067 - n);
+    run[4066] = 1;
+    written = ftd_frame_write(&order, 1, run, 4067, out, sizeof out);
+    EXPECT(written.refusal == 0 && written.bytes == FTD_MOST_FRAME);
+    EXPECT(ftd_frame_read(out, FTD_MOST_FRAME, 5).answer == FTD_FRAME_NEXT);
+    EXPECT(ftd_frame_read(out, FTD_MOST_FRAME + 1, 5).refusal == FTD_NOT_ONE_FRAME);
+    run[4066] = 'x';
+    run[4067] = 1;
+    EXPECT(ftd_frame_write(&order, 1, run, 4068, out, sizeof out).refusal == FTD_NOT_ONE_FRAME);
+}
+
 /* ---- Null pointers, and states of any values ---- */
 
 static void nulls_below(void) {
@@ -1019,6 +1233,18 @@ static void nulls_in_a_book(void) {
 
     EXPECT(ftd_book_start(book, NULL, 0).refusal == FTD_ITEM && ftd_book_take(book, 0x7777, NULL, 0).refusal == 0);
     EXPECT(ftd_book_take(book, QUOTES, NULL, 0).refusal == FTD_COMPOSITION);
+}
+
+static void nulls_in_frames(void) {
+    const uint8_t order = 'D', number[] = {'3', '4', '=', '5', 1};
+    uint8_t out[64];
+
+    EXPECT(ftd_frame_read(NULL, 0, 5).refusal == FTD_NOT_ONE_FRAME && ftd_frame_read(NULL, 0, 5).expected == 5);
+    EXPECT(ftd_frame_write(NULL, 0, number, 5, out, sizeof out).refusal == FTD_NOT_ONE_FRAME);
+    EXPECT(ftd_frame_write(&order, 1, NULL, 0, out, sizeof out).refusal == FTD_REQUIRED_TAG);
+    EXPECT(ftd_frame_write(&order, 1, number, 5, NULL, 0).refusal == FTD_TOO_SMALL);
+    EXPECT(ftd_frame_field(NULL, 0, 0).found == 0 && ftd_frame_first(NULL, 0, 34).found == 0);
+    EXPECT(ftd_frame_number(NULL, 0).found == 0);
 }
 
 /* No call goes wrong on a state that none has made: all bytes are 255, so that each count and place is too high. */
@@ -1090,10 +1316,16 @@ int main(void) {
     book_full();
     book_sums();
     book_of_others();
+    frames_judged();
+    frames_say();
+    frame_fields();
+    frames_written();
+    frames_limit();
     nulls_below();
     nulls_at_the_ends();
     nulls_in_a_calendar();
     nulls_in_a_book();
+    nulls_in_frames();
     any_state();
     if (!failed)
         printf("header: ok\n");

@@ -1,6 +1,6 @@
 #!/bin/sh
-# Builds the header's test and the example driver with each compiler that is there, warnings being errors, and runs
-# both: the test has to find nothing, the driver to print examples/driver.out.
+# Builds the header's test and the examples with each compiler that is there, warnings being errors, and runs them: the
+# test has to find nothing, each example to print its file examples/NAME.out.
 #   tests/c/run.sh LIBRARY
 set -eu
 cd "$(dirname "$0")/../.."
@@ -21,9 +21,11 @@ try() { # COMPILER OPTION..
     fi
     "$@" -Wall -Wextra -pedantic -Werror -Iinclude tests/c/header.c -x none "$library" -o "$work/header"
     "$work/header" >"$work/header.out" || { cat "$work/header.out"; exit 1; }
-    "$@" -Wall -Wextra -pedantic -Werror -Iinclude examples/driver.c -x none "$library" -o "$work/driver"
-    "$work/driver" >"$work/driver.out"
-    diff examples/driver.out "$work/driver.out"
+    for example in driver frames; do
+        "$@" -Wall -Wextra -pedantic -Werror -Iinclude "examples/$example.c" -x none "$library" -o "$work/$example"
+        "$work/$example" >"$work/$example.out"
+        diff "examples/$example.out" "$work/$example.out"
+    done
     echo "$*: ok"
 }
 

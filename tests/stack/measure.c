@@ -140,6 +140,18 @@ static void publish_several(void)
     published_several = ftd_publish_several(sender, records, FTD_RECORD_HEAD + filled, log_bytes, sizeof log_bytes);
     refusal = published_several.refusal;
 }
+static uint8_t run[FTD_MOST_FRAME], frame[FTD_MOST_FRAME];
+static size_t framed;
+static void write_frame(void)
+{
+    struct ftd_written written = ftd_frame_write((const uint8_t *)"A", 1, run, framed - 29, frame, sizeof frame);
+    refusal = written.refusal;
+}
+static void read_frame(void)
+{
+    struct ftd_reading read = ftd_frame_read(frame, framed, 5);
+    refusal = read.refusal;
+}
 static void reconnect(void) { receiver = ftd_connect(receiver); }
 
 static size_t used(void (*body)(void))
@@ -214,5 +226,12 @@ int main(void)
     }
     book = ftd_book_start(ftd_book_fresh(), (const uint8_t *)"cu0405    ", 10).book;
     row("ftd_book_take", take);
+    static const char head[] = "49=F\00156=B\00134=5\00152=T\00198=0\001108=30\00158="; /* a frame of the most bytes */
+    memcpy(run, head, sizeof head - 1);
+    framed = FTD_MOST_FRAME;
+    memset(run + sizeof head - 1, 'x', framed - 29 - (sizeof head - 1));
+    run[framed - 30] = 1;
+    row("ftd_frame_write", write_frame);
+    row("ftd_frame_read", read_frame);
     return 0;
 }

@@ -6,4 +6,5 @@ pub mod Receiving
 pub mod Several
 pub mod Trading
 pub mod Quotes
+pub mod Frames
 pub mod Laws

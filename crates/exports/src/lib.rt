@@ -1,6 +1,6 @@
 // The library for C and Rust: functions on numbers, byte slices, and the two ends, the trading calendar and the book of
-// a contract by value. Each calls `ftd`, `flow`, `calendar` or `book` and gives its answer as numbers; include/ftd.h
-// says what they mean. Here: packets, fields and messages.
+// a contract by value. Each calls `ftd`, `flow`, `calendar`, `book` or `fix` and gives its answer as numbers;
+// include/ftd.h says what they mean. Here: packets, fields and messages.
 ghost use mathlib.Core.Path.{_≡_};
 ghost use Rattle.ftd.specs.Bytes.{joined};
 ghost use Rattle.ftd.specs.Fields.{fieldWith};
@@ -48,6 +48,7 @@ pub mod receiving; // the receiving end
 pub mod several; // a bufferful of packets or records in one call of an end
 pub mod trading; // the trading calendar
 pub mod quotes; // the book of a contract
+pub mod frames; // frames of JR/T 0087
 
 // A part of lent bytes.
 #[repr(C)]

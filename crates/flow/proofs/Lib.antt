@@ -10,7 +10,9 @@ pub mod right
 pub mod logins
 pub mod first
 pub mod second
+pub mod numbers
 pub mod Agreement
+pub mod Follows
 pub mod bench
 pub mod Biggest
 pub mod Bufferful

@@ -3,6 +3,7 @@ ghost use Rattle.flow.specs.Agreement.{Agreement};
 ghost use Rattle.flow.specs.Bench.{Bench};
 ghost use Rattle.flow.specs.Biggest.{Biggest};
 ghost use Rattle.flow.specs.Bufferful.{Bufferful};
+ghost use Rattle.flow.specs.Follows.{NumbersFollow};
 
 pub mod limits; // the limits of both
 pub mod series; // series in a list
@@ -34,4 +35,9 @@ pub fn keeps_biggest()
 // A bufferful is so many single calls, as a promise.
 pub fn keeps_bufferful()
     ensures { λ _. ⌜ Bufferful ⌝ }
+{}
+
+// The numbers taken follow each other, as a promise.
+pub fn keeps_numbers()
+    ensures { λ _. ⌜ NumbersFollow ⌝ }
 {}

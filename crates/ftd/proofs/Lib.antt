@@ -3,3 +3,4 @@ pub mod runs
 pub mod Lists
 pub mod Opened
 pub mod Bench
+pub mod Follow

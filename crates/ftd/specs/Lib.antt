@@ -21,5 +21,6 @@ pub mod Texts
 pub mod Whole
 pub mod Dates
 pub mod Item
+pub mod Follow
 pub mod Demand2
 pub mod Bench

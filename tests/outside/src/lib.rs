@@ -10,6 +10,7 @@ pub mod calendar;
 pub mod calls;
 pub mod compare;
 pub mod ends;
+pub mod frames;
 pub mod history;
 pub mod items;
 pub mod several;

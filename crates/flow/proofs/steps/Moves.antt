@@ -7,7 +7,7 @@ use Rattle.ftd.specs.declared.tags.TradeDate.the-variants.{None}
 use Rattle.flow.specs.declared.receiver.LiveSeries.{LiveSeries}
 use Rattle.flow.specs.declared.receiver.Receiver.{Receiver}
 use Rattle.flow.specs.Ends.{isOpen, withSeries, dayOf, lastOf}
-use Rattle.flow.proofs.ends.ReceiverLookups.{Eight, open-stays, kept-same, kept-other}
+use Rattle.flow.proofs.ends.ReceiverLookups.{Eight, open-with, kept-with, kept-beside}
 use mathlib.Core.List.{List}
 use Rattle.flow.specs.Receiving.{connectOf}
 use Rattle.flow.proofs.ends.ReceiverOpened.{openedWith, none-open, opened-kept, connect-open, connect-kept}
@@ -23,16 +23,21 @@ pub record Moves (e after : Receiver) (s : ℕ) (d : TradeDate) (n : ℕ) : Type
 pub moves-not : (e : Receiver) (s : ℕ) → Moves e e s (dayOf e s) (lastOf e s)
 moves-not e s = record { date = refl; last = refl; other = λ t n. (refl, refl) }
 
-pub moves-with : (e : Receiver) → Eight e → (s : ℕ) → isOpen e s ≡ true
-    → (date : TradeDate) (last : ℕ) (live : LiveSeries) → Moves e (withSeries e s date last live) s date last
-moves-with e eight s o date last live =
-    let x = open-stays e eight s o date last live in
-    let k = kept-same e eight s o date last live in
+-- Of any number of places.
+pub moves-kept : (e : Receiver) (s : ℕ) → isOpen e s ≡ true → (date : TradeDate) (last : ℕ) (live : LiveSeries)
+    → Moves e (withSeries e s date last live) s date last
+moves-kept e s o date last live =
+    let x = open-with e s o date last live in
+    let k = kept-with e s o date last live in
     record {
       date = rw (x s, o, k);
       last = rw (x s, o, k);
-      other = λ t n. let m = kept-other e eight s o date last live t n in rw (x t, m) (refl, refl);
+      other = λ t n. let m = kept-beside e s o date last live t n in rw (x t, m) (refl, refl);
     }
+
+pub moves-with : (e : Receiver) → Eight e → (s : ℕ) → isOpen e s ≡ true
+    → (date : TradeDate) (last : ℕ) (live : LiveSeries) → Moves e (withSeries e s date last live) s date last
+moves-with e eight = moves-kept e
 
 -- None moved.
 abbrev pub Same : Receiver → Receiver → Type 0

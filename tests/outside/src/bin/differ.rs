@@ -1,12 +1,14 @@
 //! The differential test: `differ [INPUTS [SEED [LISTER]]]`. Both sides on generated inputs, on each row of the table
-//! of items, on link and skipped packets, start fields and modes, on trading calendars, on books of a contract, then on a
-//! generated capture of some megabytes; LISTER is the program that lists captures. Each difference is printed with its
-//! bytes; any makes the run fail.
+//! of items, on link and skipped packets, start fields and modes, on trading calendars, on books of a contract, on
+//! frames of JR/T 0087, then on a generated capture of some megabytes; LISTER is the program that lists captures. Each
+//! difference is printed with its bytes; any makes the run fail.
 
 use outside::book::Books;
 use outside::calendar::{Both, Input};
 use outside::compare::{self, hex, Asked};
-use outside::{items, Packet, LINK, MESSAGE, SKIPPED, UNUSED};
+use outside::{frames, items, Packet, LINK, MESSAGE, SKIPPED, UNUSED};
+use reader::fix_cases::{traps, worked};
+use reader::fix_frames;
 use reader::generate::{
     capture, capture_input, content_input, header, item_input, message_content, packet_input, unknown_fid, Form,
     Random, FORMS,
@@ -235,6 +237,31 @@ impl Run {
         }
     }
 
+    /// Frames: the worked ones with the answers that are written beside them, then generated ones, read and written.
+    fn frames(&mut self, r: &mut Random, rounds: u64) {
+        for case in worked().into_iter().chain(traps()) {
+            let found = frames::read_both(&mut self.asked, r, &case.bytes, case.expected).and_then(|answer| {
+                let right = case.answer.map_or_else(|row| row, |judgement| 100 + judgement as u8);
+                self.asked.same("the answer by hand", answer, right)?;
+                Ok(answer)
+            });
+            self.count("frame", *found.as_ref().unwrap_or(&255));
+            self.note(case.what, &case.bytes, found.map(|_| ()));
+        }
+        for i in 0..rounds {
+            let form = fix_frames::FORMS[i as usize % fix_frames::FORMS.len()];
+            let bytes = fix_frames::frame_input(r, form);
+            let expected = fix_frames::expected_input(r, &bytes);
+            let found = frames::read_both(&mut self.asked, r, &bytes, expected);
+            self.count("frame", *found.as_ref().unwrap_or(&255));
+            self.note(&format!("a frame ({form:?}), expected {expected}"), &bytes, found.map(|_| ()));
+            let (name, fields) = fix_frames::run_input(r, form);
+            let found = frames::write_both(&mut self.asked, r, &name, &fields);
+            self.count("frame written", *found.as_ref().unwrap_or(&255));
+            self.note(&format!("a frame to be written ({form:?}), type {name:?}"), &fields, found.map(|_| ()));
+        }
+    }
+
     /// A part of the test, with its figures.
     fn part(&mut self, what: &str, test: impl FnOnce(&mut Self)) {
         let start = Instant::now();
@@ -259,6 +286,7 @@ impl Run {
                 "start field" => &["none", "one", "of another width", "several"],
                 "mode" => &["unknown", "private", "broadcast", "management", "dialog"],
                 "time" => &["outside", "inside"],
+                "frame" => &["next", "again", "gap", "reset"],
                 _ => &[],
             };
             let name = match (what, answer) {
@@ -351,6 +379,7 @@ fn main() {
     run.part("plain packets, fields, start fields and modes", |run| run.others(&mut Random::new(seed), inputs / 10));
     run.part("trading calendars and marks", |run| run.calendars(&mut Random::new(seed), inputs / 20));
     run.part("books of a contract", |run| run.books(&mut Random::new(seed), inputs / 10));
+    run.part("frames of JR/T 0087", |run| run.frames(&mut Random::new(seed), inputs / 10));
 
     let start = Instant::now();
     let before = (run.inputs, run.asked.0);

@@ -1,0 +1,2 @@
+-- Frames as numbers: their laws.
+pub mod Laws

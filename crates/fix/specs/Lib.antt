@@ -1,0 +1,12 @@
+pub mod Text
+pub mod Kinds
+pub mod Fields
+pub mod Check
+pub mod Frame
+pub mod Read
+pub mod Write
+pub mod FieldPlaces
+pub mod Tally
+pub mod Examples
+pub mod RoundTrips
+pub mod Follow
