@@ -1,5 +1,5 @@
 #!/usr/bin/env bash
-# The outside tests: checks the names that the texts cite (tests/names.py), builds the static library, the lister and the Rust side,
+# The outside tests: builds the static library, the lister and the Rust side,
 # compares the proved library with the independent reader on generated inputs and captures, and the two ends with their models on random
 # lists of calls; the reader's frames with QuickFIX where that is installed; shows that deliberate faults are found, and times both sides.
 # Any failure makes it fail.
@@ -16,25 +16,35 @@ if ! command -v cargo >/dev/null 2>&1; then
     echo "outside tests: there is no command cargo"
     exit 1
 fi
-# The names that the guide and the decisions cite exist.
-if command -v python3 >/dev/null 2>&1; then
-    python3 tests/names.py
-fi
 
 rt check ftdlist | tail -1
-rt staticlib exports | tail -1
-# The library by the name that programs link it by.
-mkdir -p target/lib
-cp target/staticlib/libexports.a target/lib/libftd.a
-
-# The header, the library and the example driver from C and C++.
+# The library, by the name that programs link it by, is made while the reader's own tests run.
+make_library() {
+    if command -v make >/dev/null 2>&1; then
+        make --no-print-directory lib | tail -1
+    else
+        rt staticlib exports | tail -1
+        mkdir -p target/lib
+        cp target/staticlib/libexports.a target/lib/libftd.a
+    fi
+}
+said=$(mktemp)
+trap 'rm -f "$said"' EXIT
+make_library >"$said" 2>&1 &
+making=$!
+(cd tests/reader && cargo test --offline --quiet)
+if ! wait "$making"; then
+    cat "$said"
+    echo "outside tests: the library was not made"
+    exit 1
+fi
+cat "$said"
+# The header and the examples from C and C++.
 if command -v make >/dev/null 2>&1; then
     make --no-print-directory --silent check-c LIB=target/lib/libftd.a
 else
     echo "tests from C: not run, there is no command make"
 fi
-
-(cd tests/reader && cargo test --offline --quiet)
 bash tests/quickfix/run.sh
 (cd tests/outside && cargo build --release --offline --quiet)
 outside=$root/tests/outside/target/release

@@ -7,6 +7,7 @@ pub mod calendar;
 pub mod cut;
 pub mod few;
 pub mod fix;
+pub mod fix_calls;
 pub mod fix_cases;
 pub mod fix_frames;
 pub mod generate;
