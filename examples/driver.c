@@ -1,8 +1,9 @@
 /* An example driver: a serving and a receiving end, each in a process of its own, over a line that breaks.
  *
- * The serving process publishes messages of two series, answers logins and sends. The first line breaks within a
- * message of five packets; both sides go on with the second line, and the message is sent anew. The receiving process
- * reads what is there, wherever that cuts a packet, hands it over and keeps the rest; it prints what it is handed.
+ * The serving process publishes messages of two series, answers logins and sends: the private series packet by packet,
+ * as a slow line takes them, the broadcast one in whole messages. The first line breaks within a message of five
+ * packets; both sides go on with the second line, and the message is sent anew. The receiving process reads what is
+ * there, wherever that cuts a packet, hands it over and keeps the rest; it prints what it is handed.
  * Where there are two socket pairs here a driver has its sockets; the rest can be taken over.
  *
  *     make example && target/example/driver
@@ -10,6 +11,7 @@
 #define _POSIX_C_SOURCE 200809L
 #include "ftd.h"
 #include <errno.h>
+#include <poll.h>
 #include <stdio.h>
 #include <stdlib.h>
 #include <string.h>
@@ -30,7 +32,8 @@ enum {
     OTHER = 0x7777, /* TID and FID of a message that the standard doesn't have: its bytes are free */
     OTHER_FIELD = 0x7001,
     LOG_SIZE = 1 << 20, /* bytes for the day's messages: content and FTD_LOG_HEAD of each */
-    RECORDS = 1 << 16   /* bytes for messages that are published together: content and FTD_RECORD_HEAD of each */
+    RECORDS = 1 << 16,  /* bytes for messages that are published together: content and FTD_RECORD_HEAD of each */
+    SLOW = 1500         /* so many bytes are written at most where the line is slow; only here to show it */
 };
 
 static const uint16_t open_series[SERIES] = {PRIVATE, BROADCAST};
@@ -140,6 +143,30 @@ static int write_bytes(struct line *line, const uint8_t *bytes, size_t count) {
         rest -= (size_t)n;
     }
     return whole;
+}
+
+/* Waits until the line takes more, and writes what it takes: at most so many bytes. Gives how many; 0: the line is
+ * broken. */
+static size_t write_some(struct line *line, const uint8_t *bytes, size_t count) {
+    struct pollfd ready;
+    ssize_t n;
+
+    if (count > SLOW)
+        count = SLOW;
+    if (count > line->left)
+        count = line->left;
+    if (count == 0)
+        return 0;
+    ready.fd = line->socket;
+    ready.events = POLLOUT;
+    do {
+        poll(&ready, 1, -1); /* where a driver has many lines, it waits for all of them here */
+        n = send(line->socket, bytes, count, MSG_NOSIGNAL | MSG_DONTWAIT);
+    } while (n < 0 && (errno == EINTR || errno == EAGAIN || errno == EWOULDBLOCK));
+    if (n <= 0)
+        return 0;
+    line->left -= (size_t)n;
+    return (size_t)n;
 }
 
 /* ---- Contents: data fields, and fields of items ---- */
@@ -335,7 +362,42 @@ static int serve_login(struct ftd_sender *end, struct line *line) {
     return write_bytes(line, output, login.bytes);
 }
 
-/* Sends all that is left of a series; 0: the line is broken. */
+/* What else there is to do while a message is under way: here one more is published, once. */
+static void work_between(struct ftd_sender *end) {
+    static int done;
+
+    if (!done) {
+        other_content(&content, 2, 10);
+        publish(end, PRIVATE, OTHER);
+    }
+    done = 1;
+}
+
+/* Sends all that is left of a series packet by packet: the next one when the line has taken the last; 0: the line is
+ * broken. What is left of the message then isn't sent on the next line: its login starts the message anew. */
+static int serve_packets(struct ftd_sender *end, struct line *line, uint16_t series) {
+    for (;;) {
+        struct ftd_sent_packet sent =
+            ftd_send_packet(*end, series, day_log, sizeof day_log, output, FTD_MOST_PACKET);
+        size_t taken = 0;
+
+        must("ftd_send_packet", sent.refusal);
+        *end = sent.end;
+        if (sent.answer == FTD_SEND_NONE)
+            return 1;
+        while (taken < sent.bytes) {
+            size_t n = write_some(line, output + taken, sent.bytes - taken);
+
+            if (n == 0)
+                return 0;
+            taken += n;
+        }
+        if (!sent.last)
+            work_between(end);
+    }
+}
+
+/* Sends all that is left of a series, message by message; 0: the line is broken. */
 static int serve_messages(struct ftd_sender *end, struct line *line, uint16_t series) {
     for (;;) {
         struct ftd_sent sent = ftd_send(*end, series, day_log, sizeof day_log, output, sizeof output);
@@ -367,9 +429,9 @@ static void serve_line(struct ftd_sender *end, struct line *line) {
     must("ftd_write_plain", unknown.refusal);
     if (!write_bytes(line, output, unknown.bytes))
         return;
-    for (i = 0; i < SERIES; i++)
-        if (!serve_messages(end, line, open_series[i]))
-            return;
+    if (!serve_packets(end, line, PRIVATE))
+        return;
+    serve_messages(end, line, BROADCAST);
 }
 
 static void serve(struct line lines[LINES]) {

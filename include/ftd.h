@@ -32,6 +32,7 @@
  *       ftd_confirm_login  <--- login answer -------
  *     ftd_receive          <--- message packets ----   ftd_send until FTD_SEND_NONE, and again when more is published
  *
+ * On a line that can't take a long message at once, ftd_send_packet sends it packet by packet.
  * Both ends have a call that takes a bufferful: ftd_receive_several all that a line has brought, wherever a read cuts
  * the packets, and ftd_publish_several a run of messages. They do what ftd_receive and ftd_publish do for one after the
  * other.
@@ -118,7 +119,7 @@ enum ftd_limit {
     FTD_REQUEST_CONTENT = 4068,  /* content bytes given to ftd_request_login, which puts 12 behind them */
     FTD_MOST_CONTENT = 32768,    /* content bytes of a message; bytes of the reassembly buffer for each series */
     FTD_MOST_PACKETS = 17,       /* packets of a message */
-    FTD_MOST_PACKET = 4106,      /* bytes of one of them, as ftd_send writes it */
+    FTD_MOST_PACKET = 4106,      /* bytes of one of them, as ftd_send and ftd_send_packet write it */
     FTD_MOST_OUTPUT = 33210,     /* bytes of all packets of a message: an output that is always large enough */
     FTD_MOST_BYTES = 65794,      /* bytes that a packet can take on the line: room for a bufferful of packets */
     FTD_LOG_HEAD = 16,           /* bytes that a message takes in the log besides its content */
@@ -272,6 +273,7 @@ enum ftd_mode {
 /* A series that is served. */
 struct ftd_served {
     uint64_t next;      /* the number that is sent next, where logged in */
+    uint64_t piece;     /* how many packets of that message ftd_send_packet has written; 0: none is under way */
     uint32_t published; /* how many messages were published, so the last one's number */
     uint16_t series;
     uint8_t login; /* not 0: logged in */
@@ -330,6 +332,16 @@ struct ftd_sent {
     uint32_t number; /* message: its number */
     uint8_t answer;  /* enum ftd_send_answer */
     uint8_t refusal;
+};
+
+/* Of one packet; FTD_SEND_MESSAGE: the packet was written. */
+struct ftd_sent_packet {
+    struct ftd_sender end;
+    size_t bytes;    /* message: how many were written, one packet */
+    uint32_t number; /* message: its number */
+    uint8_t answer;  /* enum ftd_send_answer */
+    uint8_t refusal;
+    uint8_t last; /* message: 1 where the packet is its last one, and the series has stepped on */
 };
 
 /* ---- The receiving end: state and answers ---- */
@@ -640,6 +652,25 @@ struct ftd_logged_in ftd_login(struct ftd_sender end, uint16_t series, const uin
  * Refusals: 13, 14, then FTD_SEND_NONE where nothing is left, 20, 18. */
 struct ftd_sent ftd_send(struct ftd_sender end, uint16_t series, const uint8_t *log, size_t log_len,
                          uint8_t *output, size_t room);
+
+/* Send, one packet: writes the next packet of the series' next message to the output; with the message's last packet
+ * the series steps on. The packets are those that ftd_send writes for the message, and how many of them are written
+ * stands in the state (`piece`). For a line that can't take a long message at once:
+ *
+ *     whenever the socket takes more: write what is left of the packet; where nothing is left, call for the next one
+ *
+ * An output of FTD_MOST_PACKET bytes is never too small. Messages may be published between two packets: those still to
+ * come stay the same. Each series has its own message under way, and a message of one packet is sent at once.
+ * A ftd_login of the series, a ftd_sender_open and a ftd_send of the series end the message under way, and something
+ * starts anew: behind a login its message, with the first packet, and ftd_send writes the message whole, from the first
+ * packet on, whatever was written of it before. A refused call ends nothing. So two rules for a driver: write nothing
+ * else of the series between two packets of a message, and when the line breaks don't go on with the rest on the next
+ * one, but with a login. FTD_SEND_NONE isn't answered while the last message is under way.
+ * Each call reads the log from its start up to the message, as ftd_send does.
+ * Refusals: 13, 14, then FTD_SEND_NONE where nothing is left, 20 (also: the message, altered in the log, has no such
+ * packet any more), 18 (this packet alone counts). */
+struct ftd_sent_packet ftd_send_packet(struct ftd_sender end, uint16_t series, const uint8_t *log, size_t log_len,
+                                       uint8_t *output, size_t room);
 
 /* ---- The receiving end ---- */
 

@@ -103,6 +103,12 @@ fresh_reader
 change "$work/tests/reader/src/serving.rs" 'u16_at(head, 2) != 0 || ' ''
 expect "an entry's zero bytes may be any" "$root/target/lib" calls
 fresh_reader
+change "$work/tests/reader/src/serving.rs" '(one.next, one.piece) = (Some(next), 0);' 'one.next = Some(next);'
+expect "a login keeps the place of the unfinished message" "$root/target/lib" calls
+fresh_reader
+change "$work/tests/reader/src/serving.rs" 'let last = i + 1 == parts.len();' 'let last = i + 2 >= parts.len();'
+expect "a message is stepped over with the packet before its last" "$root/target/lib" calls
+fresh_reader
 change "$work/tests/reader/src/several.rs" 'Err(row) => return Answer { stop: Stop::Refused(row), taken },' 'Err(row) => return Answer { stop: Stop::Refused(row), taken: taken - length },'
 expect "a refused packet of a bufferful isn't taken" "$root/target/lib" calls
 fresh_reader

@@ -35,13 +35,15 @@ static void sizes(void) {
     EXPECT(sizeof(struct ftd_step) == 16);
     EXPECT(sizeof(struct ftd_item) == 32);
     EXPECT(sizeof(struct ftd_resume) == 8);
-    EXPECT(sizeof(struct ftd_served) == 16);
-    EXPECT(sizeof(struct ftd_sender) == 152);
-    EXPECT(sizeof(struct ftd_sender_opened) == 160);
-    EXPECT(sizeof(struct ftd_published) == 160);
-    EXPECT(sizeof(struct ftd_published_several) == 176);
-    EXPECT(sizeof(struct ftd_logged_in) == 168);
-    EXPECT(sizeof(struct ftd_sent) == 168);
+    EXPECT(sizeof(struct ftd_served) == 24 && offsetof(struct ftd_served, piece) == 8);
+    EXPECT(sizeof(struct ftd_sender) == 216);
+    EXPECT(sizeof(struct ftd_sender_opened) == 224);
+    EXPECT(sizeof(struct ftd_published) == 224);
+    EXPECT(sizeof(struct ftd_published_several) == 240);
+    EXPECT(sizeof(struct ftd_logged_in) == 232);
+    EXPECT(sizeof(struct ftd_sent) == 232);
+    EXPECT(sizeof(struct ftd_sent_packet) == 232 && offsetof(struct ftd_sent_packet, number) == 224);
+    EXPECT(offsetof(struct ftd_sent_packet, answer) == 228 && offsetof(struct ftd_sent_packet, last) == 230);
     EXPECT(sizeof(struct ftd_kept) == 32);
     EXPECT(sizeof(struct ftd_receiver) == 264);
     EXPECT(sizeof(struct ftd_receiver_opened) == 272);
@@ -361,6 +363,153 @@ static void refusals_of_serving(void) {
     login_bytes = ftd_request_login(receiver, 3, request, sizeof request, login, sizeof login).bytes;
     EXPECT(ftd_login(sender, 3, login, login_bytes, answer, sizeof answer, output, sizeof output).refusal ==
            FTD_OTHER_DAY);
+}
+
+/* ---- One packet a call ---- */
+
+static uint8_t whole[FTD_MOST_OUTPUT];
+
+/* One packet of series 3 into an output of so many bytes, where nothing is changed behind what is written. */
+static struct ftd_sent_packet packet_of(struct ftd_sender end, size_t room) {
+    struct ftd_sent_packet sent;
+    size_t i;
+
+    memset(output, 0xA5, sizeof output);
+    sent = ftd_send_packet(end, 3, day_log, sizeof day_log, output, room);
+    for (i = sent.bytes; i < sizeof output && output[i] == 0xA5; i++)
+        ;
+    EXPECT(i == sizeof output);
+    EXPECT(sent.answer == FTD_SEND_MESSAGE || (sent.bytes == 0 && sent.number == 0 && sent.last == 0));
+    EXPECT((sent.answer == FTD_SEND_REFUSED) == (sent.refusal != 0));
+    return sent;
+}
+
+/* The packet is this one of the second message, of three. */
+static void is_piece(const struct ftd_sent_packet *sent, size_t i) {
+    EXPECT(sent->answer == FTD_SEND_MESSAGE && sent->number == 2 && sent->bytes == PACKET && sent->last == (i == 2));
+    EXPECT(sent->end.series[1].next == (i == 2 ? 3 : 2) && sent->end.series[1].piece == (i == 2 ? 0 : i + 1));
+    EXPECT(memcmp(output, whole + i * PACKET, PACKET) == 0);
+}
+
+/* Logged in, the first message is sent; what the whole Send would write of the second one is laid aside. */
+static struct ftd_sender at_the_second(struct ftd_receiver *receiver) {
+    struct ftd_sender sender = serving();
+    struct ftd_sent_packet sent;
+
+    *receiver = receiving();
+    EXPECT(packet_of(sender, sizeof output).refusal == FTD_NOT_LOGGED_IN);
+    log_in(&sender, receiver);
+    sent = packet_of(sender, FTD_MOST_PACKET);
+    EXPECT(sent.answer == FTD_SEND_MESSAGE && sent.number == 1 && sent.bytes == PACKET && sent.last == 1);
+    EXPECT(sent.end.series[1].next == 2 && sent.end.series[1].piece == 0);
+    EXPECT(ftd_send(sent.end, 3, day_log, sizeof day_log, whole, sizeof whole).bytes == 3 * PACKET);
+    *receiver = ftd_receive(*receiver, output, PACKET, buffer, sizeof buffer).end;
+    return sent.end;
+}
+
+/* The packets are those of the whole Send, wherever something is published between; the message is handed on. */
+static void packet_by_packet(void) {
+    struct ftd_receiver receiver;
+    struct ftd_sender sender = at_the_second(&receiver);
+    struct ftd_sent_packet sent;
+    struct ftd_received got;
+    struct ftd_published published;
+    size_t i;
+
+    for (i = 0; i < 3; i++) {
+        sent = packet_of(sender, FTD_MOST_PACKET);
+        is_piece(&sent, i);
+        got = ftd_receive(receiver, output, sent.bytes, buffer, sizeof buffer);
+        EXPECT(got.answer == (i == 2 ? FTD_RECEIVE_MESSAGE : FTD_RECEIVE_HELD));
+        receiver = got.end;
+        published = ftd_publish(sent.end, i == 1 ? 7 : 3, 0x7777, large, 4006, day_log, sizeof day_log);
+        EXPECT(published.refusal == 0 && published.end.series[1].piece == sent.end.series[1].piece);
+        sender = published.end;
+    }
+    EXPECT(got.last == 2 && got.tid == 0x7778 && got.content.len == sizeof large);
+    EXPECT(memcmp(buffer + got.content.start, large, sizeof large) == 0);
+    for (i = 3; i < 5; i++) {
+        sent = packet_of(sender, PACKET);
+        EXPECT(sent.answer == FTD_SEND_MESSAGE && sent.number == i && sent.last == 1);
+        sender = sent.end;
+    }
+    EXPECT(packet_of(sender, sizeof output).answer == FTD_SEND_NONE);
+}
+
+/* A login of the series, an opening and a whole Send end it, and refused calls and another series' login don't. */
+static void packets_ended(void) {
+    struct ftd_receiver receiver;
+    struct ftd_sender sender = at_the_second(&receiver);
+    struct ftd_sent_packet first = packet_of(sender, PACKET), again, second;
+    struct ftd_sender_opened opened;
+    struct ftd_logged_in in;
+    struct ftd_sent sent;
+
+    is_piece(&first, 0);
+    /* A login that starts at the very number. */
+    login_bytes = ftd_request_login(receiver, 3, request, sizeof request, login, sizeof login).bytes;
+    in = ftd_login(first.end, 3, login, login_bytes, answer, sizeof answer, output, sizeof output);
+    EXPECT(in.refusal == 0 && in.end.series[1].next == 2 && in.end.series[1].piece == 0);
+    again = packet_of(in.end, PACKET);
+    is_piece(&again, 0);
+    /* Refused ones; that of series 7. */
+    in = ftd_login(first.end, 3, login, login_bytes, answer, sizeof answer, output, 25);
+    EXPECT(in.refusal == FTD_TOO_SMALL && in.end.series[1].piece == 1);
+    login_bytes = ftd_request_login(receiver, 7, request, sizeof request, login, sizeof login).bytes;
+    in = ftd_login(first.end, 7, login, login_bytes, answer, sizeof answer, output, sizeof output);
+    EXPECT(in.refusal == 0 && in.end.series[1].piece == 1 && in.end.series[0].piece == 0);
+    EXPECT(ftd_send_packet(in.end, 7, day_log, sizeof day_log, output, sizeof output).answer == FTD_SEND_NONE);
+    second = packet_of(in.end, PACKET);
+    is_piece(&second, 1);
+    /* The whole Send: from the first packet on. */
+    sent = ftd_send(second.end, 3, day_log, sizeof day_log, output, 3 * PACKET - 1);
+    EXPECT(sent.refusal == FTD_TOO_SMALL && sent.end.series[1].piece == 2);
+    sent = ftd_send(second.end, 3, day_log, sizeof day_log, output, 3 * PACKET);
+    EXPECT(sent.answer == FTD_SEND_MESSAGE && sent.number == 2 && memcmp(output, whole, 3 * PACKET) == 0);
+    EXPECT(sent.end.series[1].next == 3 && sent.end.series[1].piece == 0);
+    EXPECT(packet_of(sent.end, PACKET).answer == FTD_SEND_NONE);
+    /* An opening. */
+    opened = ftd_sender_open(second.end, 100, series, 2);
+    EXPECT(opened.refusal == FTD_OPENING && opened.end.series[1].piece == 2);
+    opened = ftd_sender_open(second.end, 101, series, 2);
+    EXPECT(opened.refusal == 0 && opened.end.series[1].piece == 0);
+    EXPECT(packet_of(opened.end, PACKET).refusal == FTD_NOT_LOGGED_IN);
+}
+
+/* 13, 14, 20, 18 and none; a refused packet is simply asked for again. */
+static void packets_turned_down(void) {
+    struct ftd_receiver receiver;
+    struct ftd_sender sender = at_the_second(&receiver), any;
+    struct ftd_sent_packet sent;
+    uint8_t *content_length = day_log + (FTD_LOG_HEAD + 4006) + 12; /* of the second entry */
+    size_t i;
+
+    EXPECT(ftd_send_packet(sender, 9, day_log, sizeof day_log, output, sizeof output).refusal == FTD_UNKNOWN_SERIES);
+    EXPECT(ftd_send_packet(sender, 7, day_log, sizeof day_log, output, sizeof output).refusal == FTD_NOT_LOGGED_IN);
+    for (i = 0; i < 3; i++) {
+        sent = packet_of(sender, PACKET - 1);
+        EXPECT(sent.refusal == FTD_TOO_SMALL && sent.end.series[1].piece == i && sent.end.series[1].next == 2);
+        sent = ftd_send_packet(sender, 3, day_log, sender.used - 1, output, 0);
+        EXPECT(sent.refusal == FTD_DAMAGED_LOG && sent.end.series[1].piece == i && sent.end.series[1].next == 2);
+        sent = packet_of(sender, PACKET);
+        is_piece(&sent, i);
+        sender = sent.end;
+    }
+    EXPECT(packet_of(sender, 0).answer == FTD_SEND_NONE);
+    /* The entry has one field, so one packet, and two of three are written. */
+    any = sender;
+    any.series[1].next = 2;
+    any.series[1].piece = 2;
+    memcpy(content_length, "\0\0\x0F\xA6", 4);
+    EXPECT(packet_of(any, PACKET).refusal == FTD_DAMAGED_LOG);
+    EXPECT(ftd_send(any, 3, day_log, sizeof day_log, output, sizeof output).bytes == PACKET);
+    /* A place that no call made. */
+    any.series[1].piece = UINT64_MAX;
+    sent = packet_of(any, PACKET);
+    EXPECT(sent.refusal == FTD_DAMAGED_LOG && sent.end.series[1].piece == UINT64_MAX);
+    any.series[1].piece = 0;
+    sent = packet_of(any, PACKET);
+    EXPECT(sent.answer == FTD_SEND_MESSAGE && sent.last == 1 && output[15] == 'S');
 }
 
 static size_t buffer_len = sizeof buffer; /* as it is lent in what follows */
@@ -1213,8 +1362,11 @@ static void nulls_at_the_ends(void) {
     EXPECT(ftd_login(sender, 3, login, login_bytes, answer, sizeof answer, NULL, 0).refusal == FTD_TOO_SMALL);
     EXPECT(ftd_send(sender, 3, NULL, 0, output, sizeof output).refusal == FTD_DAMAGED_LOG);
     EXPECT(ftd_send(sender, 3, day_log, sizeof day_log, NULL, 0).refusal == FTD_TOO_SMALL);
+    EXPECT(ftd_send_packet(sender, 3, NULL, 0, output, sizeof output).refusal == FTD_DAMAGED_LOG);
+    EXPECT(ftd_send_packet(sender, 3, day_log, sizeof day_log, NULL, 0).refusal == FTD_TOO_SMALL);
     sender.series[1].next = 3;
     EXPECT(ftd_send(sender, 3, NULL, 0, NULL, 0).answer == FTD_SEND_NONE);
+    EXPECT(ftd_send_packet(sender, 3, NULL, 0, NULL, 0).answer == FTD_SEND_NONE);
     EXPECT(ftd_receive(receiver, heart, sizeof heart, NULL, 0).answer == FTD_RECEIVE_IDLE);
 }
 
@@ -1263,6 +1415,7 @@ static void any_state(void) {
     bytes[16] = bytes[17] = 255;
     EXPECT(ftd_publish(sender, 65535, 0x7777, NULL, 0, day_log, sizeof day_log).refusal == FTD_DAMAGED_LOG);
     EXPECT(ftd_send(sender, 65535, day_log, sizeof day_log, output, sizeof output).answer == FTD_SEND_NONE);
+    EXPECT(ftd_send_packet(sender, 65535, day_log, sizeof day_log, output, sizeof output).answer == FTD_SEND_NONE);
     EXPECT(ftd_login(sender, 65535, login, login_bytes, answer, sizeof answer, output, sizeof output).refusal ==
            FTD_UNKNOWN_SERIES);
     EXPECT(ftd_sender_open(sender, 5, series, 2).refusal == FTD_OPENING);
@@ -1300,6 +1453,9 @@ int main(void) {
     make_contents();
     flow();
     refusals_of_serving();
+    packet_by_packet();
+    packets_ended();
+    packets_turned_down();
     refusals_of_receiving();
     several_received();
     several_refused();

@@ -57,6 +57,7 @@ static struct ftd_written asked;
 static struct ftd_logged_in logged_in;
 static struct ftd_confirmed confirmed;
 static struct ftd_sent sent;
+static struct ftd_sent_packet sent_packet;
 static struct ftd_received received;
 static struct ftd_received_several several;
 static struct ftd_published_several published_several;
@@ -110,6 +111,14 @@ static void send_next(void)
 {
     sent = ftd_send(sender, 8, log_bytes, sizeof log_bytes, output, sizeof output);
     refusal = sent.refusal;
+}
+static void send_packets(void)
+{
+    sent_packet.end = sender;
+    do {
+        sent_packet = ftd_send_packet(sent_packet.end, 8, log_bytes, sizeof log_bytes, output, sizeof output);
+        refusal = sent_packet.refusal;
+    } while (sent_packet.answer == FTD_SEND_MESSAGE && !sent_packet.last);
 }
 static void receive_all(void)
 {
@@ -210,6 +219,9 @@ int main(void)
     sender = logged_in.end;
     row("ftd_confirm_login", confirm);
     receiver = confirmed.end;
+    row("ftd_send_packet", send_packets);
+    if (!sent_packet.last)
+        puts("not sent");
     row("ftd_send", send_next);
     row("ftd_receive", receive_all);
     if (received.answer != FTD_RECEIVE_MESSAGE || received.content.len != filled)

@@ -1,5 +1,5 @@
 -- `EndLaws` holds. Assumes nothing.
-use Prim.Native.Nat.{ℕ, _+_}
+use Prim.Native.Nat.{ℕ, suc, _+_}
 use native.Mathlib.Omega.{arith}
 use mathlib.Core.Path.{_≡_, refl, sym, ap, _∙_}
 use mathlib.Core.List.{List, [], _∷_, map}
@@ -20,6 +20,7 @@ use Rattle.flow.specs.declared.sender.Published.the-variants.{Number}
 use Rattle.flow.specs.declared.sender.Published.the-variants.{Refused as NotPublished}
 use Rattle.flow.specs.declared.sender.LoggedIn.{LoggedIn}
 use Rattle.flow.specs.declared.sender.Sent.{Sent}
+use Rattle.flow.specs.declared.sender.SentPacket.{SentPacket}
 use Rattle.flow.specs.declared.receiver.KeptSeries.{KeptSeries}
 use Rattle.flow.specs.declared.receiver.LiveSeries.{LiveSeries}
 use Rattle.flow.specs.declared.receiver.Receiver.{Receiver}
@@ -36,8 +37,8 @@ use Rattle.flow.specs.declared.several.ReceivedSeveral.the-variants.{Refused as
 use Rattle.flow.specs.declared.several.PublishedSeveral.{PublishedSeveral}
 use Rattle.flow.specs.declared.several.PublishedSeveral.the-variants.{End as AllIn, Short as Cut}
 use Rattle.flow.specs.declared.several.PublishedSeveral.the-variants.{Refused as NotIn}
-use Rattle.flow.specs.Ends.{Left, Wrote, freshSender, freshReceiver, isServed, withNext}
-use Rattle.flow.specs.Serving.{openDayOf, publishOf, loginOf, sendOf}
+use Rattle.flow.specs.Ends.{Left, Wrote, freshSender, freshReceiver, isServed, placeOf, withPlace}
+use Rattle.flow.specs.Serving.{openDayOf, publishOf, loginOf, sendOf, afterPacket, lastPacket, sendPacketOf}
 use Rattle.flow.specs.Receiving.{openEndOf, connectOf, confirmLoginOf, receiveOf}
 use Rattle.flow.specs.Several.{Repeated, took, stopOr, walkFrom, severalOf, receiving, receiveSeveralOf, publishRecord}
 use Rattle.flow.specs.Several.{publishing, publishSeveralOf}
@@ -52,14 +53,16 @@ use Rattle.flow.proofs.calls.Serving.{OpenDone, open-refused, open-taken, open-
 use Rattle.flow.proofs.calls.Serving.{PublishDone, publish-refused, publish-taken, publish-cases}
 use Rattle.flow.proofs.calls.Serving.{LoginDone, login-refused, login-taken, login-cases}
 use Rattle.flow.proofs.calls.Serving.{SendDone, send-unknown, send-outside, send-drained, send-damaged, send-small}
-use Rattle.flow.proofs.calls.Serving.{send-taken, send-cases}
+use Rattle.flow.proofs.calls.Serving.{send-taken, send-cases, PacketDone, packet-unknown, packet-outside}
+use Rattle.flow.proofs.calls.Serving.{packet-drained, packet-damaged, packet-missing, packet-small, packet-taken}
+use Rattle.flow.proofs.calls.Serving.{packet-cases}
 use Rattle.flow.proofs.steps.Turns.{turn-eight, open-turn, confirm-turn, receive-turn}
 use Rattle.exports.specs.declared.serving.FtdSender.{FtdSender}
 use Rattle.exports.specs.declared.receiving.FtdReceiver.{FtdReceiver}
 use Rattle.exports.specs.Numbers.{flag, datedFlag, dateOf, dateFor, paired}
 use Rattle.exports.specs.Serving.{daySeriesFor, placeFor, senderFor, servedNumbers, senderNumbers}
 use Rattle.exports.specs.Serving.{publishedWith, dayOpenedNumbers, publishedNumbers, loggedInNumbers}
-use Rattle.exports.specs.Serving.{sentNumbers}
+use Rattle.exports.specs.Serving.{sentNumbers, sentPacketNumbers}
 use Rattle.exports.specs.Receiving.{keptFor, liveFor, receiverFor, keptNumbers, receiverNumbers}
 use Rattle.exports.specs.Receiving.{confirmedWith, receivedWith, endOpenedNumbers, confirmedNumbers}
 use Rattle.exports.specs.Receiving.{receivedNumbers}
@@ -171,14 +174,14 @@ module _ (e : Sender) (z : SenderEight e) where
   published-eight s tid content log r (publish-refused q) = z
   published-eight s tid content log r (publish-taken t) = eight-entry e s (t .served) z (16 + length content)
 
-  next-is : (s : ℕ) → isServed e s ≡ true → (next : ℕ)
-      → SenderIs (senderNumbers (withNext e s next)) (withNext e s next)
-  next-is s o next = sender-is (withNext e s next) (eight-next e s o z next)
+  next-is : (s : ℕ) → isServed e s ≡ true → (next piece : ℕ)
+      → SenderIs (senderNumbers (withPlace e s next piece)) (withPlace e s next piece)
+  next-is s o next piece = sender-is (withPlace e s next piece) (eight-next e s o z next piece)
 
   logged-in-is : (s : ℕ) (p content out : List ℕ) (r : Wrote Sender LoggedIn) → LoginDone e s p content out r
       → SenderIs (loggedInNumbers r .end) (r .end)
   logged-in-is s p content out r (login-refused q) = sender-is e z
-  logged-in-is s p content out r (login-taken h x c a b g t) = next-is s (t .served) _
+  logged-in-is s p content out r (login-taken h x c a b g t) = next-is s (t .served) _ 0
 
   sent-is : (s : ℕ) (log out : List ℕ) (r : Wrote Sender Sent) → SendDone e s log out r
       → SenderIs (sentNumbers r .end) (r .end)
@@ -187,7 +190,23 @@ module _ (e : Sender) (z : SenderEight e) where
   sent-is s log out r (send-drained q h) = sender-is e z
   sent-is s log out r (send-damaged q h g) = sender-is e z
   sent-is s log out r (send-small x q h g i) = sender-is e z
-  sent-is s log out r (send-taken x q h g i) = next-is s (q .served) _
+  sent-is s log out r (send-taken x q h g i) = next-is s (q .served) _ 0
+
+  after-is : (s : ℕ) → isServed e s ≡ true → (last : Bool)
+      → SenderIs (senderNumbers (afterPacket e s last)) (afterPacket e s last)
+  unfolding afterPacket
+  after-is s o true = next-is s o (suc (placeOf e s .next)) 0
+  after-is s o false = next-is s o (placeOf e s .next) (placeOf e s .piece + 1)
+
+  sent-packet-is : (s : ℕ) (log out : List ℕ) (r : Wrote Sender SentPacket) → PacketDone e s log out r
+      → SenderIs (sentPacketNumbers r .end) (r .end)
+  sent-packet-is s log out r (packet-unknown q) = sender-is e z
+  sent-packet-is s log out r (packet-outside q h) = sender-is e z
+  sent-packet-is s log out r (packet-drained q h) = sender-is e z
+  sent-packet-is s log out r (packet-damaged q h g) = sender-is e z
+  sent-packet-is s log out r (packet-missing x q h g i) = sender-is e z
+  sent-packet-is s log out r (packet-small x q h g i j) = sender-is e z
+  sent-packet-is s log out r (packet-taken x q h g i j) = after-is s (q .served) (lastPacket e s x)
 
 -- An answer stands beside the end.
 published-end : (n : FtdSender) (a : Published) → publishedWith n a .end ≡ n
@@ -236,6 +255,11 @@ module _ (n : FtdSender) (e : Sender) (h : SenderIs n e) where
   send : (s : ℕ) (log out : List ℕ)
       → SenderIs (sentNumbers (sendOf (senderFor n) s log out) .end) (sendOf e s log out .end)
   send s log out = rw (h .0) (sent-is e eight-of s log out (sendOf e s log out) (send-cases e s log out))
+
+  send-packet : (s : ℕ) (log out : List ℕ)
+      → SenderIs (sentPacketNumbers (sendPacketOf (senderFor n) s log out) .end) (sendPacketOf e s log out .end)
+  send-packet s log out =
+      rw (h .0) (sent-packet-is e eight-of s log out (sendPacketOf e s log out) (packet-cases e s log out))
 
 -- ─── The receiving end, call by call ───
 
@@ -319,6 +343,7 @@ end-laws =
       publish-several = publish-several;
       login = login;
       send = send;
+      send-packet = send-packet;
       fresh-receiver = receiver-is freshReceiver fresh-end-eight;
       open-end = open-end;
       connect = connect;

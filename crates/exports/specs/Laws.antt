@@ -6,13 +6,13 @@ use lib.ListN.{length}
 use Rattle.flow.specs.declared.sender.Sender.{Sender}
 use Rattle.flow.specs.declared.receiver.Receiver.{Receiver}
 use Rattle.flow.specs.Ends.{freshSender, freshReceiver}
-use Rattle.flow.specs.Serving.{openDayOf, publishOf, loginOf, sendOf}
+use Rattle.flow.specs.Serving.{openDayOf, publishOf, loginOf, sendOf, sendPacketOf}
 use Rattle.flow.specs.Receiving.{openEndOf, connectOf, confirmLoginOf, receiveOf}
 use Rattle.flow.specs.Several.{receiveSeveralOf, publishSeveralOf}
 use Rattle.exports.specs.declared.serving.FtdSender.{FtdSender}
 use Rattle.exports.specs.declared.receiving.FtdReceiver.{FtdReceiver}
 use Rattle.exports.specs.Serving.{senderFor, senderNumbers, dayOpenedNumbers, publishedNumbers, loggedInNumbers}
-use Rattle.exports.specs.Serving.{sentNumbers}
+use Rattle.exports.specs.Serving.{sentNumbers, sentPacketNumbers}
 use Rattle.exports.specs.Receiving.{receiverFor, receiverNumbers, endOpenedNumbers, confirmedNumbers}
 use Rattle.exports.specs.Receiving.{receivedNumbers}
 use Rattle.exports.specs.Several.{receivedSeveralNumbers, publishedSeveralNumbers}
@@ -45,6 +45,8 @@ pub record EndLaws : Type 0 where
       → SenderIs (loggedInNumbers (loginOf (senderFor n) s p content out) .end) (loginOf e s p content out .end)
   pub send : (n : FtdSender) (e : Sender) → SenderIs n e → (s : ℕ) (log out : List ℕ)
       → SenderIs (sentNumbers (sendOf (senderFor n) s log out) .end) (sendOf e s log out .end)
+  pub send-packet : (n : FtdSender) (e : Sender) → SenderIs n e → (s : ℕ) (log out : List ℕ)
+      → SenderIs (sentPacketNumbers (sendPacketOf (senderFor n) s log out) .end) (sendPacketOf e s log out .end)
   pub fresh-receiver : ReceiverIs (receiverNumbers freshReceiver) freshReceiver
   pub open-end : (n : FtdReceiver) (e : Receiver) → ReceiverIs n e → (ss : List ℕ)
       → ReceiverIs (endOpenedNumbers (openEndOf (receiverFor n) ss) .end) (openEndOf e ss .end)

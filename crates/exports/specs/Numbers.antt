@@ -28,7 +28,7 @@ use Rattle.ftd.specs.declared.chain.ChainSize.{ChainSize}
 use Rattle.ftd.specs.declared.chain.ChainSize.the-variants.{Takes}
 use Rattle.ftd.specs.declared.chain.ChainSize.the-variants.{Refused as NotTaken}
 use Rattle.ftd.specs.declared.write.Written.{Written}
-use Rattle.ftd.specs.declared.write.Written.the-variants.{Bytes, NotPlain, NoPacket}
+use Rattle.ftd.specs.declared.write.Written.the-variants.{Bytes, NotPlain}
 use Rattle.ftd.specs.declared.write.Written.the-variants.{Refused as NotWritten}
 use Rattle.exports.specs.declared.FtdSpan.{FtdSpan}
 use Rattle.exports.specs.declared.FtdPacket.{FtdPacket}
@@ -202,12 +202,11 @@ abbrev pub sizeNumbers : ChainSize → FtdSize
 sizeNumbers (Takes s) = record { packets = s .packets; bytes = s .bytes; refusal = 0 }
 sizeNumbers (NotTaken r) = record { packets = 0; bytes = 0; refusal = numberOf r }
 
--- The last two answers are other writers' and have no number in the table: 255.
+-- The last answer is another writer's and has no number in the table: 255.
 abbrev pub writtenNumbers : Written → FtdWritten
 writtenNumbers (Bytes n) = record { bytes = n; refusal = 0 }
 writtenNumbers (NotWritten r) = record { bytes = 0; refusal = numberOf r }
 writtenNumbers NotPlain = record { bytes = 0; refusal = 255 }
-writtenNumbers NoPacket = record { bytes = 0; refusal = 255 }
 
 -- ─── The start field: 0 none, 1 and its values, 2 of another width, 3 more than one ───
 

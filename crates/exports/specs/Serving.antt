@@ -21,6 +21,10 @@ use Rattle.flow.specs.declared.sender.Sent.{Sent}
 use Rattle.flow.specs.declared.sender.Sent.the-variants.{Drained}
 use Rattle.flow.specs.declared.sender.Sent.the-variants.{Wrote as Message-sent}
 use Rattle.flow.specs.declared.sender.Sent.the-variants.{Refused as NotSent}
+use Rattle.flow.specs.declared.sender.SentPacket.{SentPacket}
+use Rattle.flow.specs.declared.sender.SentPacket.the-variants.{Drained as NoPacket}
+use Rattle.flow.specs.declared.sender.SentPacket.the-variants.{Wrote as Packet-sent}
+use Rattle.flow.specs.declared.sender.SentPacket.the-variants.{Refused as NotPacket}
 use Rattle.flow.specs.Ends.{Left, Wrote, sender}
 use Rattle.exports.specs.Numbers.{flag, datedFlag, dateOf, dateFor, paired}
 use Rattle.exports.specs.declared.serving.FtdServed.{FtdServed}
@@ -29,6 +33,7 @@ use Rattle.exports.specs.declared.serving.FtdSenderOpened.{FtdSenderOpen
 use Rattle.exports.specs.declared.serving.FtdPublished.{FtdPublished}
 use Rattle.exports.specs.declared.serving.FtdLoggedIn.{FtdLoggedIn}
 use Rattle.exports.specs.declared.serving.FtdSent.{FtdSent}
+use Rattle.exports.specs.declared.serving.FtdSentPacket.{FtdSentPacket}
 
 -- ─── The end that numbers say: any number but 0 is true, and a trade date unless dated is 0 ───
 
@@ -36,7 +41,7 @@ abbrev pub daySeriesFor : FtdServed → DaySeries
 daySeriesFor x = record { series = x .series; published = x .published }
 
 abbrev pub placeFor : FtdServed → Place
-placeFor x = record { login = not (eqb (x .login) 0); next = x .next }
+placeFor x = record { login = not (eqb (x .login) 0); next = x .next; piece = x .piece }
 
 unfoldable pub senderFor : FtdSender → Sender
 senderFor s =
@@ -45,7 +50,14 @@ senderFor s =
 -- ─── The numbers of an end ───
 
 abbrev pub servedNumbers : DaySeries → Place → FtdServed
-servedNumbers d p = record { next = p .next; published = d .published; series = d .series; login = flag (p .login) }
+servedNumbers d p =
+    record {
+      next = p .next;
+      piece = p .piece;
+      published = d .published;
+      series = d .series;
+      login = flag (p .login);
+    }
 
 unfoldable pub senderNumbers : Sender → FtdSender
 senderNumbers e =
@@ -80,6 +92,14 @@ sentWith e Drained = record { end = e; bytes = 0; number = 0; answer = 0; refusa
 sentWith e (Message-sent k n) = record { end = e; bytes = n; number = k; answer = 1; refusal = 0 }
 sentWith e (NotSent r) = record { end = e; bytes = 0; number = 0; answer = 2; refusal = numberOf r }
 
+-- The same, and 1 where it is the message's last packet.
+abbrev pub sentPacketWith : FtdSender → SentPacket → FtdSentPacket
+sentPacketWith e NoPacket = record { end = e; bytes = 0; number = 0; answer = 0; refusal = 0; last = 0 }
+sentPacketWith e (Packet-sent k n last) =
+    record { end = e; bytes = n; number = k; answer = 1; refusal = 0; last = flag last }
+sentPacketWith e (NotPacket r) =
+    record { end = e; bytes = 0; number = 0; answer = 2; refusal = numberOf r; last = 0 }
+
 -- ─── What each call leaves ───
 
 abbrev pub dayOpenedNumbers : Left Sender Opened → FtdSenderOpened
@@ -93,3 +113,6 @@ loggedInNumbers x = loggedInWith (senderNumbers (x .end)) (x .answer)
 
 abbrev pub sentNumbers : Wrote Sender Sent → FtdSent
 sentNumbers x = sentWith (senderNumbers (x .end)) (x .answer)
+
+abbrev pub sentPacketNumbers : Wrote Sender SentPacket → FtdSentPacket
+sentPacketNumbers x = sentPacketWith (senderNumbers (x .end)) (x .answer)

@@ -1,10 +1,11 @@
 // The serving end for C and Rust: its state as numbers by value, and its calls. Any numbers are a state.
 ghost use mathlib.Core.Path.{_≡_};
 ghost use Rattle.flow.specs.Ends.{freshSender};
-ghost use Rattle.flow.specs.Serving.{openDayOf, publishOf, loginOf, sendOf};
+ghost use Rattle.flow.specs.Serving.{openDayOf, publishOf, loginOf, sendOf, sendPacketOf};
 ghost use Rattle.exports.specs.Serving.{senderFor, servedNumbers, senderNumbers};
-ghost use Rattle.exports.specs.Serving.{openedNumber, publishedWith, loggedInWith, sentWith};
+ghost use Rattle.exports.specs.Serving.{openedNumber, publishedWith, loggedInWith, sentWith, sentPacketWith};
 ghost use Rattle.exports.specs.Serving.{dayOpenedNumbers, publishedNumbers, loggedInNumbers, sentNumbers};
+ghost use Rattle.exports.specs.Serving.{sentPacketNumbers};
 use crate::tags::date;
 use crate::tags::date_for;
 use crate::tags::dated;
@@ -18,12 +19,15 @@ use flow::sender::Published;
 use flow::sender::Seat;
 use flow::sender::Sender;
 use flow::sender::Sent;
+use flow::sender::SentPacket;
 use ftd::refusal::number;
 
-// A series: the number that is sent next, how many were published, and whether it is logged in.
+// A series: the number that is sent next, how many packets of that message were written one by one, how many were
+// published, and whether it is logged in.
 #[repr(C)]
 pub struct FtdServed {
     pub next: u64,
+    pub piece: u64,
     pub published: u32,
     pub series: u16,
     pub login: u8,
@@ -69,6 +73,16 @@ pub struct FtdSent {
     pub refusal: u8,
 }
 
+#[repr(C)]
+pub struct FtdSentPacket {
+    pub end: FtdSender,
+    pub bytes: usize,
+    pub number: u32,
+    pub answer: u8,
+    pub refusal: u8,
+    pub last: u8,
+}
+
 // The end that the numbers say.
 pub(crate) fn sender_for(s: FtdSender) -> Sender
     ensures { λ r. ⌜ r ≡ senderFor s ⌝ }
@@ -80,6 +94,7 @@ pub(crate) fn sender_for(s: FtdSender) -> Sender
     let mut places = [Place {
         login: false,
         next: 0,
+        piece: 0,
     }; 8];
     let mut i: usize = 0;
     while i < 8 {
@@ -91,6 +106,7 @@ pub(crate) fn sender_for(s: FtdSender) -> Sender
         places[i] = Place {
             login: one.login != 0,
             next: one.next,
+            piece: one.piece as usize,
         };
         i += 1;
     }
@@ -111,6 +127,7 @@ fn served(d: DaySeries, p: Place) -> FtdServed
 {
     FtdServed {
         next: p.next,
+        piece: p.piece as u64,
         published: d.published,
         series: d.series,
         login: flag_of(p.login),
@@ -126,6 +143,7 @@ pub(crate) fn sender_numbers(e: Sender) -> FtdSender
     let own = day.date;
     let mut all = [FtdServed {
         next: 0,
+        piece: 0,
         published: 0,
         series: 0,
         login: 0,
@@ -292,4 +310,55 @@ pub extern "C" fn ftd_send(end: FtdSender, series: u16, log: &[u8], out: &mut [u
     let after = step.end;
     let answer = step.answer;
     sent(sender_numbers(after), answer)
+}
+
+// What Send answers for one packet.
+fn sent_packet(end: FtdSender, a: SentPacket) -> FtdSentPacket
+    ensures { λ r. ⌜ r ≡ sentPacketWith end a ⌝ }
+{
+    match a {
+        SentPacket::Drained => FtdSentPacket {
+            end: end,
+            bytes: 0,
+            number: 0,
+            answer: 0,
+            refusal: 0,
+            last: 0,
+        },
+        SentPacket::Wrote { number, len, last } => FtdSentPacket {
+            end: end,
+            bytes: len,
+            number: number,
+            answer: 1,
+            refusal: 0,
+            last: flag_of(last),
+        },
+        SentPacket::Refused(r) => FtdSentPacket {
+            end: end,
+            bytes: 0,
+            number: 0,
+            answer: 2,
+            refusal: number(r),
+            last: 0,
+        },
+    }
+}
+
+// Send of one packet: the next packet of the series' next message is written.
+#[no_mangle]
+pub extern "C" fn ftd_send_packet(
+    end: FtdSender,
+    series: u16,
+    log: &[u8],
+    out: &mut [u8],
+) -> FtdSentPacket
+    ensures answer { λ r. ⌜ r ≡ sentPacketNumbers (sendPacketOf (senderFor end) series (now (log .entry))
+        (now (out .entry))) ⌝ }
+    ensures output { λ _. ⌜ now (out .exit) ≡ sendPacketOf (senderFor end) series (now (log .entry)) (now (out .entry))
+        .bytes ⌝ }
+{
+    let step = sender_for(end).send_packet(series, log, out);
+    let after = step.end;
+    let answer = step.answer;
+    sent_packet(sender_numbers(after), answer)
 }

@@ -28,9 +28,5 @@ pub(crate) fn written(w: Written) -> FtdWritten
             bytes: 0,
             refusal: 255,
         },
-        Written::NoPacket => FtdWritten {
-            bytes: 0,
-            refusal: 255,
-        },
     }
 }

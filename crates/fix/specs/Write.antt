@@ -6,7 +6,7 @@ use lib.ListN.{length, drop}
 use lib.Dec.{ltb}
 use Rattle.ftd.specs.declared.refusal.Refusal.the-variants.{NotOneFrame, RequiredTag, TooSmall}
 use Rattle.ftd.specs.declared.write.Written.{Written}
-use Rattle.ftd.specs.declared.write.Written.the-variants.{Bytes, Refused, NotPlain, NoPacket}
+use Rattle.ftd.specs.declared.write.Written.the-variants.{Bytes, Refused, NotPlain}
 use Rattle.fix.specs.Kinds.{kindOf}
 use Rattle.fix.specs.Fields.{fieldsOf}
 use Rattle.fix.specs.Check.{wrongNumbers, wrongTags}
@@ -27,7 +27,6 @@ abbrev pub outputOf : Written → List ℕ → List ℕ → List ℕ
 outputOf (Bytes n) frame out = frame ++ drop n out
 outputOf (Refused r) frame out = out
 outputOf NotPlain frame out = out
-outputOf NoPacket frame out = out
 
 unfoldable pub writeOutput : List ℕ → List ℕ → List ℕ → List ℕ
 writeOutput name run out = outputOf (writeAnswer name run (length out)) (frameBytes name run) out

@@ -25,15 +25,21 @@ use Rattle.flow.specs.declared.sender.Published.the-variants.{Number}
 use Rattle.flow.specs.declared.sender.Published.the-variants.{Refused as NotPublished}
 use Rattle.flow.specs.declared.sender.Sent.{Sent}
 use Rattle.flow.specs.declared.sender.Sent.the-variants.{Drained, Wrote, Refused}
+use Rattle.flow.specs.declared.sender.SentPacket.{SentPacket}
+use Rattle.flow.specs.declared.sender.SentPacket.the-variants.{Drained as NoPacket}
+use Rattle.flow.specs.declared.sender.SentPacket.the-variants.{Wrote as Packet-sent}
+use Rattle.flow.specs.declared.sender.SentPacket.the-variants.{Refused as NotPacket}
 use Rattle.flow.specs.Ends.{Wrote as Leaves, placeOf}
 use Rattle.flow.specs.Log.{entryContent, entrySeries, strangeSeries, nonzero, misnumbered, misshapen, isWanted}
 use Rattle.flow.specs.Log.{logShort, entriesOf, walk, entryOf}
-use Rattle.flow.specs.Serving.{publishOf, sendBytes, sendOf}
+use Rattle.flow.specs.Serving.{publishOf, sendPackets, sendBytes, sendOf, nextPacket, sendPacketOf}
 use Rattle.flow.specs.Biggest.{biggestContent, reaches, Biggest}
 use Rattle.flow.proofs.common.Rows.{by-when}
 use Rattle.flow.proofs.calls.Serving.{PublishDone, publish-refused, publish-taken, publish-cases, SendDone}
 use Rattle.flow.proofs.calls.Serving.{send-unknown, send-outside, send-drained, send-damaged, send-small}
-use Rattle.flow.proofs.calls.Serving.{send-taken, send-cases}
+use Rattle.flow.proofs.calls.Serving.{send-taken, send-cases, PacketDone, packet-unknown, packet-outside}
+use Rattle.flow.proofs.calls.Serving.{packet-drained, packet-damaged, packet-missing, packet-small, packet-taken}
+use Rattle.flow.proofs.calls.Serving.{packet-cases}
 use Rattle.flow.proofs.bench.Opened.{opened}
 
 -- ─── What a content of right shape takes ───
@@ -128,6 +134,31 @@ module _ (e : Sender) (s : ℕ) (log out : List ℕ) (room : mostOutput ≤ leng
   enough : sendOf e s log out .answer ≡ Refused TooSmall → ⊥
   enough h = not-small (sendOf e s log out) (send-cases e s log out) (rw h tt)
 
+-- ─── Nor one of the most bytes of a packet, for one packet ───
+
+abbrev is-small-packet : SentPacket → Type 0
+is-small-packet NoPacket = ⊥
+is-small-packet (Packet-sent number len last) = ⊥
+is-small-packet (NotPacket r) = T (eqb (numberOf r) 18)
+
+module _ (e : Sender) (s : ℕ) (log out : List ℕ) (room : mostPacket ≤ length out) where
+  packet-fits : (x : List ℕ) → entryOf e log s (placeOf e s .next) ≡ some x
+      → placeOf e s .piece < length (sendPackets e s x) → length (nextPacket e s x) ≤ mostPacket
+  unfolding nextPacket
+  packet-fits x h l = small _ (entryContent x) (found-shaped e s (placeOf e s .next) log x h) (placeOf e s .piece) l
+
+  packet-not-small : (r : Leaves Sender SentPacket) → PacketDone e s log out r → is-small-packet (r .answer) → ⊥
+  packet-not-small _ (packet-unknown a) h = h
+  packet-not-small _ (packet-outside a b) h = h
+  packet-not-small _ (packet-drained a b) h = h
+  packet-not-small _ (packet-damaged a b c) h = h
+  packet-not-small _ (packet-missing x a b c d) h = h
+  packet-not-small _ (packet-small x a b c d f) h = omega (arith, f, packet-fits x c d, room)
+  packet-not-small _ (packet-taken x a b c d f) h = h
+
+  enough-packet : sendPacketOf e s log out .answer ≡ NotPacket TooSmall → ⊥
+  enough-packet h = packet-not-small (sendPacketOf e s log out) (packet-cases e s log out) (rw h tt)
+
 -- ─── All of it ───
 
 reached : T (reaches 17 33210)
@@ -147,4 +178,5 @@ biggest =
       bytes = λ e s t content log k h m. all-fit m content (taken-shaped e s t content log k h);
       reached = reached;
       enough = enough;
+      enough-packet = enough-packet;
     }

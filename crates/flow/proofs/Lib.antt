@@ -2,6 +2,7 @@
 pub mod common
 pub mod ends
 pub mod calls
+pub mod single
 pub mod packets
 pub mod source
 pub mod steps
@@ -12,6 +13,7 @@ pub mod first
 pub mod second
 pub mod numbers
 pub mod Agreement
+pub mod PacketByPacket
 pub mod Follows
 pub mod bench
 pub mod Biggest

@@ -7,3 +7,4 @@ pub mod Lists
 pub mod Histories
 pub mod Contents
 pub mod Writers
+pub mod Transmissions

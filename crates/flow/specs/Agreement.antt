@@ -12,7 +12,8 @@ use Rattle.flow.specs.declared.sender.Sent.the-variants.{Drained}
 use Rattle.flow.specs.Ends.{isDay, allParts}
 use Rattle.flow.specs.Serving.{sendOf}
 use Rattle.flow.specs.Answers.{Message}
-use Rattle.flow.specs.World.{InSeries, inSeries, Dated, Event, answer, message, World, start, step, run, inRuns}
+use Rattle.flow.specs.World.{InSeries, inSeries, Dated, Event, answer, message, whole, transmission, World, start}
+use Rattle.flow.specs.World.{step, run, inRuns}
 
 -- ─── "For every series and day" ───
 
@@ -95,9 +96,12 @@ pub record Agreement : Type 0 where
   pub dated : (log buffer : List ℕ) (es : List Event) → T (inRuns (start log buffer) es) →
       let w = run (start log buffer) es in
       EachDated (w .receiving .handed) × EachDated (w .receiving .reports)
-  -- Each message on the line has a packet: whatever was sent can be delivered.
+  -- Each message sent is on the line, whole, and has a packet: whatever was sent can be delivered.
   pub sent : (log buffer : List ℕ) (es : List Event) (i : ℕ) (m : InSeries (List (List ℕ))) →
-      getElem? (run (start log buffer) es .serving .messages) i ≡ some m → 0 < length (m .what)
+      let v = run (start log buffer) es .serving in
+      getElem? (v .messages) i ≡ some m
+      → (0 < length (m .what))
+      × ((place : ℕ) × (getElem? (v .transmissions) place ≡ some (transmission (m .series) (m .what) whole)))
   -- "And n is the published count whenever .."
   pub complete : (log buffer : List ℕ) (es fs : List Event) (e : Event) (s d : ℕ) (a out : List ℕ) →
       let u = run (start log buffer) es in

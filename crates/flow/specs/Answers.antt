@@ -20,6 +20,10 @@ use Rattle.flow.specs.declared.sender.Sent.{Sent}
 use Rattle.flow.specs.declared.sender.Sent.the-variants.{Drained}
 use Rattle.flow.specs.declared.sender.Sent.the-variants.{Wrote as Message-sent}
 use Rattle.flow.specs.declared.sender.Sent.the-variants.{Refused as NotSent}
+use Rattle.flow.specs.declared.sender.SentPacket.{SentPacket}
+use Rattle.flow.specs.declared.sender.SentPacket.the-variants.{Drained as NoPacket}
+use Rattle.flow.specs.declared.sender.SentPacket.the-variants.{Wrote as Packet-sent}
+use Rattle.flow.specs.declared.sender.SentPacket.the-variants.{Refused as NotPacket}
 use Rattle.flow.specs.declared.receiver.Requested.{Requested}
 use Rattle.flow.specs.declared.receiver.Requested.the-variants.{Wrote as Asked}
 use Rattle.flow.specs.declared.receiver.Requested.the-variants.{Refused as NotAsked}
@@ -44,6 +48,7 @@ pub data Said : Type 0 where
   published : ℕ → Said  -- the message's number
   answered : ℕ → Said  -- Login: bytes written
   sent : ℕ → ℕ → Said  -- Send: the message's number, bytes written
+  sentPacket : ℕ → ℕ → Bool → Said  -- Send of one packet: the message's number, bytes written, whether it was the last
   none : Said
   asked : ℕ → Said  -- Ask: bytes written
   confirmed : ℕ → Said  -- Answer: reports last
@@ -71,6 +76,11 @@ sentSaid Drained = none
 sentSaid (Message-sent k n) = sent k n
 sentSaid (NotSent r) = refused (numberOf r)
 
+abbrev pub sentPacketSaid : SentPacket → Said
+sentPacketSaid NoPacket = none
+sentPacketSaid (Packet-sent k n last) = sentPacket k n last
+sentPacketSaid (NotPacket r) = refused (numberOf r)
+
 abbrev pub requestedSaid : Requested → Said
 requestedSaid (Asked n) = asked n
 requestedSaid (NotAsked r) = refused (numberOf r)
@@ -94,30 +104,33 @@ receivedSaid p buffer (NotTaken r) = refused (numberOf r)
 
 -- ─── What is read off them ───
 
--- Whether the call was taken (not refused); how many bytes it wrote to an output's start; the last number that it
--- reports; the message that it hands on. A list has the one there is, or nothing.
+-- Whether the call was taken (not refused); how many bytes it wrote to an output's start; whether it wrote a message's
+-- last packet; the last number that it reports; the message that it hands on. A list has the one there is, or nothing.
 pub record ReadOff : Type 0 where
   pub taken : Bool
   pub wrote : List ℕ
+  pub finishes : Bool
   pub reports : List ℕ
   pub hands : List Message
 
-abbrev pub readOff : Bool → List ℕ → List ℕ → List Message → ReadOff
-readOff taken wrote reports hands = record { taken = taken; wrote = wrote; reports = reports; hands = hands }
+abbrev pub readOff : Bool → List ℕ → Bool → List ℕ → List Message → ReadOff
+readOff taken wrote finishes reports hands =
+    record { taken = taken; wrote = wrote; finishes = finishes; reports = reports; hands = hands }
 
 abbrev pub off : Said → ReadOff
-off (refused n) = readOff false [] [] []
-off opened = readOff true [] [] []
-off (published k) = readOff true [] [] []
-off (answered n) = readOff true (n ∷ []) [] []
-off (sent k n) = readOff true (n ∷ []) [] []
-off none = readOff true [] [] []
-off (asked n) = readOff true (n ∷ []) [] []
-off (confirmed n) = readOff true [] (n ∷ []) []
-off idle = readOff true [] [] []
-off (again n) = readOff true [] (n ∷ []) []
-off (held n) = readOff true [] (n ∷ []) []
-off (handedOn n m) = readOff true [] (n ∷ []) (m ∷ [])
+off (refused n) = readOff false [] false [] []
+off opened = readOff true [] false [] []
+off (published k) = readOff true [] false [] []
+off (answered n) = readOff true (n ∷ []) false [] []
+off (sent k n) = readOff true (n ∷ []) true [] []
+off (sentPacket k n last) = readOff true (n ∷ []) last [] []
+off none = readOff true [] false [] []
+off (asked n) = readOff true (n ∷ []) false [] []
+off (confirmed n) = readOff true [] false (n ∷ []) []
+off idle = readOff true [] false [] []
+off (again n) = readOff true [] false (n ∷ []) []
+off (held n) = readOff true [] false (n ∷ []) []
+off (handedOn n m) = readOff true [] false (n ∷ []) (m ∷ [])
 
 abbrev pub isTaken : Said → Bool
 isTaken a = off a .taken
@@ -125,6 +138,10 @@ isTaken a = off a .taken
 -- What was written to the start of an output, if anything was.
 abbrev pub written : List ℕ → Said → List (List ℕ)
 written out a = map (λ (n : ℕ). take n out) (off a .wrote)
+
+-- A message's last packet was written.
+abbrev pub isFinished : Said → Bool
+isFinished a = off a .finishes
 
 abbrev pub reportIn : Said → List ℕ
 reportIn a = off a .reports

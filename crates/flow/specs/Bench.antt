@@ -2,6 +2,7 @@
 -- the ends.
 use Prim.Native.Nat.{ℕ}
 use mathlib.Core.List.{List, [], _∷_, _++_}
+use mathlib.Core.Bool.{cond}
 use lib.ListN.{replicate}
 use lib.Dec.{T}
 use Rattle.ftd.specs.Bytes.{joined}
@@ -14,7 +15,7 @@ use Rattle.flow.specs.declared.sender.LoggedIn.{LoggedIn}
 use Rattle.flow.specs.declared.receiver.Receiver.{Receiver}
 use Rattle.flow.specs.Ends.{Wrote, freshReceiver, withSeries, loggedIn}
 use Rattle.flow.specs.Answers.{Message, Said, refused, opened, published, answered, sent, none, asked, confirmed}
-use Rattle.flow.specs.Answers.{idle, again, held, handedOn, loginSaid, sentSaid, receivedSaid}
+use Rattle.flow.specs.Answers.{idle, again, held, handedOn, sentPacket, loginSaid, sentSaid, receivedSaid}
 use Rattle.flow.specs.Serving.{loginOf, sendOf}
 use Rattle.flow.specs.Receiving.{openEndOf, requestBytes, receiveOf}
 use Rattle.flow.specs.World.{openSender, publish, World, start, run}
@@ -28,6 +29,7 @@ numbers (published k) = 2 ∷ k ∷ []
 numbers (answered n) = 3 ∷ n ∷ []
 numbers (sent k n) = 4 ∷ k ∷ n ∷ []
 numbers none = 5 ∷ []
+numbers (sentPacket k n last) = 12 ∷ k ∷ n ∷ cond last 1 0 ∷ []
 numbers (asked n) = 6 ∷ n ∷ []
 numbers (confirmed n) = 7 ∷ n ∷ []
 numbers idle = 8 ∷ []

@@ -16,9 +16,10 @@ use Rattle.flow.specs.declared.limits.Most.{Most}
 use Rattle.flow.specs.declared.sender.Sender.{Sender}
 use Rattle.flow.specs.declared.sender.Published.the-variants.{Number}
 use Rattle.flow.specs.declared.sender.Sent.the-variants.{Refused}
+use Rattle.flow.specs.declared.sender.SentPacket.the-variants.{Refused as NotPacket}
 use Rattle.flow.specs.Ends.{freshSender}
 use Rattle.flow.specs.Answers.{published, publishedSaid}
-use Rattle.flow.specs.Serving.{openDayOf, publishOf, sendOf}
+use Rattle.flow.specs.Serving.{openDayOf, publishOf, sendOf, sendPacketOf}
 use Rattle.flow.specs.Bench.{numbers, note, space, tid}
 
 -- For the constants of the serving end's type.
@@ -63,3 +64,6 @@ pub record Biggest : Type 0 where
   -- An output of as many bytes is never too small for Send, whatever the log holds.
   pub enough : (e : Sender) (s : ℕ) (log out : List ℕ) → mostOutput ≤ length out
       → sendOf e s log out .answer ≡ Refused TooSmall → ⊥
+  -- Nor is one of as many bytes as one packet takes at most for Send of one packet (02, No. 4).
+  pub enough-packet : (e : Sender) (s : ℕ) (log out : List ℕ) → mostPacket ≤ length out
+      → sendPacketOf e s log out .answer ≡ NotPacket TooSmall → ⊥

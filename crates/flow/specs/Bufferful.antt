@@ -13,9 +13,9 @@ use Rattle.flow.specs.declared.receiver.Receiver.{Receiver}
 use Rattle.flow.specs.declared.several.ReceivedSeveral.the-variants.{End, Short, Refused}
 use Rattle.flow.specs.declared.several.PublishedSeveral.the-variants.{End as AllIn, Short as Cut}
 use Rattle.flow.specs.Answers.{Said, refused, opened, published, answered, sent, none, asked, confirmed, idle}
-use Rattle.flow.specs.Answers.{again, held, handedOn}
+use Rattle.flow.specs.Answers.{again, held, handedOn, sentPacket}
 use Rattle.flow.specs.World.{Dated, Event, openSender, publish, login, send, openReceiver, connect, requestLogin}
-use Rattle.flow.specs.World.{confirmLogin, receive, World, start, step, run, inRuns}
+use Rattle.flow.specs.World.{sendPacket, confirmLogin, receive, World, start, step, run, inRuns}
 use Rattle.flow.specs.Agreement.{of, latest, reported, since}
 use Rattle.flow.specs.Several.{Told, end, short, stopped, Repeated, Took, took, severalOf, receiving, publishing}
 use Rattle.flow.specs.Several.{receiveSeveralOf, publishSeveralOf}
@@ -44,6 +44,7 @@ isHanded opened = false
 isHanded (published k) = false
 isHanded (answered n) = false
 isHanded (sent k n) = false
+isHanded (sentPacket k n last) = false
 isHanded none = false
 isHanded (asked n) = false
 isHanded (confirmed n) = false
@@ -120,6 +121,7 @@ unheard w (openSender date ss) = false
 unheard w (publish s tid content) = false
 unheard w (login s i content out) = false
 unheard w (send s out) = false
+unheard w (sendPacket s out) = false
 unheard w (openReceiver ss) = false
 unheard w connect = false
 unheard w (requestLogin s content out) = false

@@ -120,7 +120,7 @@ abbrev pub newSeries : ℕ → DaySeries
 newSeries s = record { series = s; published = 0 }
 
 abbrev pub noPlace : Place
-noPlace = record { login = false; next = 0 }
+noPlace = record { login = false; next = 0; piece = 0 }
 
 abbrev pub sender : TradeDate → ℕ → List DaySeries → ℕ → List Place → Sender
 sender date count series used places =
@@ -154,11 +154,11 @@ withEntry e s size =
     (set (e .day .series) (indexOf s (daySeries e)) (record { series = s; published = publishedOf e s + 1 }))
     (e .day .used + size) (e .seat .places)
 
--- Logged in to a series, with a number next.
-unfoldable pub withNext : Sender → ℕ → ℕ → Sender
-withNext e s next =
+-- Logged in to a series, with a number next, of which so many packets were written one by one.
+unfoldable pub withPlace : Sender → ℕ → ℕ → ℕ → Sender
+withPlace e s next piece =
     sender (e .day .date) (e .day .count) (e .day .series) (e .day .used)
-    (set (e .seat .places) (indexOf s (daySeries e)) (record { login = true; next = next }))
+    (set (e .seat .places) (indexOf s (daySeries e)) (record { login = true; next = next; piece = piece }))
 
 -- ─── The receiving end ───
 

@@ -14,8 +14,6 @@ use Rattle.flow.specs.declared.series.SeriesPlace.the-variants.{Unknown,
 use Rattle.flow.specs.declared.sender.Sender.{Sender}
 use Rattle.flow.specs.declared.sender.Published.the-variants.{Refused}
 use Rattle.flow.specs.declared.sender.PublishStep.{PublishStep}
-use Rattle.flow.specs.declared.sender.Sent.{Sent}
-use Rattle.flow.specs.declared.sender.SendStep.{SendStep}
 use Rattle.flow.specs.declared.receiver.KeptSeries.{KeptSeries}
 use Rattle.flow.specs.declared.receiver.LiveSeries.{LiveSeries}
 use Rattle.flow.specs.declared.receiver.Receiver.{Receiver}
@@ -24,7 +22,7 @@ use Rattle.flow.specs.declared.log.EntryPlace.the-variants.{Damaged}
 use Rattle.flow.specs.declared.log.EntryPlace.the-variants.{At as Lies}
 use Rattle.flow.specs.declared.log.EntryStep.{EntryStep}
 use Rattle.flow.specs.declared.log.EntryStep.the-variants.{Wrong, Wanted, Passed}
-use Rattle.flow.specs.Ends.{_when_else_, Wrote, indexOf, daySeries, isServed, sender}
+use Rattle.flow.specs.Ends.{_when_else_, indexOf, daySeries, isServed, sender}
 use Rattle.flow.specs.Ends.{keptSeries, isOpen, receiver}
 use Rattle.flow.specs.Log.{entrySeries, entryNumber, strangeSeries, nonzero, misshapen, isWanted}
 
@@ -37,11 +35,11 @@ Finds e s (At i) = (isServed e s ≡ true) × (i ≡ indexOf s (daySeries e)) ×
 abbrev pub unpublished : Sender → Refusal → PublishStep
 unpublished e r = record { end = e; answer = Refused r }
 
--- The series at place i with a login, and a number next.
-abbrev pub nextAt : Sender → ℕ → ℕ → Sender
-nextAt e i next =
+-- The series at place i with a login, and a number next, of which so many packets were written one by one.
+abbrev pub placedAt : Sender → ℕ → ℕ → ℕ → Sender
+placedAt e i next piece =
     sender (e .day .date) (e .day .count) (e .day .series) (e .day .used)
-    (set (e .seat .places) i (record { login = true; next = next }))
+    (set (e .seat .places) i (record { login = true; next = next; piece = piece }))
 
 -- ─── The walk over the log ───
 
@@ -68,12 +66,6 @@ EntryIn o l Damaged = o ≡ none
 EntryIn o l (Lies start size) =
     (o ≡ some (part l start size)) × (16 ≤ size) × (start + size ≤ length l)
     × (shaped (drop 16 (part l start size)) mostContent ≡ true)
-
--- ─── Send ───
-
--- The end, the answer and the output are those that are meant.
-abbrev pub SendsAs : Wrote Sender Sent → SendStep → List ℕ → Type 0
-SendsAs meant r after = (r .end ≡ meant .end) × (r .answer ≡ meant .answer) × (after ≡ meant .bytes)
 
 -- ─── The receiving end ───
 

@@ -6,6 +6,7 @@ pub mod Answers
 pub mod Promises
 pub mod World
 pub mod Agreement
+pub mod PacketByPacket
 pub mod Bench
 pub mod Follows
 pub mod Biggest
@@ -14,5 +15,6 @@ pub mod Bufferful
 pub mod SeveralHelpers
 pub mod Helpers
 pub mod LoginHelpers
+pub mod SendHelpers
 pub mod ReceiveHelpers
 pub mod RequestHelpers

@@ -23,7 +23,7 @@ use Rattle.flow.specs.declared.sender.LoggedIn.the-variants.{Wrote as An
 use Rattle.flow.specs.declared.sender.LoggedIn.the-variants.{Refused as NotIn}
 use Rattle.flow.specs.Ends.{_when_else_, Wrote, wrote, over, before, newSeries}
 use Rattle.flow.specs.Serving.{wrongRun, noLogin, notZero, startElsewhere}
-use Rattle.flow.specs.Helpers.{nextAt}
+use Rattle.flow.specs.Helpers.{placedAt}
 
 -- 10, of the packet and of the answer's content.
 unfoldable pub wrongLogin : Header → List ℕ → List ℕ → Bool
@@ -58,4 +58,4 @@ loginAnswer e i next content out =
     let answer = loginBytes (e .day .date) content in
     wrote e (NotIn TooSmall) out when ltb (length out) (length answer) else
     wrote e (NotIn WrongStart) out when startOutside (getD (e .day .series) i (newSeries 0) .published) next else
-    wrote (nextAt e i next) (Answered (length answer)) (over answer out)
+    wrote (placedAt e i next 0) (Answered (length answer)) (over answer out)

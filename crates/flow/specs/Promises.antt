@@ -9,6 +9,7 @@ use Rattle.flow.specs.declared.sender.OpenStep.{OpenStep as OpenDayStep}
 use Rattle.flow.specs.declared.sender.PublishStep.{PublishStep}
 use Rattle.flow.specs.declared.sender.LoginStep.{LoginStep}
 use Rattle.flow.specs.declared.sender.SendStep.{SendStep}
+use Rattle.flow.specs.declared.sender.SendPacketStep.{SendPacketStep}
 use Rattle.flow.specs.declared.receiver.Receiver.{Receiver}
 use Rattle.flow.specs.declared.receiver.OpenStep.{OpenStep as OpenEndStep}
 use Rattle.flow.specs.declared.receiver.Requested.{Requested}
@@ -17,8 +18,8 @@ use Rattle.flow.specs.declared.receiver.ReceiveStep.{ReceiveStep}
 use Rattle.flow.specs.declared.several.ReceiveSeveralStep.{ReceiveSeveralStep}
 use Rattle.flow.specs.declared.several.PublishSeveralStep.{PublishSeveralStep}
 use Rattle.flow.specs.Answers.{Said, openedSaid, publishedSaid, loginSaid, sentSaid, requestedSaid, confirmedSaid}
-use Rattle.flow.specs.Answers.{receivedSaid}
-use Rattle.flow.specs.Serving.{openDayOf, publishOf, loginOf, sendOf}
+use Rattle.flow.specs.Answers.{sentPacketSaid, receivedSaid}
+use Rattle.flow.specs.Serving.{openDayOf, publishOf, loginOf, sendOf, sendPacketOf}
 use Rattle.flow.specs.Receiving.{openEndOf, connectOf, requestLoginOf, confirmLoginOf, receiveOf}
 use Rattle.flow.specs.Several.{Repeated, Took, receiving, receiveSeveralOf, publishing, publishSeveralOf}
 
@@ -47,6 +48,11 @@ abbrev pub Sends : Sender → ℕ → List ℕ → List ℕ → SendStep → Lis
 Sends e series log out r after =
     let meant = sendOf e series log out in
     (r .end ≡ meant .end) × Answers sentSaid (r .answer) (meant .answer) × (after ≡ meant .bytes)
+
+abbrev pub SendsPacket : Sender → ℕ → List ℕ → List ℕ → SendPacketStep → List ℕ → Type 0
+SendsPacket e series log out r after =
+    let meant = sendPacketOf e series log out in
+    (r .end ≡ meant .end) × Answers sentPacketSaid (r .answer) (meant .answer) × (after ≡ meant .bytes)
 
 -- ─── The receiving end ───
 

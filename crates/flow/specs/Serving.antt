@@ -2,10 +2,10 @@
 -- the table's order and then what the call does. It gives the answer, the end, and every byte of the buffer that the
 -- call may write.
 use Prim.Native.Nat.{ℕ, suc, _+_}
-use mathlib.Core.List.{List, map}
-use mathlib.Core.Bool.{Bool, true, false, not, _||_}
+use mathlib.Core.List.{List, [], map}
+use mathlib.Core.Bool.{Bool, true, false, cond, not, _||_}
 use mathlib.Core.Option.{Option, none, some}
-use lib.ListN.{length, replicate}
+use lib.ListN.{length, replicate, getD}
 use lib.Dec.{ltb, leb, eqb}
 use Rattle.ftd.specs.Bytes.{part, put, joined}
 use Rattle.ftd.specs.Packet.{notOnePacket, noMessagePacket, datedOf}
@@ -43,9 +43,13 @@ use Rattle.flow.specs.declared.sender.Sent.{Sent}
 use Rattle.flow.specs.declared.sender.Sent.the-variants.{Drained}
 use Rattle.flow.specs.declared.sender.Sent.the-variants.{Wrote as Message-sent}
 use Rattle.flow.specs.declared.sender.Sent.the-variants.{Refused as NotSent}
+use Rattle.flow.specs.declared.sender.SentPacket.{SentPacket}
+use Rattle.flow.specs.declared.sender.SentPacket.the-variants.{Drained as NoPacket}
+use Rattle.flow.specs.declared.sender.SentPacket.the-variants.{Wrote as Packet-sent}
+use Rattle.flow.specs.declared.sender.SentPacket.the-variants.{Refused as NotPacket}
 use Rattle.flow.specs.Ends.{_when_else_, Left, Wrote, left, wrote, over, mostMessages, mostSeries, wrongSeries}
 use Rattle.flow.specs.Ends.{filled, before, upTo, newSeries, noPlace, sender, isServed, publishedOf, placeOf}
-use Rattle.flow.specs.Ends.{withEntry, withNext}
+use Rattle.flow.specs.Ends.{withEntry, withPlace}
 use Rattle.flow.specs.Log.{entryBytes, entryTid, entryContent, logShort, entryFits, entryOf}
 
 -- ─── Opening: a trade date above the present one, if any, and the series ───
@@ -140,7 +144,7 @@ loginWith e s h date asked content out =
     refused OutOfLine when notZero h else
     refused TooSmall when ltb (length out) (length answer) else
     refused WrongStart when wrongStart e s next else
-    wrote (withNext e s next) (Answered (length answer)) (over answer out)
+    wrote (withPlace e s next 0) (Answered (length answer)) (over answer out)
   where
     refused : Refusal → Wrote Sender LoggedIn
     refused r = wrote e (NotIn r) out
@@ -173,18 +177,21 @@ loginOf e s p content out =
 unfoldable pub noneLeft : Sender → ℕ → Bool
 noneLeft e s = ltb (publishedOf e s) (placeOf e s .next)
 
--- An entry as packets, each with the trade date as only tag.
+-- An entry as packets, each with the trade date as only tag; and as bytes.
+abbrev pub sendPackets : Sender → ℕ → List ℕ → List (List ℕ)
+sendPackets e s x =
+    packetsOf (record { date = e .day .date; tid = entryTid x; series = s; number = placeOf e s .next })
+    (entryContent x)
+
 unfoldable pub sendBytes : Sender → ℕ → List ℕ → List ℕ
-sendBytes e s x =
-    joined (packetsOf (record { date = e .day .date; tid = entryTid x; series = s; number = placeOf e s .next })
-    (entryContent x))
+sendBytes e s x = joined (sendPackets e s x)
 
 abbrev pub sendEntry : Sender → ℕ → List ℕ → Option (List ℕ) → Wrote Sender Sent
 sendEntry e s out none = wrote e (NotSent DamagedLog) out
 sendEntry e s out (some x) =
     let bytes = sendBytes e s x in
     wrote e (NotSent TooSmall) out when ltb (length out) (length bytes) else
-    wrote (withNext e s (suc (placeOf e s .next))) (Message-sent (placeOf e s .next) (length bytes)) (over bytes out)
+    wrote (withPlace e s (suc (placeOf e s .next)) 0) (Message-sent (placeOf e s .next) (length bytes)) (over bytes out)
 
 unfoldable pub sendOf : Sender → ℕ → List ℕ → List ℕ → Wrote Sender Sent
 sendOf e s log out =
@@ -192,3 +199,38 @@ sendOf e s log out =
     wrote e (NotSent NotLoggedIn) out when not (placeOf e s .login) else
     wrote e Drained out when noneLeft e s else
     sendEntry e s out (entryOf e log s (placeOf e s .next))
+
+-- ─── Send of one packet (02, No. 4): series; the log is read, the output is written ───
+
+-- The packet that is next of an entry.
+unfoldable pub nextPacket : Sender → ℕ → List ℕ → List ℕ
+nextPacket e s x = getD (sendPackets e s x) (placeOf e s .piece) []
+
+-- 20 also: the entry has no such packet. Only a log that was altered between two calls has such an entry.
+unfoldable pub noPacket : Sender → ℕ → List ℕ → Bool
+noPacket e s x = leb (length (sendPackets e s x)) (placeOf e s .piece)
+
+-- It is the message's last.
+unfoldable pub lastPacket : Sender → ℕ → List ℕ → Bool
+lastPacket e s x = eqb (placeOf e s .piece + 1) (length (sendPackets e s x))
+
+-- With its last packet a message is stepped over.
+unfoldable pub afterPacket : Sender → ℕ → Bool → Sender
+afterPacket e s last =
+    cond last (withPlace e s (suc (placeOf e s .next)) 0) (withPlace e s (placeOf e s .next) (placeOf e s .piece + 1))
+
+abbrev pub sendPacketEntry : Sender → ℕ → List ℕ → Option (List ℕ) → Wrote Sender SentPacket
+sendPacketEntry e s out none = wrote e (NotPacket DamagedLog) out
+sendPacketEntry e s out (some x) =
+    let bytes = nextPacket e s x in
+    let last = lastPacket e s x in
+    wrote e (NotPacket DamagedLog) out when noPacket e s x else
+    wrote e (NotPacket TooSmall) out when ltb (length out) (length bytes) else
+    wrote (afterPacket e s last) (Packet-sent (placeOf e s .next) (length bytes) last) (over bytes out)
+
+unfoldable pub sendPacketOf : Sender → ℕ → List ℕ → List ℕ → Wrote Sender SentPacket
+sendPacketOf e s log out =
+    wrote e (NotPacket UnknownSeries) out when not (isServed e s) else
+    wrote e (NotPacket NotLoggedIn) out when not (placeOf e s .login) else
+    wrote e NoPacket out when noneLeft e s else
+    sendPacketEntry e s out (entryOf e log s (placeOf e s .next))

@@ -20,14 +20,16 @@ use Rattle.flow.specs.declared.sender.Opened.{Opened}
 use Rattle.flow.specs.declared.sender.Published.{Published}
 use Rattle.flow.specs.declared.sender.LoggedIn.{LoggedIn}
 use Rattle.flow.specs.declared.sender.Sent.{Sent}
+use Rattle.flow.specs.declared.sender.SentPacket.{SentPacket}
 use Rattle.flow.specs.declared.receiver.Receiver.{Receiver}
 use Rattle.flow.specs.declared.receiver.Requested.{Requested}
 use Rattle.flow.specs.declared.receiver.Confirmed.{Confirmed}
 use Rattle.flow.specs.declared.receiver.Received.{Received}
 use Rattle.flow.specs.Ends.{Left, Wrote, freshSender, freshReceiver}
-use Rattle.flow.specs.Answers.{Message, isTaken, written, reportIn, messageIn, openedSaid, publishedSaid}
-use Rattle.flow.specs.Answers.{loginSaid, sentSaid, requestedSaid, confirmedSaid, receivedSaid}
-use Rattle.flow.specs.Serving.{openDayOf, publishOf, loginOf, sendOf}
+use Rattle.flow.specs.Answers.{Message, isTaken, written, isFinished, reportIn, messageIn, openedSaid}
+use Rattle.flow.specs.Answers.{publishedSaid, loginSaid, sentSaid, sentPacketSaid, requestedSaid, confirmedSaid}
+use Rattle.flow.specs.Answers.{receivedSaid}
+use Rattle.flow.specs.Serving.{openDayOf, publishOf, loginOf, sendOf, sendPacketOf}
 use Rattle.flow.specs.Receiving.{openEndOf, connectOf, requestLoginOf, confirmLoginOf, receiveOf}
 
 -- ─── Things of a series, and of a series and a day ───
@@ -66,23 +68,90 @@ pub data Event : Type 0 where
   publish : ℕ → ℕ → List ℕ → Event  -- series, TID, content
   login : ℕ → ℕ → List ℕ → List ℕ → Event  -- series, place of the login packet, the answer's content, output
   send : ℕ → List ℕ → Event  -- series, output
+  sendPacket : ℕ → List ℕ → Event  -- Send of one packet: series, output
   openReceiver : List ℕ → Event  -- the receiving end's Opening: series
   connect : Event
   requestLogin : ℕ → List ℕ → List ℕ → Event  -- Ask: series, content, output
   confirmLogin : ℕ → Event  -- Answer: place of the answer
-  receive : ℕ → ℕ → Event  -- place of the message, and which of its packets, from 0
+  receive : ℕ → ℕ → Event  -- place of the transmission, and which of its packets, from 0
 
 -- What was delivered: to Answer an answer with its series, to Receive a message whole.
 pub data Delivery : Type 0 where
   answer : ℕ → List ℕ → Delivery
   message : List (List ℕ) → Delivery
 
--- The receiving end's call before this one: which packet of which message came, or any other call, or none.
+-- The receiving end's calls before this one: the last one was handed packet j of the transmission at place i, and right
+-- before it those from packet 0 on, one after the other; or anything else.
 pub data Previous : Type 0 where
   came : ℕ → ℕ → Previous
   other : Previous
 
--- ─── The serving end's side: written by its four calls alone ───
+-- ─── Transmissions: what the Sends give the line (02, No. 4) ───
+
+-- The packet form goes on with it; all packets of its message are there; or it was broken off.
+pub data Standing : Type 0 where
+  going : Standing
+  whole : Standing
+  broken : Standing
+
+abbrev pub isGoing : Standing → Bool
+isGoing going = true
+isGoing whole = false
+isGoing broken = false
+
+abbrev pub isWhole : Standing → Bool
+isWhole going = false
+isWhole whole = true
+isWhole broken = false
+
+-- The packets of a message that were written so far, in order.
+pub record Transmission : Type 0 where
+  pub series : ℕ
+  pub packets : List (List ℕ)
+  pub stands : Standing
+
+abbrev pub transmission : ℕ → List (List ℕ) → Standing → Transmission
+transmission s ps stands = record { series = s; packets = ps; stands = stands }
+
+-- The series' unfinished one.
+abbrev pub goesOn : ℕ → Transmission → Bool
+goesOn s t = eqb (t .series) s && isGoing (t .stands)
+
+-- Unfinished ones are broken off: of a series, or of all.
+abbrev pub brokenOff : Bool → Transmission → Transmission
+brokenOff this t = cond this (transmission (t .series) (t .packets) broken) t
+
+abbrev pub endedIn : ℕ → List Transmission → List Transmission
+endedIn s ts = map (λ (t : Transmission). brokenOff (goesOn s t) t) ts
+
+abbrev pub endedAll : List Transmission → List Transmission
+endedAll ts = map (λ (t : Transmission). brokenOff (isGoing (t .stands)) t) ts
+
+-- The packets of the series' unfinished one; none where nothing is unfinished.
+abbrev pub soFar : ℕ → List Transmission → List (List ℕ)
+soFar s [] = []
+soFar s (t ∷ ts) = cond (goesOn s t) (t .packets) (soFar s ts)
+
+-- Behind a packet, by whether it was its message's last.
+abbrev pub standing : Bool → Standing
+standing last = cond last whole going
+
+-- One packet more: of the series' unfinished one, or the first of a new one.
+abbrev pub withPacket : ℕ → Bool → List ℕ → List Transmission → List Transmission
+withPacket s last p [] = transmission s (p ∷ []) (standing last) ∷ []
+withPacket s last p (t ∷ ts) =
+    cond (goesOn s t) (transmission s (t .packets ++ (p ∷ [])) (standing last) ∷ ts) (t ∷ withPacket s last p ts)
+
+-- What was written, if anything was, is the next packet; or a whole message, which ends an unfinished one.
+abbrev pub givePacket : ℕ → Bool → List (List ℕ) → List Transmission → List Transmission
+givePacket s last [] ts = ts
+givePacket s last (p ∷ ps) ts = withPacket s last p ts
+
+abbrev pub giveWhole : ℕ → List (List (List ℕ)) → List Transmission → List Transmission
+giveWhole s [] ts = ts
+giveWhole s (m ∷ ms) ts = endedIn s ts ++ (transmission s m whole ∷ [])
+
+-- ─── The serving end's side: written by its five calls alone ───
 
 pub record SenderSide : Type 0 where
   pub end : Sender
@@ -92,7 +161,9 @@ pub record SenderSide : Type 0 where
   -- by the day of the last Opening: "from the serving end's Opening with that mark to its next one"
   pub published : List (Dated Message)
   pub answers : List (InSeries (List ℕ))  -- on the line: "answers of Login with their series"
-  -- on the line: "any message sent", as the packets that the bytes cut into by their first four
+  -- on the line: whatever a Send wrote of a message
+  pub transmissions : List Transmission
+  -- the messages sent whole, in the order in which they were finished
   pub messages : List (InSeries (List (List ℕ)))
 
 -- A refused call opens, publishes, logs in and sends nothing.
@@ -106,6 +177,7 @@ afterOpen v date r =
       openings = cond taken (suc (v .openings)) (v .openings);
       published = v .published;
       answers = v .answers;
+      transmissions = cond taken (endedAll (v .transmissions)) (v .transmissions);
       messages = v .messages;
     }
 
@@ -120,6 +192,7 @@ afterPublish v s tid content r =
           v .published ++ only (isTaken (publishedSaid (r .answer)))
           (dated s (v .day) (record { tid = tid; content = content }));
       answers = v .answers;
+      transmissions = v .transmissions;
       messages = v .messages;
     }
 
@@ -132,14 +205,18 @@ afterLogin v s r =
       openings = v .openings;
       published = v .published;
       answers = v .answers ++ map (inSeries s) (written (r .bytes) (loginSaid (r .answer)));
+      transmissions =
+          cond (isTaken (loginSaid (r .answer))) (endedIn s (v .transmissions)) (v .transmissions);
       messages = v .messages;
     }
 
+-- A message that was written whole, as the packets that the bytes cut into by their first four.
 abbrev pub packetsIn : List ℕ → List (List ℕ)
 packetsIn bytes = runOf packetForm bytes .entries
 
 abbrev pub afterSend : SenderSide → ℕ → Wrote Sender Sent → SenderSide
 afterSend v s r =
+    let sent = map packetsIn (written (r .bytes) (sentSaid (r .answer))) in
     record {
       end = r .end;
       log = v .log;
@@ -147,9 +224,25 @@ afterSend v s r =
       openings = v .openings;
       published = v .published;
       answers = v .answers;
+      transmissions = giveWhole s sent (v .transmissions);
+      messages = v .messages ++ map (inSeries s) sent;
+    }
+
+-- A packet that was written, and the message that it finishes, if it does.
+abbrev pub afterSendPacket : SenderSide → ℕ → Wrote Sender SentPacket → SenderSide
+afterSendPacket v s r =
+    let said = sentPacketSaid (r .answer) in
+    let packet = written (r .bytes) said in
+    record {
+      end = r .end;
+      log = v .log;
+      day = v .day;
+      openings = v .openings;
+      published = v .published;
+      answers = v .answers;
+      transmissions = givePacket s (isFinished said) packet (v .transmissions);
       messages =
-          v .messages ++ map (λ (bytes : List ℕ). inSeries s (packetsIn bytes))
-          (written (r .bytes) (sentSaid (r .answer)));
+          v .messages ++ only (isFinished said) (inSeries s (soFar s (v .transmissions) ++ packet));
     }
 
 -- ─── The receiving end's side: written by its five calls alone ───
@@ -236,12 +329,23 @@ abbrev pub borne : TradeDate → TradeDate → TradeDate
 borne None kept = kept
 borne (At d) kept = At d
 
--- Packet j, p, of the message at place i; with its last packet a message is delivered whole, as its packets come in
--- runs.
-abbrev pub afterReceive : ReceiverSide → List (List ℕ) → ℕ → ℕ → List ℕ → Wrote Receiver Received → ReceiverSide
-afterReceive v ps i j p r =
+-- A packet is a transmission's first, or it comes right behind the one before it, of the same transmission, among the
+-- receiving end's calls; calls of the serving end may stand between. So all before it came, in a run.
+abbrev pub behind : Previous → ℕ → ℕ → Bool
+behind (came a b) i j = eqb a i && eqb b j
+behind other i j = false
+
+abbrev pub continues : Previous → ℕ → ℕ → Bool
+continues before i zero = true
+continues before i (suc j) = behind before i j
+
+-- Packet j, p, of the transmission t at place i; with the last packet of a run over a whole transmission a message is
+-- delivered whole.
+abbrev pub afterReceive : ReceiverSide → Transmission → ℕ → ℕ → List ℕ → Wrote Receiver Received → ReceiverSide
+afterReceive v t i j p r =
     let said = receivedSaid p (r .bytes) (r .answer) in
     let s = seriesIn (datedOf p .packet) in
+    let runs = continues (v .previous) i j in
     record {
       end = r .end;
       buffer = r .bytes;
@@ -250,8 +354,10 @@ afterReceive v ps i j p r =
       days = v .days;
       handed = v .handed ++ map (dated s (borne (datedOf p .date) (latestOf s None (v .days)))) (messageIn said);
       reports = v .reports ++ map (dated s (latestOf s None (v .days))) (reportIn said);
-      delivered = v .delivered ++ only (eqb (suc j) (length ps)) (message ps);
-      previous = came i j;
+      delivered =
+          v .delivered
+          ++ only (runs && (isWhole (t .stands) && eqb (suc j) (length (t .packets)))) (message (t .packets));
+      previous = cond runs (came i j) other;
     }
 
 -- ─── The world ───
@@ -272,6 +378,7 @@ start log buffer =
             openings = 0;
             published = [];
             answers = [];
+            transmissions = [];
             messages = [];
           };
       receiving =
@@ -307,6 +414,8 @@ step w (publish s tid content) =
 step w (login s i content out) = with w (getElem? (w .receiving .requests) i) λ p.
     serves w (afterLogin (w .serving) s (loginOf (w .serving .end) s p content out))
 step w (send s out) = serves w (afterSend (w .serving) s (sendOf (w .serving .end) s (w .serving .log) out))
+step w (sendPacket s out) =
+    serves w (afterSendPacket (w .serving) s (sendPacketOf (w .serving .end) s (w .serving .log) out))
 step w (openReceiver ss) = receives w (afterReopen (w .receiving) (openEndOf (w .receiving .end) ss))
 step w connect = receives w (afterConnect (w .receiving) (connectOf (w .receiving .end)))
 step w (requestLogin s content out) =
@@ -314,8 +423,8 @@ step w (requestLogin s content out) =
 step w (confirmLogin i) = with w (getElem? (w .serving .answers) i) λ a.
     receives w
     (afterConfirm (w .receiving) (a .series) (a .what) (confirmLoginOf (w .receiving .end) (a .series) (a .what)))
-step w (receive i j) = with w (getElem? (w .serving .messages) i) λ m. with w (getElem? (m .what) j) λ p.
-    receives w (afterReceive (w .receiving) (m .what) i j p (receiveOf (w .receiving .end) p (w .receiving .buffer)))
+step w (receive i j) = with w (getElem? (w .serving .transmissions) i) λ t. with w (getElem? (t .packets) j) λ p.
+    receives w (afterReceive (w .receiving) t i j p (receiveOf (w .receiving .end) p (w .receiving .buffer)))
 
 -- The world after a list of events, in calling order.
 abbrev pub run : World → List Event → World
@@ -324,23 +433,17 @@ run w (e ∷ es) = run (step w e) es
 
 -- ─── The line: "all its packets or the first few, as a run with no other call of the receiving end within it" ───
 
--- A packet of a message that is not its first comes right behind the one before it, of the same message, among the
--- receiving end's calls; calls of the serving end may stand between.
-abbrev pub behind : Previous → ℕ → ℕ → Bool
-behind (came a b) i j = eqb a i && eqb b j
-behind other i j = false
-
 abbrev pub inRun : World → Event → Bool
 inRun w (openSender date ss) = true
 inRun w (publish s tid content) = true
 inRun w (login s i content out) = true
 inRun w (send s out) = true
+inRun w (sendPacket s out) = true
 inRun w (openReceiver ss) = true
 inRun w connect = true
 inRun w (requestLogin s content out) = true
 inRun w (confirmLogin i) = true
-inRun w (receive i zero) = true
-inRun w (receive i (suc j)) = behind (w .receiving .previous) i j
+inRun w (receive i j) = continues (w .receiving .previous) i j
 
 abbrev pub inRuns : World → List Event → Bool
 inRuns w [] = true

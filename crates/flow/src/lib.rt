@@ -4,6 +4,7 @@ ghost use Rattle.flow.specs.Bench.{Bench};
 ghost use Rattle.flow.specs.Biggest.{Biggest};
 ghost use Rattle.flow.specs.Bufferful.{Bufferful};
 ghost use Rattle.flow.specs.Follows.{NumbersFollow};
+ghost use Rattle.flow.specs.PacketByPacket.{PacketByPacket};
 
 pub mod limits; // the limits of both
 pub mod series; // series in a list
@@ -20,6 +21,11 @@ pub mod several; // a bufferful of packets, or of records
 // Demand 3, as a promise.
 pub fn keeps_agreement()
     ensures { λ _. ⌜ Agreement ⌝ }
+{}
+
+// One packet a call, as a promise.
+pub fn keeps_packet_by_packet()
+    ensures { λ _. ⌜ PacketByPacket ⌝ }
 {}
 
 // The bench examples P1 to P12, as a promise: the definitions answer what the paper says.

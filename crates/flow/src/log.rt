@@ -82,9 +82,9 @@ fn follows(number: u32, last: u32) -> bool
 }
 
 // An entry against row 20, with the last number of each place so far, and whether it is the one wanted.
-fn check_entry(e: Sender, x: &[u8], last: [u32; 8], s: u16, k: u32) -> EntryStep
+fn check_entry(e: Sender, x: &[u8], last: &[u32; 8], s: u16, k: u32) -> EntryStep
     requires { ⌜ 16 ≤ length (now x) ⌝ }
-    ensures { λ r. ⌜ (r ≡ checked e last s k (now (x .entry))) × PlaceInside r ⌝ }
+    ensures { λ r. ⌜ (r ≡ checked e (now (last .entry)) s k (now (x .entry))) × PlaceInside r ⌝ }
 {
     let series = be16(x, 0);
     let number = be32(x, 8);
@@ -123,7 +123,7 @@ fn walk_entries(e: Sender, l: &[u8], s: u16, k: u32) -> EntryPlace
         if n == 0 {
             return EntryPlace::Damaged;
         }
-        match check_entry(e, &l[at..at + n], last, s, k) {
+        match check_entry(e, &l[at..at + n], &last, s, k) {
             EntryStep::Wrong => {
                 return EntryPlace::Damaged;
             }

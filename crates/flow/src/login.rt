@@ -171,7 +171,7 @@ fn answer_login(e: Sender, i: usize, next: u32, content: &[u8], out: &mut [u8]) 
     }
     write_login(date, content, Ending::Nothing, out);
     LoginStep {
-        end: e.with_next(i, next as u64),
+        end: e.with_place(i, next as u64, 0),
         answer: LoggedIn::Wrote(n),
     }
 }

@@ -1,21 +1,20 @@
 // The serving end (01, "The serving end"): its state by value, and what its calls answer.
-ghost use mathlib.Core.Bool.{true};
 ghost use mathlib.Core.List.{map};
 ghost use mathlib.Core.Option.{some};
 ghost use mathlib.Core.Path.{_≡_};
 ghost use Prim.Native.Nat.{_≤_, _<_};
-ghost use lib.ListN.{length, drop, set};
+ghost use lib.ListN.{length};
 ghost use Rattle.ftd.specs.Content.{contentCheck};
 ghost use Rattle.ftd.specs.declared.composition.Direction.the-variants.{Down};
 ghost use Rattle.ftd.specs.declared.items.Checked.the-variants.{Passed};
-ghost use Rattle.ftd.specs.Fields.{shaped, mostContent};
+ghost use Rattle.ftd.specs.Fields.{mostContent};
 ghost use Rattle.flow.specs.declared.series.SeriesPlace.the-variants.{At};
-ghost use Rattle.flow.specs.Ends.{freshSender, senderLimits, filled, newSeries, indexOf, sender, daySeries};
-ghost use Rattle.flow.specs.Ends.{isServed, placeOf};
+ghost use Rattle.flow.specs.Ends.{freshSender, senderLimits, filled, newSeries};
 ghost use Rattle.flow.specs.Biggest.{senderMost};
-ghost use Rattle.flow.specs.Helpers.{Finds, unpublished, SendsAs, nextAt};
-ghost use Rattle.flow.specs.Promises.{OpensDay, Publishes, Sends, LogsIn};
-ghost use Rattle.flow.specs.Serving.{sendEntry};
+ghost use Rattle.flow.specs.Helpers.{Finds, unpublished, placedAt};
+ghost use Rattle.flow.specs.SendHelpers.{Leaves, FindsNext, EntryNext, headed, steppedAt};
+ghost use Rattle.flow.specs.Promises.{OpensDay, Publishes, Sends, SendsPacket, LogsIn};
+ghost use Rattle.flow.specs.Serving.{sendEntry, sendPacketEntry};
 use crate::days::is_up_to;
 use crate::header::not_one_message;
 use crate::limits::Limits;
@@ -28,7 +27,9 @@ use crate::series::SeriesPlace;
 use crate::series::wrong_series;
 use ftd::bytes::be32;
 use ftd::chain::Message;
+use ftd::chain::PacketWritten;
 use ftd::chain::write_chain;
+use ftd::chain::write_packet;
 use ftd::composition::Direction;
 use ftd::content::check_content;
 use ftd::items::Checked;
@@ -53,10 +54,12 @@ pub struct Day {
     pub used: usize,
 }
 
-// A seat's place in a series: logged in, and the number that is sent next.
+// A seat's place in a series: logged in, the number that is sent next, and how many packets of that message were written
+// one by one: 0 where none is unfinished.
 pub struct Place {
     pub login: bool,
     pub next: u64,
+    pub piece: usize,
 }
 
 // What one seat has of the day: its place in each series, in the opening's order.
@@ -95,6 +98,14 @@ pub enum Sent {
     Refused(Refusal),
 }
 
+// What Send answers for one packet: none left, or the message's number, how many bytes were written, and whether the
+// packet was the message's last.
+pub enum SentPacket {
+    Drained,
+    Wrote { number: u32, len: usize, last: bool },
+    Refused(Refusal),
+}
+
 // What a call leaves: the end, and its answer.
 pub struct OpenStep {
     pub end: Sender,
@@ -114,6 +125,24 @@ pub struct LoginStep {
 pub struct SendStep {
     pub end: Sender,
     pub answer: Sent,
+}
+
+pub struct SendPacketStep {
+    pub end: Sender,
+    pub answer: SentPacket,
+}
+
+// What both forms of Send find out before they write: none left, a refusal, or the message that is next: its series'
+// place, its number, and where its entry lies in the log.
+pub(crate) enum NextMessage {
+    Drained,
+    Refused(Refusal),
+    Entry {
+        place: usize,
+        number: u32,
+        start: usize,
+        size: usize,
+    },
 }
 
 // The day's places: the series of an opening, with no message published; the others empty.
@@ -195,6 +224,7 @@ impl Sender {
                 places: [Place {
                     login: false,
                     next: 0,
+                    piece: 0,
                 }; 8],
             },
         }
@@ -249,6 +279,7 @@ impl Sender {
                     places: [Place {
                         login: false,
                         next: 0,
+                        piece: 0,
                     }; 8],
                 },
             },
@@ -323,16 +354,17 @@ impl Sender {
         }
     }
 
-    // The series at a place, logged in with a number next.
-    pub(crate) fn with_next(self, i: usize, next: u64) -> Sender
+    // The series at a place, logged in with a number next, of which so many packets were written one by one.
+    pub(crate) fn with_place(self, i: usize, next: u64, piece: usize) -> Sender
         requires { ⌜ i < 8 ⌝ }
-        ensures { λ r. ⌜ r ≡ nextAt self i next ⌝ }
+        ensures { λ r. ⌜ r ≡ placedAt self i next piece ⌝ }
     {
         let day = self.day;
         let mut seat = self.seat;
         seat.places[i] = Place {
             login: true,
             next: next,
+            piece: piece,
         };
         Sender {
             day: day,
@@ -383,25 +415,75 @@ impl Sender {
         }
     }
 
-    // An entry of the log, written as packets; the next one is next. 18 where the output lacks the bytes needed.
-    fn send_entry(self, i: usize, series: u16, number: u32, x: &[u8], out: &mut [u8]) -> SendStep
-        requires { ⌜ (i ≡ indexOf series (daySeries self)) × (i < 8) × (number ≡ placeOf self series .next)
-            × (16 ≤ length (now x)) × (shaped (drop 16 (now x)) mostContent ≡ true) ⌝ }
-        ensures { λ r. ⌜ SendsAs (sendEntry self series (now (out .entry)) (some (now (x .entry)))) r (now (out .exit)) ⌝ }
+    // What both forms of Send find out in an open series before they write: 14, none left, 20, or the entry of the message
+    // that is next.
+    fn next_at(self, i: usize, series: u16, log: &[u8]) -> NextMessage
+        requires { ⌜ Finds self series (At i) ⌝ }
+        ensures { λ r. ⌜ FindsNext self series (now (log .entry)) r ⌝ }
+    {
+        let day = self.day;
+        let seat = self.seat;
+        let place = seat.places[i];
+        let one = day.series[i];
+        if place.login {
+            if (one.published as u64) < place.next {
+                return NextMessage::Drained;
+            }
+            let number = (place.next % 4294967296) as u32;
+            match find_entry(self, log, series, number) {
+                EntryPlace::Damaged => {
+                    return NextMessage::Refused(Refusal::DamagedLog);
+                }
+                EntryPlace::At { start, size } => {
+                    return NextMessage::Entry {
+                        place: i,
+                        number: number,
+                        start: start,
+                        size: size,
+                    };
+                }
+            }
+        }
+        NextMessage::Refused(Refusal::NotLoggedIn)
+    }
+
+    // The same in any series: 13 first.
+    fn find_next(self, series: u16, log: &[u8]) -> NextMessage
+        ensures { λ r. ⌜ FindsNext self series (now (log .entry)) r ⌝ }
+    {
+        match self.find(series) {
+            SeriesPlace::Unknown => NextMessage::Refused(Refusal::UnknownSeries),
+            SeriesPlace::At(i) => self.next_at(i, series, log),
+        }
+    }
+
+    // What all packets of an entry bear.
+    fn message_of(self, series: u16, number: u32, x: &[u8]) -> Message
+        requires { ⌜ 16 ≤ length (now x) ⌝ }
+        ensures { λ r. ⌜ r ≡ headed self series number (now (x .entry)) ⌝ }
     {
         let day = self.day;
         let date = day.date;
-        let m = Message {
+        Message {
             date: date,
             tid: be32(x, 4),
             series: series,
             number: number,
-        };
+        }
+    }
+
+    // An entry of the log, written as packets; the next one is next. 18 where the output lacks the bytes needed.
+    fn send_entry(self, i: usize, series: u16, number: u32, x: &[u8], out: &mut [u8]) -> SendStep
+        requires { ⌜ EntryNext self series i number (now x) ⌝ }
+        ensures { λ r. ⌜ Leaves (sendEntry self series (now (out .entry)) (some (now (x .entry)))) (r .end) (r .answer)
+            (now (out .exit)) ⌝ }
+    {
+        let m = self.message_of(series, number, x);
         match write_chain(m, &x[16..], out) {
             Written::Bytes(n) => {
                 let next = (number as u64) + 1;
                 SendStep {
-                    end: self.with_next(i, next),
+                    end: self.with_place(i, next, 0),
                     answer: Sent::Wrote {
                         number: number,
                         len: n,
@@ -415,51 +497,96 @@ impl Sender {
         }
     }
 
-    // Send in an open series: 14, none left, 20, and then the entry.
-    fn send_at(self, i: usize, series: u16, log: &[u8], out: &mut [u8]) -> SendStep
-        requires { ⌜ (isServed self series ≡ true) × (i ≡ indexOf series (daySeries self)) × (i < 8) ⌝ }
-        ensures { λ r. ⌜ Sends self series (now (log .entry)) (now (out .entry)) r (now (out .exit)) ⌝ }
-    {
-        let day = self.day;
-        let seat = self.seat;
-        let place = seat.places[i];
-        let one = day.series[i];
-        if place.login {
-            if (one.published as u64) < place.next {
-                return SendStep {
-                    end: self,
-                    answer: Sent::Drained,
-                };
-            }
-            let number = (place.next % 4294967296) as u32;
-            match find_entry(self, log, series, number) {
-                EntryPlace::Damaged => {
-                    return SendStep {
-                        end: self,
-                        answer: Sent::Refused(Refusal::DamagedLog),
-                    };
-                }
-                EntryPlace::At { start, size } => {
-                    return self.send_entry(i, series, number, &log[start..start + size], out);
-                }
-            }
-        }
-        SendStep {
-            end: self,
-            answer: Sent::Refused(Refusal::NotLoggedIn),
-        }
-    }
-
     // Send: the next message of a series as packets, read off the log.
     pub fn send(self, series: u16, log: &[u8], out: &mut [u8]) -> SendStep
         ensures { λ r. ⌜ Sends self series (now (log .entry)) (now (out .entry)) r (now (out .exit)) ⌝ }
     {
-        match self.find(series) {
-            SeriesPlace::Unknown => SendStep {
+        match self.find_next(series, log) {
+            NextMessage::Drained => SendStep {
                 end: self,
-                answer: Sent::Refused(Refusal::UnknownSeries),
+                answer: Sent::Drained,
             },
-            SeriesPlace::At(i) => self.send_at(i, series, log, out),
+            NextMessage::Refused(r) => SendStep {
+                end: self,
+                answer: Sent::Refused(r),
+            },
+            NextMessage::Entry {
+                place,
+                number,
+                start,
+                size,
+            } => self.send_entry(place, series, number, &log[start..start + size], out),
+        }
+    }
+
+    // Behind a packet of a message: with its last one the message is stepped over.
+    fn after_packet(self, i: usize, number: u32, piece: usize, last: bool) -> Sender
+        requires { ⌜ (i < 8) × (piece < 17) ⌝ }
+        ensures { λ r. ⌜ r ≡ steppedAt self i number piece last ⌝ }
+    {
+        if last {
+            return self.with_place(i, (number as u64) + 1, 0);
+        }
+        self.with_place(i, number as u64, piece + 1)
+    }
+
+    // An entry of the log: the packet that is next is written. 20 where the entry has no such packet; 18 where the output
+    // lacks the bytes of that one.
+    fn send_piece(
+        self,
+        i: usize,
+        series: u16,
+        number: u32,
+        x: &[u8],
+        out: &mut [u8],
+    ) -> SendPacketStep
+        requires { ⌜ EntryNext self series i number (now x) ⌝ }
+        ensures { λ r. ⌜ Leaves (sendPacketEntry self series (now (out .entry)) (some (now (x .entry)))) (r .end)
+            (r .answer) (now (out .exit)) ⌝ }
+    {
+        let seat = self.seat;
+        let place = seat.places[i];
+        let piece = place.piece;
+        let m = self.message_of(series, number, x);
+        match write_packet(m, &x[16..], piece, out) {
+            PacketWritten::Bytes { len, last } => SendPacketStep {
+                end: self.after_packet(i, number, piece, last),
+                answer: SentPacket::Wrote {
+                    number: number,
+                    len: len,
+                    last: last,
+                },
+            },
+            PacketWritten::NoPacket => SendPacketStep {
+                end: self,
+                answer: SentPacket::Refused(Refusal::DamagedLog),
+            },
+            PacketWritten::Refused(_) => SendPacketStep {
+                end: self,
+                answer: SentPacket::Refused(Refusal::TooSmall),
+            },
+        }
+    }
+
+    // Send of one packet (02, No. 4): the next packet of the message that is next, read off the log.
+    pub fn send_packet(self, series: u16, log: &[u8], out: &mut [u8]) -> SendPacketStep
+        ensures { λ r. ⌜ SendsPacket self series (now (log .entry)) (now (out .entry)) r (now (out .exit)) ⌝ }
+    {
+        match self.find_next(series, log) {
+            NextMessage::Drained => SendPacketStep {
+                end: self,
+                answer: SentPacket::Drained,
+            },
+            NextMessage::Refused(r) => SendPacketStep {
+                end: self,
+                answer: SentPacket::Refused(r),
+            },
+            NextMessage::Entry {
+                place,
+                number,
+                start,
+                size,
+            } => self.send_piece(place, series, number, &log[start..start + size], out),
         }
     }
 }

@@ -5,22 +5,24 @@ pub mod Laws
 use Prim.Native.Nat.{ℕ, _+_, _-_, _*_}
 use mathlib.Core.List.{List, [], _∷_, _++_}
 use mathlib.Core.Bool.{Bool, true, false, cond}
-use lib.ListN.{length}
-use lib.Dec.{ltb, leb}
+use lib.ListN.{length, getD, drop}
+use lib.Dec.{ltb, leb, eqb}
 use Rattle.ftd.specs.Bytes.{joined}
 use Rattle.ftd.specs.Fields.{fieldsOf, shaped, mostContent, packetContent}
-use Rattle.ftd.specs.Write.{messageBytes, Verdict, fine, refuse, other}
+use Rattle.ftd.specs.Write.{messageBytes, Verdict, fine, refuse}
 use Rattle.ftd.specs.Tags.{extensionBytes, tagsFor}
 use Rattle.ftd.specs.declared.tags.TradeDate.{TradeDate}
 use Rattle.ftd.specs.declared.tags.TradeDate.the-variants.{At}
-use Rattle.ftd.specs.declared.refusal.Refusal.the-variants.{FieldRun}
+use Rattle.ftd.specs.declared.refusal.Refusal.the-variants.{FieldRun, TooSmall}
 use Rattle.ftd.specs.declared.packet.Chain.{Chain}
 use Rattle.ftd.specs.declared.packet.Chain.the-variants.{Single, First, Middle, Last}
 use Rattle.ftd.specs.declared.packet.Header.{Header}
-use Rattle.ftd.specs.declared.write.Written.the-variants.{NoPacket}
 use Rattle.ftd.specs.declared.chain.Message.{Message}
 use Rattle.ftd.specs.declared.chain.ChainSize.{ChainSize}
 use Rattle.ftd.specs.declared.chain.ChainSize.the-variants.{Takes, Refused}
+use Rattle.ftd.specs.declared.chain.PacketWritten.{PacketWritten}
+use Rattle.ftd.specs.declared.chain.PacketWritten.the-variants.{Bytes, NoPacket}
+use Rattle.ftd.specs.declared.chain.PacketWritten.the-variants.{Refused as NotWritten}
 
 -- ─── The cut ───
 
@@ -81,11 +83,27 @@ packetsOf m content = framed m true (piecesOf content)
 unfoldable pub chainVerdict : List ℕ → Verdict
 chainVerdict content = cond (shaped content mostContent) fine (refuse FieldRun)
 
--- Of one packet of a message: it has one at that place.
-unfoldable pub placeVerdict : Message → List ℕ → ℕ → Verdict
-placeVerdict m content i =
-    cond (shaped content mostContent) (cond (ltb i (length (packetsOf m content))) fine (other NoPacket))
-    (refuse FieldRun)
+-- ─── One packet of a message, by its place ───
+
+-- The message has one at that place; 18 counts that packet alone. Whether it is the last.
+unfoldable pub packetAnswer : Message → List ℕ → ℕ → List ℕ → PacketWritten
+packetAnswer m content i out =
+    let packets = packetsOf m content in
+    let size = length (getD packets i []) in
+    cond (shaped content mostContent)
+    (cond (ltb i (length packets))
+    (cond (ltb (length out) size) (NotWritten TooSmall) (Bytes size (eqb (i + 1) (length packets))))
+    NoPacket)
+    (NotWritten FieldRun)
+
+-- Written, the packet stands at the output's start, and what was behind it stays; otherwise the output is as it was.
+abbrev pub outputLeft : PacketWritten → List ℕ → List ℕ → List ℕ
+outputLeft (Bytes size last) packet out = packet ++ drop size out
+outputLeft NoPacket packet out = out
+outputLeft (NotWritten r) packet out = out
+
+unfoldable pub packetOutput : Message → List ℕ → ℕ → List ℕ → List ℕ
+packetOutput m content i out = outputLeft (packetAnswer m content i out) (getD (packetsOf m content) i []) out
 
 -- ─── What a message takes ───
 

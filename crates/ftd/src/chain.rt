@@ -1,15 +1,15 @@
 // A message cut into packets of whole fields, and written straight into the output.
 ghost use mathlib.Core.Bool.{true};
-ghost use mathlib.Core.List.{[]};
 ghost use mathlib.Core.Path.{_≡_};
 ghost use Prim.Native.Nat.{_+_, _-_, _*_, _≤_};
-ghost use lib.ListN.{length, getD};
+ghost use lib.ListN.{length};
 ghost use Rattle.ftd.specs.Bytes.{put, joined};
 ghost use Rattle.ftd.specs.Runs.{runOf};
 ghost use Rattle.ftd.specs.Fields.{field, shapely, mostContent, packetContent};
 ghost use Rattle.ftd.specs.Write.{messageBytes, writtenAnswer, writtenOutput};
 ghost use Rattle.ftd.specs.Chain.Laws.{ChainLaws};
-ghost use Rattle.ftd.specs.Chain.{chainAt, packetFor, packetsOf, sizeAnswer, chainVerdict, placeVerdict};
+ghost use Rattle.ftd.specs.Chain.{chainAt, packetFor, packetsOf, sizeAnswer, chainVerdict};
+ghost use Rattle.ftd.specs.Chain.{packetAnswer, packetOutput};
 ghost use Rattle.ftd.specs.Chain.Helpers.{NextPiece, FoundPiece, pieceAt, PutRest, measureOf};
 ghost use Rattle.ftd.specs.Tags.{tagsFor, extensionBytes};
 use crate::bytes::copy_at;
@@ -47,6 +47,15 @@ pub struct Size {
 
 pub enum ChainSize {
     Takes(Size),
+    Refused(Refusal),
+}
+
+// What is answered for one packet of a message.
+pub enum PacketWritten {
+    // So many bytes stand at the start of the output; and whether it is the message's last packet.
+    Bytes { len: usize, last: bool },
+    // The message has no packet at that place; the refusal table has no number for it.
+    NoPacket,
     Refused(Refusal),
 }
 
@@ -266,30 +275,29 @@ fn find_piece(content: &[u8], i: usize) -> PiecePlace
 }
 
 // Packet i of a message, counted from 0.
-pub fn write_packet(m: Message, content: &[u8], i: usize, out: &mut [u8]) -> Written
-    ensures answer { λ r. ⌜ r ≡ writtenAnswer (placeVerdict m (now (content .entry)) i)
-        (getD (packetsOf m (now (content .entry))) i []) (now (out .entry)) ⌝ }
-    ensures output { λ _. ⌜ now (out .exit) ≡ writtenOutput (placeVerdict m (now (content .entry)) i)
-        (getD (packetsOf m (now (content .entry))) i []) (now (out .entry)) ⌝ }
+pub fn write_packet(m: Message, content: &[u8], i: usize, out: &mut [u8]) -> PacketWritten
+    ensures answer { λ r. ⌜ r ≡ packetAnswer m (now (content .entry)) i (now (out .entry)) ⌝ }
+    ensures output { λ _. ⌜ now (out .exit) ≡ packetOutput m (now (content .entry)) i (now (out .entry)) ⌝ }
 {
     let date = m.date;
     if is_shaped(content, MOST_CONTENT) {
         match find_piece(content, i) {
             PiecePlace::NoPiece => {
-                return Written::NoPacket;
+                return PacketWritten::NoPacket;
             }
             PiecePlace::At { at, cut } => {
                 let end = cut.end;
                 let n = 4 + tags_len(date) + (16 + (end - at));
                 if out.len() < n {
-                    return Written::Refused(Refusal::TooSmall);
+                    return PacketWritten::Refused(Refusal::TooSmall);
                 }
-                put_piece(out, 0, m, i == 0, end == content.len(), content, at, cut);
-                return Written::Bytes(n);
+                let last = end == content.len();
+                put_piece(out, 0, m, i == 0, last, content, at, cut);
+                return PacketWritten::Bytes { len: n, last: last };
             }
         }
     }
-    Written::Refused(Refusal::FieldRun)
+    PacketWritten::Refused(Refusal::FieldRun)
 }
 
 // The laws of a message's packets, as a promise.

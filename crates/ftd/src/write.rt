@@ -32,8 +32,6 @@ pub enum Written {
     Refused(Refusal),
     // The values are neither a link packet nor a skipped one; the refusal table has no number for it.
     NotPlain,
-    // The message has no packet at that place; nor for this.
-    NoPacket,
 }
 
 // The first four bytes of a packet.

@@ -9,7 +9,8 @@ use Rattle.flow.specs.Agreement.{publishedOn, reported}
 use Rattle.lists.specs.Examples.{refusals, twoDays, twoDaysStart, twoDaysEnd, twoDaysRefusals, twoDaysShown}
 use Rattle.lists.specs.Examples.{twoLogins, twoLoginsStart, beforeOne, behindOne, beforeThree, behindThree}
 use Rattle.lists.specs.Examples.{twoLoginsEnd, twoLoginsRefusals, twoLoginsShown, lastAnswer, chainDropped}
-use Rattle.lists.specs.Examples.{Examples}
+use Rattle.lists.specs.Examples.{onePacket, onePacketStart, beforeWithin, behindWithin, onePacketEnd}
+use Rattle.lists.specs.Examples.{onePacketRefusals, onePacketShown, Examples}
 use Rattle.lists.proofs.Tests.{holdAll, each, isCaughtUp, caught-up}
 use Rattle.lists.proofs.Opened.{opened}
 
@@ -49,6 +50,26 @@ again-is : T (holdAll again)
 unfolding opened
 again-is = tt
 
+line-singly-is : T (inRuns onePacketStart onePacket)
+unfolding opened
+line-singly-is = tt
+
+refused-singly-are : T (same (refusals onePacketStart onePacket) onePacketRefusals)
+unfolding opened
+refused-singly-are = tt
+
+abbrev singly-tests : List Bool
+singly-tests =
+    onePacketShown onePacketEnd
+    ∷ isCaughtUp beforeWithin behindWithin onePacketEnd 1 7 lastAnswer []
+    ∷ eqb (reported onePacketEnd 1 7) 4
+    ∷ eqb (length (publishedOn onePacketEnd 1 7)) 4
+    ∷ []
+
+singly-is : T (holdAll singly-tests)
+unfolding opened
+singly-is = tt
+
 dropped-is : T chainDropped
 unfolding opened
 dropped-is = tt
@@ -56,6 +77,7 @@ dropped-is = tt
 pub examples : Examples
 examples =
     let h = each again again-is in
+    let k = each singly-tests singly-is in
     record {
       line = line-is;
       refused = refused-are;
@@ -67,5 +89,10 @@ examples =
       three-caught-up = caught-up _ _ _ _ _ _ _ (h .1 .1 .0);
       one-counted = (eqb→eq _ _ (h .1 .1 .1 .0), eqb→eq _ _ (h .1 .1 .1 .1 .0));
       three-counted = (eqb→eq _ _ (h .1 .1 .1 .1 .1 .0), eqb→eq _ _ (h .1 .1 .1 .1 .1 .1 .0));
+      line-singly = line-singly-is;
+      refused-singly = refused-singly-are;
+      shown-singly = k .0;
+      singly-caught-up = caught-up _ _ _ _ _ _ _ (k .1 .0);
+      singly-counted = (eqb→eq _ _ (k .1 .1 .0), eqb→eq _ _ (k .1 .1 .1 .0));
       dropped = dropped-is;
     }

@@ -1,6 +1,6 @@
--- Two lists of calls, computed: what the line's rule, the histories and the second half's conditions say of them. Login
--- packets, login answers and messages are named by their place on the line, from 0. And three calls that the lists
--- can't have: a buffer too short for one.
+-- Three lists of calls, computed: what the line's rule, the histories and the second half's conditions say of them.
+-- Login packets, login answers and transmissions are named by their place on the line, from 0: in the first two lists
+-- each is a message sent whole. And three calls that the lists can't have: a buffer too short for one.
 use Prim.Native.Nat.{ℕ}
 use mathlib.Core.Path.{_≡_}
 use mathlib.Core.List.{List, [], _∷_, _++_}
@@ -16,12 +16,13 @@ use Rattle.flow.specs.declared.receiver.Receiver.{Receiver}
 use Rattle.flow.specs.declared.receiver.Received.{Received}
 use Rattle.flow.specs.Ends.{Wrote}
 use Rattle.flow.specs.Answers.{Message, Said, refused, held, isTaken, openedSaid, publishedSaid, loginSaid}
-use Rattle.flow.specs.Answers.{sentSaid, requestedSaid, confirmedSaid, receivedSaid}
-use Rattle.flow.specs.Serving.{openDayOf, publishOf, loginOf, sendOf}
+use Rattle.flow.specs.Answers.{sentSaid, sentPacketSaid, requestedSaid, confirmedSaid, receivedSaid}
+use Rattle.flow.specs.Serving.{openDayOf, publishOf, loginOf, sendOf, sendPacketOf}
 use Rattle.flow.specs.Receiving.{openEndOf, requestLoginOf, confirmLoginOf, receiveOf}
-use Rattle.flow.specs.World.{InSeries, inSeries, Event, openSender, publish, login, send, openReceiver, connect}
-use Rattle.flow.specs.World.{requestLogin, confirmLogin, receive, World, start, step, run, inRuns}
+use Rattle.flow.specs.World.{InSeries, Event, openSender, publish, login, send, sendPacket, openReceiver, connect}
+use Rattle.flow.specs.World.{requestLogin, confirmLogin, receive, broken, transmission, World, start, step, run, inRuns}
 use Rattle.flow.specs.Agreement.{of, publishedOn, handedOn, reported, CaughtUp}
+use Rattle.flow.specs.PacketByPacket.{shown}
 use Rattle.flow.specs.Bench.{numbers, reqLogin, rspLogin, tid, note, message, space, atLast}
 
 -- ─── Contents ───
@@ -83,6 +84,8 @@ refusalBy w (login s i content out) =
     refusalWith (λ p. loginSaid (loginOf (w .serving .end) s p content out .answer))
     (getElem? (w .receiving .requests) i)
 refusalBy w (send s out) = refusal (sentSaid (sendOf (w .serving .end) s (w .serving .log) out .answer))
+refusalBy w (sendPacket s out) =
+    refusal (sentPacketSaid (sendPacketOf (w .serving .end) s (w .serving .log) out .answer))
 refusalBy w (openReceiver ss) = refusal (openedSaid (openEndOf (w .receiving .end) ss .answer))
 refusalBy w connect = []
 refusalBy w (requestLogin s content out) =
@@ -93,7 +96,7 @@ refusalBy w (confirmLogin i) =
     (getElem? (w .serving .answers) i)
 refusalBy w (receive i j) =
     refusalWith (λ p. receivedSaid p [] (receiveOf (w .receiving .end) p (w .receiving .buffer) .answer))
-    (getElem? (getD (w .serving .messages) i (inSeries 0 []) .what) j)
+    (getElem? (getD (w .serving .transmissions) i (transmission 0 [] broken) .packets) j)
 
 abbrev pub refusals : World → List Event → List ℕ
 refusals w [] = []
@@ -279,6 +282,82 @@ twoLoginsShown w =
     shows w 1 7 (a1 ∷ c2 ∷ a3 ∷ []) (a1 ∷ c2 ∷ a3 ∷ []) (0 ∷ 1 ∷ 1 ∷ 1 ∷ 1 ∷ 1 ∷ 2 ∷ 3 ∷ 3 ∷ [])
     && shows w 3 7 (d1 ∷ b1 ∷ b2 ∷ []) (d1 ∷ b1 ∷ b2 ∷ []) (0 ∷ 0 ∷ 0 ∷ 1 ∷ 1 ∷ 1 ∷ 2 ∷ 3 ∷ [])
 
+-- ─── The third list: packet by packet (02, No. 4) ───
+
+-- c2 and d1 take two packets each, of 2,066 and 2,067 bytes. Up to the last login.
+unfoldable pub singly : List Event
+singly =
+    openSender 7 (1 ∷ [])
+    ∷ openReceiver (1 ∷ [])
+    ∷ publish 1 tid c2  -- number 1
+    ∷ sendPacket 3 (space 2066)  -- refused 13
+    ∷ sendPacket 1 (space 2066)  -- refused 14
+    ∷ requestLogin 1 reqLogin (space 200)  -- login packet 0
+    ∷ login 1 0 rspLogin (space 200)  -- answer 0
+    ∷ confirmLogin 0
+    ∷ sendPacket 1 (space 2066)  -- transmission 0: the first packet of c2
+    ∷ receive 0 0  -- c2, held
+    ∷ publish 1 tid a1  -- number 2; what comes next stays
+    ∷ sendPacket 1 (space 2066)  -- refused 18: the second packet has one byte more
+    ∷ send 1 (space 4132)  -- refused 18: the whole message takes 4,133
+    ∷ login 3 0 rspLogin (space 200)  -- refused 13
+    ∷ openSender 7 (1 ∷ [])  -- refused 11; none of these ends it
+    ∷ sendPacket 1 (space 2067)  -- its second packet: c2 is sent
+    ∷ receive 0 1  -- c2
+    ∷ sendPacket 1 (space 50)  -- transmission 1: a1, in one packet
+    ∷ receive 1 0  -- a1
+    ∷ requestLogin 1 reqLogin (space 200)  -- login packet 1: of day 7, next 3
+    ∷ publish 1 tid d1  -- number 3
+    ∷ sendPacket 1 (space 2066)  -- transmission 2: the first packet of d1
+    ∷ receive 2 0  -- d1, held
+    ∷ []
+
+-- Answer 1: it breaks transmission 2 off, though it starts with the same message.
+unfoldable pub lastWithin : Event
+lastWithin = login 1 1 rspLogin (space 200)
+
+unfoldable pub anew : List Event
+anew =
+    receive 2 1  -- no such packet: no call
+    ∷ confirmLogin 1  -- drops the chain of d1
+    ∷ sendPacket 1 (space 2066)  -- transmission 3: the first packet of d1 again
+    ∷ receive 3 0  -- d1, held
+    ∷ send 1 (space 4133)  -- transmission 4: d1 whole; 3 is broken off
+    ∷ receive 4 0
+    ∷ receive 4 1  -- d1
+    ∷ publish 1 tid a3  -- number 4
+    ∷ sendPacket 1 (space 50)  -- transmission 5: a3
+    ∷ receive 5 0  -- a3
+    ∷ sendPacket 1 []  -- none
+    ∷ []
+
+abbrev pub onePacket : List Event
+onePacket = singly ++ (lastWithin ∷ anew)
+
+unfoldable pub onePacketStart : World
+onePacketStart = start (space 8400) (space 32768)
+
+unfoldable pub beforeWithin : World
+beforeWithin = run onePacketStart singly
+
+unfoldable pub behindWithin : World
+behindWithin = step beforeWithin lastWithin
+
+unfoldable pub onePacketEnd : World
+onePacketEnd = run behindWithin anew
+
+unfoldable pub onePacketRefusals : List ℕ
+onePacketRefusals = 13 ∷ 14 ∷ 18 ∷ 18 ∷ 13 ∷ 11 ∷ []
+
+-- The transmissions: c2 whole in two packets, a1 whole in one, d1 broken off twice behind its first, d1 and a3 whole.
+-- Four messages were sent and, with two answers, delivered; the receiving end's last is 4, the serving end's next 5.
+abbrev pub onePacketShown : World → Bool
+onePacketShown w =
+    shows w 1 7 (c2 ∷ a1 ∷ d1 ∷ a3 ∷ []) (c2 ∷ a1 ∷ d1 ∷ a3 ∷ [])
+    (0 ∷ 0 ∷ 1 ∷ 2 ∷ 2 ∷ 2 ∷ 2 ∷ 2 ∷ 3 ∷ 4 ∷ [])
+    && same (shown w)
+    (1 ∷ 2 ∷ 1 ∷ 1 ∷ 2 ∷ 1 ∷ 2 ∷ 1 ∷ 1 ∷ 2 ∷ 1 ∷ 1 ∷ 4 ∷ 6 ∷ 4 ∷ 5 ∷ 0 ∷ [])
+
 -- ─── 18 drops the chain ───
 
 -- Packet j of a2, as number 1 of series 1.
@@ -318,5 +397,11 @@ pub record Examples : Type 0 where
   pub three-caught-up : CaughtUp beforeThree behindThree twoLoginsEnd 3 7 lastAnswer []
   pub one-counted : (reported twoLoginsEnd 1 7 ≡ 3) × (length (publishedOn twoLoginsEnd 1 7) ≡ 3)
   pub three-counted : (reported twoLoginsEnd 3 7 ≡ 3) × (length (publishedOn twoLoginsEnd 3 7) ≡ 3)
+  -- The third list: the same of its one series, and what the line then has.
+  pub line-singly : T (inRuns onePacketStart onePacket)
+  pub refused-singly : T (same (refusals onePacketStart onePacket) onePacketRefusals)
+  pub shown-singly : T (onePacketShown onePacketEnd)
+  pub singly-caught-up : CaughtUp beforeWithin behindWithin onePacketEnd 1 7 lastAnswer []
+  pub singly-counted : (reported onePacketEnd 1 7 ≡ 4) × (length (publishedOn onePacketEnd 1 7) ≡ 4)
   -- A chain that one call had no room for is gone.
   pub dropped : T chainDropped

@@ -2,7 +2,7 @@
 // something; each takes a while to compute, so they stand apart from the ends.
 ghost use Rattle.lists.specs.Examples.{Examples};
 
-// Two lists of calls, and three calls on a chain, as a promise.
+// Three lists of calls, and three calls on a chain, as a promise.
 pub fn keeps_examples()
     ensures { λ _. ⌜ Examples ⌝ }
 {}

@@ -14,7 +14,7 @@ use Rattle.play.specs.declared.calls.Verb.the-variants.{Answer as NamesA
 use Rattle.play.specs.declared.calls.Verb.the-variants.{State as NamesState, Calendar as NamesCalendar}
 use Rattle.play.specs.declared.calls.Verb.the-variants.{Mark as NamesMark, Book as NamesBook, Take as NamesTake}
 use Rattle.play.specs.declared.calls.Verb.the-variants.{Level as NamesLevel, Mean as NamesMean, ReceiveAll as NamesReceiveAll}
-use Rattle.play.specs.declared.calls.Verb.the-variants.{PublishAll as NamesPublishAll}
+use Rattle.play.specs.declared.calls.Verb.the-variants.{PublishAll as NamesPublishAll, SendPacket as NamesSendPacket}
 use Rattle.play.specs.declared.calls.Call.{Call}
 use Rattle.play.specs.declared.calls.Call.the-variants.{Bad, Buffers, OpenDay, Publish, Login, Send, OpenEnd}
 use Rattle.play.specs.declared.calls.Call.the-variants.{Connect, Ask, Answer, Receive, State}
@@ -55,14 +55,15 @@ endVerbOf word =
     (cond (sameWord word (114 ∷ 101 ∷ 99 ∷ 101 ∷ 105 ∷ 118 ∷ 101 ∷ [])) NamesReceive
     (cond (sameWord word (115 ∷ 116 ∷ 97 ∷ 116 ∷ 101 ∷ [])) NamesState (tradingVerbOf word))))))
 
--- `buffers`, `sopen`, `publish`, `login`, `send`, or one of those.
+-- `buffers`, `sopen`, `publish`, `login`, `send`, `sendpacket`, or one of those.
 unfoldable pub verbOf : List ℕ → Verb
 verbOf word =
     cond (sameWord word (98 ∷ 117 ∷ 102 ∷ 102 ∷ 101 ∷ 114 ∷ 115 ∷ [])) NamesBuffers
     (cond (sameWord word (115 ∷ 111 ∷ 112 ∷ 101 ∷ 110 ∷ [])) NamesOpenDay
     (cond (sameWord word (112 ∷ 117 ∷ 98 ∷ 108 ∷ 105 ∷ 115 ∷ 104 ∷ [])) NamesPublish
     (cond (sameWord word (108 ∷ 111 ∷ 103 ∷ 105 ∷ 110 ∷ [])) NamesLogin
-    (cond (sameWord word (115 ∷ 101 ∷ 110 ∷ 100 ∷ [])) NamesSend (endVerbOf word)))))
+    (cond (sameWord word (115 ∷ 101 ∷ 110 ∷ 100 ∷ [])) NamesSend
+    (cond (sameWord word (115 ∷ 101 ∷ 110 ∷ 100 ∷ 112 ∷ 97 ∷ 99 ∷ 107 ∷ 101 ∷ 116 ∷ [])) NamesSendPacket (endVerbOf word))))))
 
 -- ─── The arguments: whether they have their form, and numbers within their limits ───
 
@@ -84,9 +85,10 @@ unfoldable pub loginCallWith : Bool → ℕ → ℕ → Call
 loginCallWith right series room =
     cond right (cond (ltb 65535 series) Bad (cond (ltb 65536 room) Bad (Login series room))) Bad
 
-unfoldable pub sendWith : Bool → ℕ → ℕ → Call
-sendWith right series room =
-    cond right (cond (ltb 65535 series) Bad (cond (ltb 65536 room) Bad (Send series room))) Bad
+-- Of a whole message, or of one packet.
+unfoldable pub sendWith : Bool → ℕ → ℕ → Bool → Call
+sendWith right series room single =
+    cond right (cond (ltb 65535 series) Bad (cond (ltb 65536 room) Bad (Send series room single))) Bad
 
 unfoldable pub openEndWith : ℕ → Call
 openEndWith count = cond (ltb mostNamed count) Bad (OpenEnd count)
@@ -140,7 +142,7 @@ namedCall line NamesBuffers = buffersWith (hasForm line 2 0) (numberAt line 0) (
 namedCall line NamesOpenDay = openDayWith (numberAt line 0) (seriesCount line 1)
 namedCall line NamesPublish = publishWith (hasForm line 2 1) (numberAt line 0) (tidIn (argument line 1))
 namedCall line NamesLogin = loginCallWith (hasForm line 2 2) (numberAt line 0) (numberAt line 1)
-namedCall line NamesSend = sendWith (hasForm line 2 0) (numberAt line 0) (numberAt line 1)
+namedCall line NamesSend = sendWith (hasForm line 2 0) (numberAt line 0) (numberAt line 1) false
 namedCall line NamesOpenEnd = openEndWith (seriesCount line 0)
 namedCall line NamesConnect = plainCall (hasForm line 0 0) Connect
 namedCall line NamesAsk =
@@ -159,6 +161,7 @@ namedCall line NamesLevel =
 namedCall line NamesMean = plainCall (hasForm line 0 0) ShowMean
 namedCall line NamesReceiveAll = plainCall (hasForm line 0 1) ReceiveAll
 namedCall line NamesPublishAll = plainCall (hasForm line 0 1) PublishAll
+namedCall line NamesSendPacket = sendWith (hasForm line 2 0) (numberAt line 0) (numberAt line 1) true
 
 unfoldable pub callOf : List ℕ → Call
 callOf line = namedCall line (verbOf (take (endOf line 0) line))
@@ -172,7 +175,7 @@ Limited (Buffers log chain) = Unit {0}
 Limited (OpenDay date count) = count ≤ mostNamed
 Limited (Publish series tid) = Unit {0}
 Limited (Login series room) = room ≤ 65536
-Limited (Send series room) = room ≤ 65536
+Limited (Send series room single) = room ≤ 65536
 Limited (OpenEnd count) = count ≤ mostNamed
 Limited Connect = Unit {0}
 Limited (Ask series room) = room ≤ 65536

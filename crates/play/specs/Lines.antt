@@ -1,7 +1,7 @@
 -- The lines that the player prints.
 use Prim.Native.Nat.{ℕ, suc, _+_, _/_, _≤_}
 use mathlib.Core.List.{List, [], _∷_, _++_}
-use mathlib.Core.Bool.{cond}
+use mathlib.Core.Bool.{Bool, cond}
 use lib.ListN.{length, take}
 use lib.IntN.{ℤ, pos, negsuc}
 use lib.Dec.{eqb}
@@ -22,6 +22,10 @@ use Rattle.flow.specs.declared.sender.Sent.{Sent}
 use Rattle.flow.specs.declared.sender.Sent.the-variants.{Drained}
 use Rattle.flow.specs.declared.sender.Sent.the-variants.{Wrote as MessageSent}
 use Rattle.flow.specs.declared.sender.Sent.the-variants.{Refused as NotSent}
+use Rattle.flow.specs.declared.sender.SentPacket.{SentPacket}
+use Rattle.flow.specs.declared.sender.SentPacket.the-variants.{Drained as NoPacket}
+use Rattle.flow.specs.declared.sender.SentPacket.the-variants.{Wrote as PacketSent}
+use Rattle.flow.specs.declared.sender.SentPacket.the-variants.{Refused as NotPacket}
 use Rattle.flow.specs.declared.receiver.Requested.{Requested}
 use Rattle.flow.specs.declared.receiver.Requested.the-variants.{Wrote as Asked}
 use Rattle.flow.specs.declared.receiver.Requested.the-variants.{Refused as NotAsked}
@@ -64,8 +68,8 @@ wordLine word = word ++ newline
 unfoldable pub numbered : List ℕ → ℕ → List ℕ
 numbered word n = word ++ gap ++ decimalOf n
 
-unfoldable pub bytesLine : List ℕ → List ℕ → List ℕ
-bytesLine word bytes = wordLine (numbered word (length bytes) ++ gap ++ contentText bytes)
+unfoldable pub bytesLine : List ℕ → List ℕ → List ℕ → List ℕ
+bytesLine word between bytes = wordLine (numbered word (length bytes) ++ between ++ contentText bytes)
 
 -- ─── Answers ───
 
@@ -80,6 +84,15 @@ login = 108 ∷ 111 ∷ 103 ∷ 105 ∷ 110 ∷ []
 
 abbrev pub sent : List ℕ
 sent = 115 ∷ 101 ∷ 110 ∷ 116 ∷ []
+
+abbrev pub packet : List ℕ
+packet = 112 ∷ 97 ∷ 99 ∷ 107 ∷ 101 ∷ 116 ∷ []
+
+abbrev pub lastGap : List ℕ
+lastGap = 32 ∷ 108 ∷ 97 ∷ 115 ∷ 116 ∷ 32 ∷ []
+
+abbrev pub moreGap : List ℕ
+moreGap = 32 ∷ 109 ∷ 111 ∷ 114 ∷ 101 ∷ 32 ∷ []
 
 abbrev pub none : List ℕ
 none = 110 ∷ 111 ∷ 110 ∷ 101 ∷ []
@@ -144,18 +157,27 @@ publishedLine (NotPublished r) = refusedLine r
 
 -- `login`, how many bytes were written, and these bytes of the output.
 abbrev pub loginAnswerLine : List ℕ → LoggedIn → List ℕ
-loginAnswerLine out (Answered n) = bytesLine login (take n out)
+loginAnswerLine out (Answered n) = bytesLine login gap (take n out)
 loginAnswerLine out (NotIn r) = refusedLine r
 
 -- `sent` likewise, or `none`.
 abbrev pub sentLine : List ℕ → Sent → List ℕ
 sentLine out Drained = wordLine none
-sentLine out (MessageSent k n) = bytesLine sent (take n out)
+sentLine out (MessageSent k n) = bytesLine sent gap (take n out)
 sentLine out (NotSent r) = refusedLine r
+
+-- `packet` likewise, with `last` or `more` before the bytes: whether it is its message's last; or `none`.
+unfoldable pub packetLine : Bool → List ℕ → List ℕ
+packetLine isLast bytes = bytesLine packet (cond isLast lastGap moreGap) bytes
+
+abbrev pub sentPacketLine : List ℕ → SentPacket → List ℕ
+sentPacketLine out NoPacket = wordLine none
+sentPacketLine out (PacketSent k n isLast) = packetLine isLast (take n out)
+sentPacketLine out (NotPacket r) = refusedLine r
 
 -- `asked`, how many bytes were written, and these bytes of the output.
 abbrev pub requestedLine : List ℕ → Requested → List ℕ
-requestedLine out (Asked n) = bytesLine asked (take n out)
+requestedLine out (Asked n) = bytesLine asked gap (take n out)
 requestedLine out (NotAsked r) = refusedLine r
 
 -- `answered` and the series' last number.

@@ -8,7 +8,7 @@ use lib.Dec.{ltb}
 use Rattle.flow.specs.declared.sender.Sender.{Sender}
 use Rattle.flow.specs.declared.receiver.Receiver.{Receiver}
 use Rattle.flow.specs.Ends.{freshSender, freshReceiver}
-use Rattle.flow.specs.Serving.{openDayOf, publishOf, loginOf, sendOf}
+use Rattle.flow.specs.Serving.{openDayOf, publishOf, loginOf, sendOf, sendPacketOf}
 use Rattle.flow.specs.Receiving.{openEndOf, connectOf, requestLoginOf, confirmLoginOf, receiveOf}
 use Rattle.flow.specs.Several.{receiveSeveralOf, publishSeveralOf}
 use Rattle.calendar.specs.declared.trading.Calendar.{Calendar}
@@ -25,7 +25,7 @@ use Rattle.play.specs.declared.calls.Call.the-variants.{SetCalendar, Ask
 use Rattle.play.specs.declared.calls.Call.the-variants.{StartBook, TakeMessage, ShowLevel, ShowMean}
 use Rattle.play.specs.Words.{argument, saidBytes, seriesFrom, wordsFrom}
 use Rattle.play.specs.Calls.{callOf, Limited}
-use Rattle.play.specs.Lines.{wordLine, numbered, openedLine, publishedLine, loginAnswerLine, sentLine}
+use Rattle.play.specs.Lines.{wordLine, numbered, openedLine, publishedLine, loginAnswerLine, sentLine, sentPacketLine}
 use Rattle.play.specs.Lines.{connected, requestedLine, confirmedLine, receivedLine, setLine, timeLine, dateLine}
 use Rattle.play.specs.Lines.{started, taken, outcomeLine, levelLine, meanLine}
 use Rattle.play.specs.State.{stateLines}
@@ -166,6 +166,11 @@ ShowsSend p s log n out r before after =
     let m = sendOf (p .sender) s log (replicate n 0) in
     Shows (withSender p (m .end)) (sentLine (m .bytes) (m .answer)) r before after × (out ≡ m .bytes)
 
+abbrev pub ShowsSendPacket : Player → ℕ → List ℕ → ℕ → List ℕ → Played → List ℕ → List ℕ → Type 0
+ShowsSendPacket p s log n out r before after =
+    let m = sendPacketOf (p .sender) s log (replicate n 0) in
+    Shows (withSender p (m .end)) (sentPacketLine (m .bytes) (m .answer)) r before after × (out ≡ m .bytes)
+
 abbrev pub ShowsOpenEnd : Player → List ℕ → Played → List ℕ → List ℕ → Type 0
 ShowsOpenEnd p series r before after =
     let m = openEndOf (p .receiver) series in
@@ -280,6 +285,16 @@ sendTurn p s room log chain =
     let m = sendOf (p .sender) s (take (p .log) log) (replicate room 0) in
     turn (withSender p (m .end)) (sentLine (m .bytes) (m .answer)) log chain
 
+abbrev pub sendPacketTurn : Player → ℕ → ℕ → List ℕ → List ℕ → Turn
+sendPacketTurn p s room log chain =
+    let m = sendPacketOf (p .sender) s (take (p .log) log) (replicate room 0) in
+    turn (withSender p (m .end)) (sentPacketLine (m .bytes) (m .answer)) log chain
+
+-- Of one packet, or of a whole message.
+abbrev pub eitherSendTurn : Player → ℕ → ℕ → Bool → List ℕ → List ℕ → Turn
+eitherSendTurn p s room single log chain =
+    cond single (sendPacketTurn p s room log chain) (sendTurn p s room log chain)
+
 abbrev pub askTurn : Player → ℕ → List ℕ → ℕ → List ℕ → List ℕ → Turn
 askTurn p s content room log chain =
     let m = requestLoginOf (p .receiver) s content (replicate room 0) in
@@ -321,7 +336,7 @@ readyTurn p line log chain (OpenDay date count) =
 readyTurn p line log chain (Publish s tid) = publishTurn p s tid (saidBytes (argument line 2)) log chain
 readyTurn p line log chain (Login s room) =
     loginTurn p s (saidBytes (argument line 2)) (saidBytes (argument line 3)) room log chain
-readyTurn p line log chain (Send s room) = sendTurn p s room log chain
+readyTurn p line log chain (Send s room single) = eitherSendTurn p s room single log chain
 readyTurn p line log chain (OpenEnd count) =
     let m = openEndOf (p .receiver) (seriesFrom line 0 count) in
     turn (withReceiver p (m .end)) (openedLine (m .answer)) log chain
@@ -355,7 +370,7 @@ startTurn p log chain Bad = badTurn p log chain
 startTurn p log chain (OpenDay date count) = badTurn p log chain
 startTurn p log chain (Publish s tid) = badTurn p log chain
 startTurn p log chain (Login s room) = badTurn p log chain
-startTurn p log chain (Send s room) = badTurn p log chain
+startTurn p log chain (Send s room single) = badTurn p log chain
 startTurn p log chain (OpenEnd count) = badTurn p log chain
 startTurn p log chain Connect = badTurn p log chain
 startTurn p log chain (Ask s room) = badTurn p log chain
@@ -417,9 +432,9 @@ PlaysLogin p s packet content room r before after =
     let t = loginTurn p s packet content room [] [] in
     Shows (t .player) (t .said) r before after
 
-abbrev pub PlaysSend : Player → ℕ → List ℕ → ℕ → Played → List ℕ → List ℕ → Type 0
-PlaysSend p s log room r before after =
-    let t = sendTurn p s room log [] in
+abbrev pub PlaysSend : Player → ℕ → List ℕ → ℕ → Bool → Played → List ℕ → List ℕ → Type 0
+PlaysSend p s log room single r before after =
+    let t = eitherSendTurn p s room single log [] in
     Shows (t .player) (t .said) r before after
 
 abbrev pub PlaysAsk : Player → ℕ → List ℕ → ℕ → Played → List ℕ → List ℕ → Type 0

@@ -36,6 +36,9 @@ lastWord = 108 ∷ 97 ∷ 115 ∷ 116 ∷ []
 abbrev pub nextWord : List ℕ
 nextWord = 32 ∷ 110 ∷ 101 ∷ 120 ∷ 116 ∷ 32 ∷ []
 
+abbrev pub pieceWord : List ℕ
+pieceWord = 32 ∷ 112 ∷ 105 ∷ 101 ∷ 99 ∷ 101 ∷ 32 ∷ []
+
 abbrev pub outWord : List ℕ
 outWord = 111 ∷ 117 ∷ 116 ∷ []
 
@@ -75,11 +78,14 @@ servingLine e = wordLine (serving ++ gap ++ dateText (e .day .date) ++ gap ++ de
 unfoldable pub nextText : Place → List ℕ
 nextText place = cond (place .login) (decimalOf (place .next)) outWord
 
--- `series S published P next N`.
+-- ` next N piece K`: how many packets of message N were written one by one.
+unfoldable pub placeText : Place → List ℕ
+placeText place = nextWord ++ nextText place ++ pieceWord ++ decimalOf (place .piece)
+
+-- `series S published P next N piece K`.
 unfoldable pub servedLine : DaySeries → Place → List ℕ
 servedLine one place =
-    wordLine (numbered series (one .series) ++ gap ++ numbered publishedWord (one .published) ++ nextWord
-    ++ nextText place)
+    wordLine (numbered series (one .series) ++ gap ++ numbered publishedWord (one .published) ++ placeText place)
 
 abbrev pub servedAt : List DaySeries → List Place → ℕ → List ℕ
 servedAt series places i = servedLine (getD series i (newSeries 0)) (getD places i noPlace)

@@ -35,6 +35,7 @@ enum Verb {
     Mean,
     ReceiveAll,
     PublishAll,
+    SendPacket,
 }
 
 // A call, with the numbers that its line says.
@@ -42,29 +43,65 @@ pub enum Call {
     // No call.
     Bad,
     // The lengths of log and chain buffer.
-    Buffers { log: usize, chain: usize },
+    Buffers {
+        log: usize,
+        chain: usize,
+    },
     // Opening of the serving end, with so many series.
-    OpenDay { date: u32, count: usize },
-    Publish { series: u16, tid: u32 },
+    OpenDay {
+        date: u32,
+        count: usize,
+    },
+    Publish {
+        series: u16,
+        tid: u32,
+    },
     // An output of so many bytes.
-    Login { series: u16, room: usize },
-    Send { series: u16, room: usize },
+    Login {
+        series: u16,
+        room: usize,
+    },
+    // Of a whole message, or of one packet.
+    Send {
+        series: u16,
+        room: usize,
+        single: bool,
+    },
     // Opening of the receiving end.
-    OpenEnd { count: usize },
+    OpenEnd {
+        count: usize,
+    },
     Connect,
-    Ask { series: u16, room: usize },
-    Answer { series: u16 },
+    Ask {
+        series: u16,
+        room: usize,
+    },
+    Answer {
+        series: u16,
+    },
     Receive,
     // Both ends, for people.
     State,
     // So many sessions, and so many holidays.
-    SetCalendar { sessions: usize, holidays: usize },
-    AskTime { seconds: u32 },
-    MarkDate { mark: u32 },
+    SetCalendar {
+        sessions: usize,
+        holidays: usize,
+    },
+    AskTime {
+        seconds: u32,
+    },
+    MarkDate {
+        mark: u32,
+    },
     StartBook,
-    TakeMessage { tid: u32 },
+    TakeMessage {
+        tid: u32,
+    },
     // A side, and a place on it.
-    ShowLevel { buying: bool, place: usize },
+    ShowLevel {
+        buying: bool,
+        place: usize,
+    },
     ShowMean,
     // Several packets, several records.
     ReceiveAll,
@@ -160,6 +197,9 @@ fn verb_of(word: &[u8]) -> Verb
     if is_word(word, b"send") {
         return Verb::Send;
     }
+    if is_word(word, b"sendpacket") {
+        return Verb::SendPacket;
+    }
     end_verb_of(word)
 }
 
@@ -237,8 +277,8 @@ fn login_with(right: bool, series: u64, room: u64) -> Call
 }
 
 // Numbers within their width and limit.
-fn send_with(right: bool, series: u64, room: u64) -> Call
-    ensures { λ r. ⌜ r ≡ sendWith right series room ⌝ }
+fn send_with(right: bool, series: u64, room: u64, single: bool) -> Call
+    ensures { λ r. ⌜ r ≡ sendWith right series room single ⌝ }
 {
     if right {
         if series > 65535 {
@@ -250,6 +290,7 @@ fn send_with(right: bool, series: u64, room: u64) -> Call
         return Call::Send {
             series: series as u16,
             room: room as usize,
+            single: single,
         };
     }
     Call::Bad
@@ -421,7 +462,12 @@ fn named_call(line: &[u8], verb: Verb) -> Call
             read_tid(argument(line, 1)),
         ),
         Verb::Login => login_with(has_form(line, 2, 2), number_at(line, 0), number_at(line, 1)),
-        Verb::Send => send_with(has_form(line, 2, 0), number_at(line, 0), number_at(line, 1)),
+        Verb::Send => send_with(
+            has_form(line, 2, 0),
+            number_at(line, 0),
+            number_at(line, 1),
+            false,
+        ),
         Verb::OpenEnd => open_end_with(number_count(line, 0, 65535, 64)),
         Verb::Connect => plain_call(has_form(line, 0, 0), Call::Connect),
         Verb::Ask => time_with(
@@ -445,6 +491,12 @@ fn named_call(line: &[u8], verb: Verb) -> Call
         Verb::Mean => plain_call(has_form(line, 0, 0), Call::ShowMean),
         Verb::ReceiveAll => plain_call(has_form(line, 0, 1), Call::ReceiveAll),
         Verb::PublishAll => plain_call(has_form(line, 0, 1), Call::PublishAll),
+        Verb::SendPacket => send_with(
+            has_form(line, 2, 0),
+            number_at(line, 0),
+            number_at(line, 1),
+            true,
+        ),
     }
 }
 

@@ -270,7 +270,11 @@ impl Player {
                 play_publish(self, series, tid, line, log, bytes, text)
             }
             Call::Login { series, room } => play_login(self, series, room, line, bytes, out, text),
-            Call::Send { series, room } => play_send(self, series, room, log, out, text),
+            Call::Send {
+                series,
+                room,
+                single,
+            } => play_send(self, series, room, single, log, out, text),
             Call::OpenEnd { count } => play_open_end(self, count, line, text),
             Call::Connect => connect(self, text),
             Call::Ask { series, room } => play_ask(self, series, room, line, bytes, out, text),

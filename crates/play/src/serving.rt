@@ -3,7 +3,7 @@ ghost use mathlib.Core.Path.{_≡_};
 ghost use Prim.Native.Nat.{_+_, _*_, _≤_};
 ghost use lib.ListN.{length};
 ghost use Rattle.play.specs.Words.{argument as argumentOf, saidBytes, seriesFrom};
-ghost use Rattle.play.specs.Played.{ShowsOpenDay, ShowsPublish, ShowsLogin, ShowsSend};
+ghost use Rattle.play.specs.Played.{ShowsOpenDay, ShowsPublish, ShowsLogin, ShowsSend, ShowsSendPacket};
 ghost use Rattle.play.specs.Played.{PlaysPublish, PlaysLogin, PlaysSend};
 use crate::player::Played;
 use crate::player::Player;
@@ -12,6 +12,7 @@ use crate::text::login_line;
 use crate::text::opened_line;
 use crate::text::published_line;
 use crate::text::sent_line;
+use crate::text::sent_packet_line;
 use crate::words::argument;
 use crate::words::put_bytes;
 use crate::words::put_two;
@@ -166,19 +167,42 @@ fn send(player: Player, series: u16, log: &[u8], out: &mut [u8], text: &mut [u8]
     }
 }
 
-// Send, from the log's part, with an output of so many bytes.
+// Send of one packet.
+fn send_packet(player: Player, series: u16, log: &[u8], out: &mut [u8], text: &mut [u8]) -> Played
+    requires { ⌜ 64 + 2 * length (now out) ≤ length (now text) ⌝ }
+    ensures { λ r. ⌜ ShowsSendPacket player series (now (log .entry)) (length (now (out .entry))) (now (out .exit)) r
+        (now (text .entry)) (now (text .exit)) ⌝ }
+{
+    let sender = player.sender;
+    clear(out);
+    let step = sender.send_packet(series, log, out);
+    let answer = step.answer;
+    let end = step.end;
+    let len = sent_packet_line(text, answer, out);
+    Played {
+        player: player.with_sender(end),
+        len: len,
+    }
+}
+
+// Send, of a whole message or of one packet, from the log's part, with an output of so many bytes.
 pub(crate) fn play_send(
     player: Player,
     series: u16,
     room: usize,
+    single: bool,
     log: &[u8],
     out: &mut [u8],
     text: &mut [u8],
 ) -> Played
     requires { ⌜ (64 + 2 * room ≤ length (now text)) × (room ≤ length (now out))
         × (player .log ≤ length (now log)) ⌝ }
-    ensures { λ r. ⌜ PlaysSend player series (now (log .entry)) room r (now (text .entry)) (now (text .exit)) ⌝ }
+    ensures { λ r. ⌜ PlaysSend player series (now (log .entry)) room single r (now (text .entry))
+        (now (text .exit)) ⌝ }
 {
     let size = player.log;
+    if single {
+        return send_packet(player, series, &log[..size], &mut out[..room], text);
+    }
     send(player, series, &log[..size], &mut out[..room], text)
 }

@@ -3,7 +3,7 @@ ghost use mathlib.Core.Path.{_≡_};
 ghost use Prim.Native.Nat.{_+_, _≤_};
 ghost use lib.ListN.{length};
 ghost use Rattle.listing.specs.Text.{WroteText, decimalOf};
-ghost use Rattle.play.specs.State.{dateText, shownPlaces, servingLine, nextText, servedLine, servedLines};
+ghost use Rattle.play.specs.State.{dateText, shownPlaces, servingLine, nextText, placeText, servedLine, servedLines};
 ghost use Rattle.play.specs.State.{receivingLine, loginText, chainText, keptText, liveText, keptLine};
 ghost use Rattle.play.specs.State.{keptLines, stateLines};
 use crate::text::put_numbered;
@@ -75,23 +75,33 @@ fn put_next(out: &mut [u8], at: usize, place: Place) -> usize
     put_word(out, at, b"out")
 }
 
+// The number sent next, and how many packets of that message were written one by one.
+fn put_place(out: &mut [u8], at: usize, place: Place) -> usize
+    requires { ⌜ at + 53 ≤ length (now out) ⌝ }
+    ensures { λ r. ⌜ WroteText (now (out .entry)) at (placeText place) (now (out .exit)) r × (r ≤ at + 53) ⌝ }
+{
+    let n = put_word(out, at, b" next ");
+    let n = put_next(out, n, place);
+    let n = put_word(out, n, b" piece ");
+    put_number(out, n, place.piece)
+}
+
 // A series of the serving end.
 fn put_served(out: &mut [u8], at: usize, one: DaySeries, place: Place) -> usize
-    requires { ⌜ at + 128 ≤ length (now out) ⌝ }
-    ensures { λ r. ⌜ WroteText (now (out .entry)) at (servedLine one place) (now (out .exit)) r × (r ≤ at + 128) ⌝ }
+    requires { ⌜ at + 136 ≤ length (now out) ⌝ }
+    ensures { λ r. ⌜ WroteText (now (out .entry)) at (servedLine one place) (now (out .exit)) r × (r ≤ at + 136) ⌝ }
 {
     let n = put_numbered(out, at, b"series", size16(one.series));
     let n = put_byte(out, n, 32);
     let n = put_numbered(out, n, b"published", size32(one.published));
-    let n = put_word(out, n, b" next ");
-    let n = put_next(out, n, place);
+    let n = put_place(out, n, place);
     put_byte(out, n, 10)
 }
 
 // The series of the serving end.
 fn put_all_served(out: &mut [u8], at: usize, sender: Sender) -> usize
-    requires { ⌜ at + 1024 ≤ length (now out) ⌝ }
-    ensures { λ r. ⌜ WroteText (now (out .entry)) at (servedLines sender) (now (out .exit)) r × (r ≤ at + 1024) ⌝ }
+    requires { ⌜ at + 1088 ≤ length (now out) ⌝ }
+    ensures { λ r. ⌜ WroteText (now (out .entry)) at (servedLines sender) (now (out .exit)) r × (r ≤ at + 1088) ⌝ }
 {
     let day = sender.day;
     let seat = sender.seat;

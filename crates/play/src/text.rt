@@ -6,8 +6,8 @@ ghost use Rattle.listing.specs.Text.{WroteText};
 ghost use Rattle.flow.specs.Answers.{contentIn};
 ghost use Rattle.ftd.specs.Bytes.{part};
 ghost use Rattle.play.specs.Lines.{hexBytes, contentText, numbered, wordLine, bytesLine, refusedLine, openedLine};
-ghost use Rattle.play.specs.Lines.{publishedLine, loginAnswerLine, sentLine, requestedLine, confirmedLine};
-ghost use Rattle.play.specs.Lines.{messageStart, messageLine, receivedLine, Passing, setLine, timeLine, dateLine};
+ghost use Rattle.play.specs.Lines.{publishedLine, loginAnswerLine, sentLine, packetLine, sentPacketLine, requestedLine};
+ghost use Rattle.play.specs.Lines.{confirmedLine, messageStart, messageLine, receivedLine, Passing, setLine, timeLine, dateLine};
 use calendar::trading::SetAnswer;
 use calendar::trading::TradeTime;
 use flow::receiver::Confirmed;
@@ -18,6 +18,7 @@ use flow::sender::LoggedIn;
 use flow::sender::Opened;
 use flow::sender::Published;
 use flow::sender::Sent;
+use flow::sender::SentPacket;
 use ftd::bytes::size8;
 use ftd::bytes::size32;
 use ftd::bytes::wide32;
@@ -87,29 +88,30 @@ pub(crate) fn number_line(out: &mut [u8], word: &[u8], x: usize) -> usize
     put_byte(out, n, 10)
 }
 
-// A line of a word, the number of bytes, and the bytes.
-pub(crate) fn bytes_line(out: &mut [u8], word: &[u8], bytes: &[u8]) -> usize
-    requires { ⌜ (64 + 2 * length (now bytes) ≤ length (now out)) × (length (now word) ≤ 16) ⌝ }
-    ensures { λ r. ⌜ WroteText (now (out .entry)) 0 (bytesLine (now (word .entry)) (now (bytes .entry))) (now (out .exit))
-        r
-        × (r ≤ length (now (out .exit))) ⌝ }
+// A line of a word, the number of bytes, what stands between, and the bytes.
+fn bytes_line(out: &mut [u8], word: &[u8], between: &[u8], bytes: &[u8]) -> usize
+    requires { ⌜ (64 + 2 * length (now bytes) ≤ length (now out)) × (length (now word) ≤ 16)
+        × (length (now between) ≤ 16) ⌝ }
+    ensures { λ r. ⌜ WroteText (now (out .entry)) 0 (bytesLine (now (word .entry)) (now (between .entry))
+        (now (bytes .entry))) (now (out .exit)) r × (r ≤ length (now (out .exit))) ⌝ }
 {
     let n = put_numbered(out, 0, word, bytes.len());
-    let n = put_byte(out, n, 32);
+    let n = put_word(out, n, between);
     let n = put_content(out, n, bytes);
     put_byte(out, n, 10)
 }
 
 // The first n bytes of an output, or all of it where there are no more.
-fn front_line(out: &mut [u8], word: &[u8], bytes: &[u8], n: usize) -> usize
-    requires { ⌜ (64 + 2 * length (now bytes) ≤ length (now out)) × (length (now word) ≤ 16) ⌝ }
-    ensures { λ r. ⌜ WroteText (now (out .entry)) 0 (bytesLine (now (word .entry)) (take n (now (bytes .entry))))
-        (now (out .exit)) r × (r ≤ length (now (out .exit))) ⌝ }
+fn front_line(out: &mut [u8], word: &[u8], between: &[u8], bytes: &[u8], n: usize) -> usize
+    requires { ⌜ (64 + 2 * length (now bytes) ≤ length (now out)) × (length (now word) ≤ 16)
+        × (length (now between) ≤ 16) ⌝ }
+    ensures { λ r. ⌜ WroteText (now (out .entry)) 0 (bytesLine (now (word .entry)) (now (between .entry))
+        (take n (now (bytes .entry)))) (now (out .exit)) r × (r ≤ length (now (out .exit))) ⌝ }
 {
     if n < bytes.len() {
-        return bytes_line(out, word, &bytes[..n]);
+        return bytes_line(out, word, between, &bytes[..n]);
     }
-    bytes_line(out, word, bytes)
+    bytes_line(out, word, between, bytes)
 }
 
 // `refused` and the paper's number.
@@ -153,7 +155,7 @@ pub(crate) fn login_line(out: &mut [u8], answer: LoggedIn, bytes: &[u8]) -> usiz
         × (r ≤ length (now (out .exit))) ⌝ }
 {
     match answer {
-        LoggedIn::Wrote(n) => front_line(out, b"login", bytes, n),
+        LoggedIn::Wrote(n) => front_line(out, b"login", b" ", bytes, n),
         LoggedIn::Refused(r) => refused_line(out, r),
     }
 }
@@ -166,8 +168,37 @@ pub(crate) fn sent_line(out: &mut [u8], answer: Sent, bytes: &[u8]) -> usize
 {
     match answer {
         Sent::Drained => word_line(out, b"none"),
-        Sent::Wrote { number: _, len: n } => front_line(out, b"sent", bytes, n),
+        Sent::Wrote { number: _, len: n } => front_line(out, b"sent", b" ", bytes, n),
         Sent::Refused(r) => refused_line(out, r),
+    }
+}
+
+// The line of a packet that Send wrote to an output: whether it is its message's last.
+fn packet_line(out: &mut [u8], last: bool, bytes: &[u8], n: usize) -> usize
+    requires { ⌜ 64 + 2 * length (now bytes) ≤ length (now out) ⌝ }
+    ensures { λ r. ⌜ WroteText (now (out .entry)) 0 (packetLine last (take n (now (bytes .entry)))) (now (out .exit)) r
+        × (r ≤ length (now (out .exit))) ⌝ }
+{
+    if last {
+        return front_line(out, b"packet", b" last ", bytes, n);
+    }
+    front_line(out, b"packet", b" more ", bytes, n)
+}
+
+// The line of Send's answer for one packet, with the bytes that it wrote to an output.
+pub(crate) fn sent_packet_line(out: &mut [u8], answer: SentPacket, bytes: &[u8]) -> usize
+    requires { ⌜ 64 + 2 * length (now bytes) ≤ length (now out) ⌝ }
+    ensures { λ r. ⌜ WroteText (now (out .entry)) 0 (sentPacketLine (now (bytes .entry)) answer) (now (out .exit)) r
+        × (r ≤ length (now (out .exit))) ⌝ }
+{
+    match answer {
+        SentPacket::Drained => word_line(out, b"none"),
+        SentPacket::Wrote {
+            number: _,
+            len: n,
+            last,
+        } => packet_line(out, last, bytes, n),
+        SentPacket::Refused(r) => refused_line(out, r),
     }
 }
 
@@ -178,7 +209,7 @@ pub(crate) fn requested_line(out: &mut [u8], answer: Requested, bytes: &[u8]) ->
         × (r ≤ length (now (out .exit))) ⌝ }
 {
     match answer {
-        Requested::Wrote(n) => front_line(out, b"asked", bytes, n),
+        Requested::Wrote(n) => front_line(out, b"asked", b" ", bytes, n),
         Requested::Refused(r) => refused_line(out, r),
     }
 }

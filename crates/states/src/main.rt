@@ -1,5 +1,6 @@
 // Calls of the serving end in states and on logs that a script of calls does not reach: a damaged log (20), a day that
-// is full (21), and what comes before them. Each line prints what was wrong and the number that was answered.
+// is full (21), and what comes before them. Each line prints what was wrong and the number that was answered; of a Send
+// packet by packet also the bytes written, and the place then.
 use flow::sender::Day;
 use flow::sender::DaySeries;
 use flow::sender::Place;
@@ -7,12 +8,14 @@ use flow::sender::Published;
 use flow::sender::Seat;
 use flow::sender::Sender;
 use flow::sender::Sent;
+use flow::sender::SentPacket;
 use ftd::refusal::number;
 use ftd::tags::TradeDate;
 use libc::STDOUT_FILENO;
 
-// A serving end on day 7 with series 1: so many published, so many bytes of the log used, a seat with a number next.
-fn end_with(published: u32, used: usize, login: bool, next: u64) -> Sender {
+// A serving end on day 7 with series 1: so many published, so many bytes of the log used, a seat with a number next, of
+// which so many packets were written one by one.
+fn end_at(published: u32, used: usize, login: bool, next: u64, piece: usize) -> Sender {
     let mut series = [DaySeries {
         series: 0,
         published: 0,
@@ -24,10 +27,12 @@ fn end_with(published: u32, used: usize, login: bool, next: u64) -> Sender {
     let mut places = [Place {
         login: false,
         next: 0,
+        piece: 0,
     }; 8];
     places[0] = Place {
         login: login,
         next: next,
+        piece: piece,
     };
     Sender {
         day: Day {
@@ -40,10 +45,21 @@ fn end_with(published: u32, used: usize, login: bool, next: u64) -> Sender {
     }
 }
 
+// The same with nothing unfinished.
+fn end_with(published: u32, used: usize, login: bool, next: u64) -> Sender {
+    end_at(published, used, login, next, 0)
+}
+
+// Two digits.
+fn print_two(x: u8) {
+    let digits = [b'0' + x / 10 % 10, b'0' + x % 10];
+    io::write_all(STDOUT_FILENO, &digits);
+}
+
 // Two digits and the line's end.
 fn print_number(x: u8) {
-    let line = [b'0' + x / 10 % 10, b'0' + x % 10, b'\n'];
-    io::write_all(STDOUT_FILENO, &line);
+    print_two(x);
+    io::write_all(STDOUT_FILENO, b"\n");
 }
 
 // Send in series 1, with an output of 64 bytes, or of none: 00 for none left, 99 for a message sent, else the refusal.
@@ -213,9 +229,186 @@ fn publications() {
     );
 }
 
+// What was wrong, the number that was answered, how many bytes were written, and the place of series 1 then: the number
+// next and the packets of it that were written, each by its last two digits.
+fn print_place(what: &[u8], said: u8, bytes: usize, end: Sender) {
+    let seat = end.seat;
+    let place = seat.places[0];
+    io::write_all(STDOUT_FILENO, what);
+    print_two(said);
+    io::write_all(STDOUT_FILENO, b" ");
+    print_two((bytes / 100 % 100) as u8);
+    print_two((bytes % 100) as u8);
+    io::write_all(STDOUT_FILENO, b" next ");
+    print_two((place.next % 100) as u8);
+    io::write_all(STDOUT_FILENO, b" piece ");
+    print_number((place.piece % 100) as u8);
+}
+
+// Send of one packet in series 1: 00 for none left, 99 for a packet written, else the refusal. It gives the end that is
+// left.
+fn packet(what: &[u8], e: Sender, log: &[u8], out: &mut [u8]) -> Sender {
+    let step = e.send_packet(1, log, out);
+    let end = step.end;
+    let answer = step.answer;
+    match answer {
+        SentPacket::Drained => print_place(what, 0, 0, end),
+        SentPacket::Wrote {
+            number: _,
+            len,
+            last: _,
+        } => print_place(what, 99, len, end),
+        SentPacket::Refused(r) => print_place(what, number(r), 0, end),
+    }
+    end
+}
+
+// The same with an output of 2,067 bytes, of 2,066, and of none.
+fn with_2067(what: &[u8], e: Sender, log: &[u8; 4097]) -> Sender {
+    let mut out = [0u8; 2067];
+    packet(what, e, log, &mut out)
+}
+
+fn with_2066(what: &[u8], e: Sender, log: &[u8; 4097]) -> Sender {
+    let mut out = [0u8; 2066];
+    packet(what, e, log, &mut out)
+}
+
+fn with_none(what: &[u8], e: Sender, log: &[u8; 4097]) -> Sender {
+    let mut out = [0u8; 0];
+    packet(what, e, log, &mut out)
+}
+
+// Send of the whole message in series 1, with an output of 4,133 bytes.
+fn whole(what: &[u8], e: Sender, log: &[u8; 4097]) {
+    let mut out = [0u8; 4133];
+    let step = e.send(1, log, &mut out);
+    let end = step.end;
+    let answer = step.answer;
+    match answer {
+        Sent::Drained => print_place(what, 0, 0, end),
+        Sent::Wrote { number: _, len } => print_place(what, 99, len, end),
+        Sent::Refused(r) => print_place(what, number(r), 0, end),
+    }
+}
+
+// A log of one entry: series 1, TID 0x7777, number 1, content of 4,081 bytes: fields of FID 0x7001 with 2,034 and 2,035
+// bytes. They take a packet each, of 2,066 and 2,067 bytes.
+fn two_packets() -> [u8; 4097] {
+    let mut log = [0u8; 4097];
+    log[1] = 1;
+    log[6] = 0x77;
+    log[7] = 0x77;
+    log[11] = 1;
+    log[14] = 0x0F;
+    log[15] = 0xF1;
+    log[18] = 0x70;
+    log[19] = 1;
+    log[20] = 0x07;
+    log[21] = 0xF2;
+    log[2058] = 0x70;
+    log[2059] = 1;
+    log[2060] = 0x07;
+    log[2061] = 0xF3;
+    log
+}
+
+// The same with its zero bytes not zero.
+fn damaged() -> [u8; 4097] {
+    let mut log = two_packets();
+    log[3] = 1;
+    log
+}
+
+// The same with a content of the first field alone: one packet.
+fn cut_off() -> [u8; 4097] {
+    let mut log = two_packets();
+    log[14] = 0x07;
+    log[15] = 0xF8;
+    log
+}
+
+// The same with another byte in a field.
+fn other_bytes() -> [u8; 4097] {
+    let mut log = two_packets();
+    log[22] = 9;
+    log
+}
+
+// The two packets of a message, one a call.
+fn both_packets(log: &[u8; 4097]) -> Sender {
+    let e = with_2066(
+        b"the first of two packets ",
+        end_at(1, 4097, true, 1, 0),
+        log,
+    );
+    with_2066(b"an output too small for the second ", e, log);
+    with_2067(b"the second of two packets ", e, log);
+    whole(b"the whole message instead ", e, log);
+    e
+}
+
+// Between them a log damaged or altered: the place stays.
+fn between_packets(e: Sender) {
+    let wrong = damaged();
+    with_2067(b"the log damaged between them ", e, &wrong);
+    let short = cut_off();
+    with_2067(b"the log without the second field ", e, &short);
+    let other = other_bytes();
+    with_2067(b"other content of whole fields ", e, &other);
+}
+
+// Packets written that no call has written.
+fn strange_pieces(log: &[u8; 4097]) {
+    let e = end_at(1, 4097, true, 1, 2);
+    with_2067(b"two packets written of two ", e, log);
+    with_none(b"the same, the output too small ", e, log);
+    whole(b"the whole message from there ", e, log);
+    with_2067(
+        b"as many packets written as can be ",
+        end_at(1, 4097, true, 1, 18446744073709551615),
+        log,
+    );
+    with_2067(
+        b"the log shorter than its used part ",
+        end_at(1, 4098, true, 1, 1),
+        log,
+    );
+}
+
+// Two things wrong, of which one comes first.
+fn packet_orders(log: &[u8; 4097]) {
+    with_2067(
+        b"the log damaged, none left ",
+        end_at(1, 4097, true, 2, 1),
+        log,
+    );
+    with_2067(
+        b"the log damaged, not logged in ",
+        end_at(1, 4097, false, 1, 1),
+        log,
+    );
+    with_none(
+        b"the log damaged, the output too small ",
+        end_at(1, 4097, true, 1, 0),
+        log,
+    );
+}
+
+// One packet a call.
+fn packets() {
+    let log = two_packets();
+    let e = both_packets(&log);
+    between_packets(e);
+    strange_pieces(&log);
+    let wrong = damaged();
+    packet_orders(&wrong);
+}
+
 fn main() {
     used_parts();
     entries();
     orders();
     publications();
+    packets();
 }

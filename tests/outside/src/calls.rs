@@ -1,9 +1,9 @@
 //! Random lists of calls on both sides. In an honest list only the line is at fault: packets are copies of what was written, lost,
 //! repeated, late, broken off; demand 3 is checked on it. In a wild one packets are damaged or made up, logs altered, and states
-//! set that no call made.
+//! set that no call made. Messages are sent whole and packet by packet.
 
 use crate::ends::HANDED_ON;
-use crate::history::History;
+use crate::history::{Delivery, History};
 use crate::world::World;
 use reader::cut::{write_packet, Header};
 use reader::generate::{known_field_bytes, packet_input, raw_field, Random, FORMS};
@@ -15,7 +15,10 @@ use reader::start::start_field_bytes;
 use std::collections::BTreeMap;
 use std::rc::Rc;
 
+mod packets;
 mod several;
+
+use packets::any_piece;
 
 const REQUEST: u32 = 0x0023;
 const ANSWER: u32 = 0x0027;
@@ -110,8 +113,10 @@ impl Contents {
         }
     }
 
-    fn message(&self, r: &mut Random) -> (u32, Vec<u8>) {
+    /// In a large log more of several packets.
+    fn message(&self, r: &mut Random, large: bool) -> (u32, Vec<u8>) {
         match r.below(24) {
+            16..=21 if large => (STRANGE, long(r.within(2, 4))),
             0 => self.messages[r.below(self.messages.len())].clone(),
             1 => (STRANGE, long(r.within(2, 4))),
             2 if r.once_in(6) => (STRANGE, long(r.within(5, 17))),
@@ -133,12 +138,22 @@ enum Kind {
     Wild,
 }
 
+/// What the line was given of a message: its packets; of one that is unfinished or broken off the first few. What it is once
+/// it is sent, with all of them.
+#[derive(Clone)]
+struct Transmission {
+    packets: Vec<Bytes>,
+    sent: Option<Delivery>,
+}
+
 /// What the line has seen.
 #[derive(Default)]
 struct Line {
     logins: Vec<(u16, Bytes)>,
     answers: Vec<(u16, Bytes)>,
-    messages: Vec<(u16, Vec<Bytes>)>,
+    messages: Vec<Transmission>,
+    /// Which of the messages is unfinished, by series, and what the whole Send would have written in place of its first packet.
+    unfinished: BTreeMap<u16, (usize, Bytes)>,
 }
 
 pub struct Lists {
@@ -152,17 +167,25 @@ pub struct Lists {
     /// How often each answer was given, by call.
     pub answers: BTreeMap<(&'static str, &'static str, u8), u64>,
     pub calls: u64,
+    /// Checks of demand 3, and how many of them are of its second half within a list.
     pub demand: u64,
+    pub arrived: u64,
+    /// What became of messages sent packet by packet.
+    pub transmissions: BTreeMap<&'static str, u64>,
     /// The calls of this list, for a difference.
     trace: Vec<String>,
     tracing: bool,
 }
 
-/// One of the last few, mostly; else any.
+/// The place of one of the last few, mostly; else of any.
+fn late_place(r: &mut Random, count: usize) -> Option<usize> {
+    let few = count.min(3);
+    let i = if few == 0 || r.once_in(6) { r.below(count.max(1)) } else { count - 1 - r.below(few) };
+    (i < count).then_some(i)
+}
+
 fn late<T: Clone>(r: &mut Random, all: &[T]) -> Option<T> {
-    let few = all.len().min(3);
-    let i = if few == 0 || r.once_in(6) { r.below(all.len().max(1)) } else { all.len() - 1 - r.below(few) };
-    all.get(i).cloned()
+    late_place(r, all.len()).map(|i| all[i].clone())
 }
 
 fn cut_apart(mut bytes: &[u8]) -> Vec<Bytes> {
@@ -223,6 +246,8 @@ impl Default for Lists {
             answers: BTreeMap::new(),
             calls: 0,
             demand: 0,
+            arrived: 0,
+            transmissions: BTreeMap::new(),
             trace: vec![],
             tracing: false,
         }
@@ -274,6 +299,7 @@ impl Lists {
             0 => r.below(200),
             1 => 40_000,
             2 => 100_000,
+            3..=4 => r.within(9000, 20_000),
             _ => r.within(500, 4000),
         };
         let spare = r.pick(&[0, 0, 1, 100]);
@@ -314,11 +340,19 @@ impl Lists {
             }
             27..=33 => self.login(r),
             34..=40 => self.answer(r),
-            41..=58 => {
+            41..=52 => {
                 let series = self.series(r);
                 self.send(r, series)
             }
-            59..=80 => self.run(r),
+            53..=58 => {
+                let series = self.under_way(r);
+                self.send_packet(r, series).map(|_| ())
+            }
+            59..=63 => {
+                let series = self.under_way(r);
+                self.as_written(r, series)
+            }
+            64..=80 => self.run(r),
             81..=86 => self.receive_several(r),
             87..=94 => {
                 let series = self.series(r);
@@ -327,7 +361,7 @@ impl Lists {
             _ if self.kind == Kind::Honest => self.run(r),
             95..=97 => self.made_up_chain(r),
             _ if self.kind == Kind::Wild => {
-                self.alter(r);
+                self.alter_any(r);
                 Ok(())
             }
             _ => self.run(r),
@@ -362,6 +396,9 @@ impl Lists {
         self.note("Opening, serving", "opened", &answer);
         if answer.is_ok() {
             self.history.opened(mark);
+            while let Some(&series) = self.line.unfinished.keys().next() {
+                self.broken_off(series, "an opening");
+            }
         }
         Ok(())
     }
@@ -370,12 +407,16 @@ impl Lists {
         let series = self.some_series(r);
         let answer = self.world.open_end(&series)?;
         self.note("Opening, receiving", "opened", &answer);
+        if answer.is_ok() {
+            self.history.disturbed();
+        }
         Ok(())
     }
 
     fn connect(&mut self) -> Result<(), String> {
         let answer = self.world.connect()?;
         self.note("Connect", "connected", &answer);
+        self.history.disturbed();
         Ok(())
     }
 
@@ -391,7 +432,7 @@ impl Lists {
 
     fn publish(&mut self, r: &mut Random) -> Result<(), String> {
         let series = self.series(r);
-        let (tid, content) = self.contents.message(r);
+        let (tid, content) = self.contents.message(r, self.large());
         let log = self.log(r);
         let answer = self.world.publish(series, tid, &content, log)?;
         self.note("Publish", "published", &answer);
@@ -399,6 +440,11 @@ impl Lists {
             self.history.published(series, tid, &content);
         }
         Ok(())
+    }
+
+    /// The log takes messages of several packets.
+    fn large(&self) -> bool {
+        self.world.logs[0].len() >= 9000
     }
 
     fn ask(&mut self, r: &mut Random, series: u16) -> Result<(), String> {
@@ -439,7 +485,10 @@ impl Lists {
         let answer = self.world.login(series, packet, content, room)?;
         self.note("Login", "logged in", &answer);
         if answer.is_ok() {
-            self.line.answers.push((series, self.world.written[..].into()));
+            let packet: Bytes = self.world.written[..].into();
+            self.line.answers.push((series, packet.clone()));
+            self.broken_off(series, "a login");
+            self.history.logged_in(series, packet);
         }
         Ok(())
     }
@@ -497,9 +546,10 @@ impl Lists {
         self.answer_with(series, &packet)
     }
 
-    fn answer_with(&mut self, series: u16, packet: &[u8]) -> Result<(), String> {
+    fn answer_with(&mut self, series: u16, packet: &Bytes) -> Result<(), String> {
         let answer = self.world.answer(series, packet)?;
         self.note("Answer", "answered", &answer);
+        self.history.delivered(&Delivery::Answer(series, packet.clone()));
         if let (Ok(last), Kind::Honest) = (answer, self.kind) {
             let Packet::Message(message) = read(packet) else { return Err("an answer that is no packet".to_string()) };
             self.demand += 1;
@@ -526,9 +576,13 @@ impl Lists {
         let answer = self.world.send(series, log, room)?;
         let sent = matches!(answer, Ok(Some(_)));
         self.note("Send", if sent { "sent" } else { "none" }, &answer);
-        if sent {
-            self.line.messages.push((series, cut_apart(&self.world.written)));
+        if let Ok(Some(number)) = answer {
+            let packets = cut_apart(&self.world.written);
+            self.broken_off(series, "a whole Send");
+            let sent = self.sent(series, number)?;
+            self.line.messages.push(Transmission { packets, sent });
         }
+        self.none_left(series, matches!(answer, Ok(None)))?;
         Ok(sent)
     }
 
@@ -538,22 +592,40 @@ impl Lists {
             let packet = self.made_up_packet(r);
             return self.receive(r, &packet);
         }
-        let Some((_, packets)) = late(r, &self.line.messages) else { return Ok(()) };
-        let count = if r.once_in(5) { r.within(1, packets.len()) } else { packets.len() };
-        for packet in &packets[..count] {
+        let Some(place) = late_place(r, self.line.messages.len()) else { return Ok(()) };
+        let packets = self.line.messages[place].packets.len();
+        let count = if r.once_in(5) { r.within(1, packets) } else { packets };
+        for i in 0..count {
             if self.kind != Kind::Honest && r.once_in(8) {
+                let packet = self.line.messages[place].packets[i].clone();
                 match r.below(3) {
                     // Lost, damaged, doubled.
                     0 => continue,
                     1 => {
-                        let packet = damaged(r, packet);
+                        let packet = damaged(r, &packet);
                         self.receive(r, &packet)?;
                         continue;
                     }
-                    _ => self.receive(r, packet)?,
+                    _ => self.receive(r, &packet)?,
                 }
             }
-            self.receive(r, packet)?;
+            self.hand_over(r, place, i)?;
+        }
+        Ok(())
+    }
+
+    /// Packet i of a message, in a run with those before it.
+    fn hand_over(&mut self, r: &mut Random, place: usize, i: usize) -> Result<(), String> {
+        let buffer = self.buffer(r);
+        self.hand_over_with(place, i, buffer)
+    }
+
+    fn hand_over_with(&mut self, place: usize, i: usize, buffer: usize) -> Result<(), String> {
+        let packet = self.line.messages[place].packets[i].clone();
+        self.receive_with(&packet, buffer)?;
+        let of = &self.line.messages[place];
+        if let Some(sent) = of.sent.as_ref().filter(|_| i + 1 == of.packets.len()) {
+            self.history.delivered(sent);
         }
         Ok(())
     }
@@ -618,12 +690,20 @@ impl Lists {
         buffer.min(all)
     }
 
+    /// The chain buffer has all its parts; where it hasn't, nothing is owed any more.
+    fn lent(&mut self, buffer: usize) {
+        if buffer < self.world.receiving.open.len() * BUFFER {
+            self.history.disturbed();
+        }
+    }
+
     fn receive(&mut self, r: &mut Random, packet: &[u8]) -> Result<(), String> {
         let buffer = self.buffer(r);
         self.receive_with(packet, buffer)
     }
 
     fn receive_with(&mut self, packet: &[u8], buffer: usize) -> Result<(), String> {
+        self.lent(buffer);
         let answer = self.world.receive(packet, buffer)?;
         let name = answer.map_or("", |taken| ["idle", "again", "held", "message"][usize::from(taken.answer)]);
         self.note("Receive", name, &answer);
@@ -653,9 +733,10 @@ impl Lists {
         Ok(())
     }
 
-    /// All that is left of the day arrives, with large buffers; then as much is reported as was published.
+    /// All that is left of the day arrives, with large buffers; then as much is reported as was published. Messages are sent
+    /// whole, packet by packet, and begun packet by packet but then whole, in turn.
     fn catch_up(&mut self) -> Result<(), String> {
-        let (log, all) = (self.world.logs[0].len(), self.world.buffers[0].len());
+        let all = self.world.buffers[0].len();
         if all < self.world.receiving.open.len() * BUFFER {
             return Ok(());
         }
@@ -670,27 +751,24 @@ impl Lists {
             let packet = self.world.written.clone();
             let answer = self.world.login(series, &packet, &self.contents.answer, 5000)?;
             self.note("Login", "logged in", &answer);
-            let packet = self.world.written.clone();
+            let packet: Bytes = self.world.written[..].into();
+            self.broken_off(series, "a login");
+            self.history.logged_in(series, packet.clone());
             self.answer_with(series, &packet)?;
-            while self.send_with(series, log, 33_210)? {
-                let (_, packets) = self.line.messages.pop().expect("the message just sent");
-                if series % 2 == 0 {
-                    let bytes = packets.concat();
-                    self.receive_cut(&bytes, bytes.len() / 2, all)?;
-                    continue;
-                }
-                for packet in packets {
-                    self.receive_with(&packet, all)?;
-                }
+            let (mut turn, arrived) = (usize::from(series), self.arrived);
+            while self.arrives(series, turn % 3)? {
+                turn += 1;
             }
-            self.demand += 1;
-            self.history.caught_up(series)?;
+            if self.arrived == arrived {
+                return Err(format!("demand 3: all was delivered of series {series}, and doesn't count"));
+            }
         }
         Ok(())
     }
 
     /// The log altered, or a state set that no call made.
     fn alter(&mut self, r: &mut Random) {
+        self.line.unfinished.clear();
         let used = self.world.serving.day.map_or(0, |day| day.used).min(self.world.logs[0].len());
         if used > 0 && !r.once_in(3) {
             let at = if r.once_in(2) { r.below(used) } else { r.below(used.min(40)) };
@@ -703,10 +781,11 @@ impl Lists {
         if let Some(day) = &mut self.world.serving.day {
             let place = r.below(day.open.len());
             let one = &mut day.open[place];
-            match r.below(6) {
+            match r.below(7) {
                 0 => one.published = r.pick(&[999_998, 999_999, 1_000_000, 1_000_001, u32::MAX, 0]),
                 1 => one.next = Some(r.pick(&[0, 1, 2, 999_999, 1_000_000, u64::from(u32::MAX), 1 << 32, u64::MAX])),
-                2 => one.next = None,
+                2 => (one.next, one.piece) = (None, 0),
+                5 if one.next.is_some() => one.piece = any_piece(r),
                 3 => day.used = r.pick(&[0, 1, 15, 16, used, used + 1, usize::MAX]),
                 4 => day.mark = r.pick(&[0, 1, u32::MAX]),
                 _ => {}

@@ -11,6 +11,7 @@ use std::fmt::{Debug, Formatter};
 #[derive(Clone, Copy, Debug, Default, PartialEq, Eq)]
 pub struct Served {
     pub next: u64,
+    pub piece: u64,
     pub published: u32,
     pub series: u16,
     pub login: u8,
@@ -61,6 +62,18 @@ pub struct Sent {
     pub number: u32,
     pub answer: u8,
     pub refusal: u8,
+}
+
+/// The answers are Send's: none, written, refused.
+#[repr(C)]
+#[derive(Clone, Copy, Debug, PartialEq, Eq)]
+pub struct SentPacket {
+    pub end: Sender,
+    pub bytes: usize,
+    pub number: u32,
+    pub answer: u8,
+    pub refusal: u8,
+    pub last: u8,
 }
 
 #[repr(C)]
@@ -194,6 +207,14 @@ extern "C" {
         room: usize,
     ) -> LoggedIn;
     fn ftd_send(end: Sender, series: u16, log: *const u8, log_len: usize, output: *mut u8, room: usize) -> Sent;
+    fn ftd_send_packet(
+        end: Sender,
+        series: u16,
+        log: *const u8,
+        log_len: usize,
+        output: *mut u8,
+        room: usize,
+    ) -> SentPacket;
     fn ftd_receiver_fresh() -> Receiver;
     fn ftd_receiver_open(end: Receiver, series: *const u16, count: usize) -> ReceiverOpened;
     fn ftd_connect(end: Receiver) -> Receiver;
@@ -249,16 +270,21 @@ impl Sender {
     pub fn send(self, series: u16, log: &[u8], out: &mut [u8]) -> Sent {
         unsafe { ftd_send(self, series, log.as_ptr(), log.len(), out.as_mut_ptr(), out.len()) }
     }
+
+    pub fn send_packet(self, series: u16, log: &[u8], out: &mut [u8]) -> SentPacket {
+        unsafe { ftd_send_packet(self, series, log.as_ptr(), log.len(), out.as_mut_ptr(), out.len()) }
+    }
 }
 
 impl Sender {
-    /// The end with 0 for what it doesn't have: the next number of a series without login, the places that aren't open.
+    /// The end with 0 for what it doesn't have: next number and packets of a series without login, the places that aren't
+    /// open.
     pub fn meant(mut self) -> Self {
         for (i, one) in self.series.iter_mut().enumerate() {
             if i >= self.count {
                 *one = Served::default();
             } else if one.login == 0 {
-                one.next = 0;
+                (one.next, one.piece) = (0, 0);
             }
         }
         self
@@ -324,6 +350,7 @@ pub fn sender(of: &Serving) -> Sender {
     };
     let number = |one: &serving::Served| Served {
         next: one.next.unwrap_or(0),
+        piece: one.piece,
         published: one.published,
         series: one.series,
         login: one.next.is_some().into(),

@@ -1,10 +1,26 @@
 //! What happened over a line, and demand 3 on it: what was handed on of a series and day is the first n published, n the last
-//! report.
+//! report; and n is the published count where all that was sent has arrived.
 
 use std::collections::BTreeMap;
+use std::rc::Rc;
 
 /// A series and a day.
 type Flow = (u16, u32);
+
+/// What the receiving end was given: an answer with its series, or all packets of the message with this number.
+#[derive(Clone, PartialEq)]
+pub enum Delivery {
+    Answer(u16, Rc<[u8]>),
+    Message(u16, u32, u32),
+}
+
+/// Since the last login of a series: its answer and then every message sent, and all that was delivered.
+struct SinceLogin {
+    due: Vec<Delivery>,
+    delivered: Vec<Delivery>,
+    /// The number of the last message sent.
+    number: Option<u32>,
+}
 
 #[derive(Default)]
 pub struct History {
@@ -15,15 +31,60 @@ pub struct History {
     reports: BTreeMap<Flow, u32>,
     /// The day of each series' last answer.
     answered: BTreeMap<u16, u32>,
+    /// By series, where no opening and no connection came since its last login, and no buffer was too small.
+    logged_in: BTreeMap<u16, SinceLogin>,
 }
 
 impl History {
     pub fn opened(&mut self, mark: u32) {
         self.day = mark;
+        self.logged_in.clear();
+    }
+
+    /// A connection or an opening of the receiving end, or a chain buffer that is too small: nothing is owed any more.
+    pub fn disturbed(&mut self) {
+        self.logged_in.clear();
     }
 
     pub fn published(&mut self, series: u16, tid: u32, content: &[u8]) {
         self.published.entry((series, self.day)).or_default().push((tid, content.to_vec()));
+    }
+
+    pub fn logged_in(&mut self, series: u16, answer: Rc<[u8]>) {
+        let due = vec![Delivery::Answer(series, answer)];
+        self.logged_in.insert(series, SinceLogin { due, delivered: vec![], number: None });
+    }
+
+    /// A message is sent: whole, or with its last packet. Since a login the numbers follow each other.
+    pub fn sent(&mut self, series: u16, number: u32) -> Result<Delivery, String> {
+        let message = Delivery::Message(series, self.day, number);
+        if let Some(since) = self.logged_in.get_mut(&series) {
+            let before = since.number.replace(number);
+            if before.is_some_and(|before| number != before + 1) {
+                return Err(format!("message {number} of series {series} sent behind {before:?}"));
+            }
+            since.due.push(message.clone());
+        }
+        Ok(message)
+    }
+
+    /// Whether the call was refused or not.
+    pub fn delivered(&mut self, what: &Delivery) {
+        for since in self.logged_in.values_mut() {
+            since.delivered.push(what.clone());
+        }
+    }
+
+    /// None is left. Gives whether demand 3's second half says that all has arrived: the last login's answer and then every
+    /// message sent were delivered, in order.
+    pub fn none_left(&self, series: u16) -> Result<bool, String> {
+        let Some(since) = self.logged_in.get(&series) else { return Ok(false) };
+        let mut delivered = since.delivered.iter();
+        let all = since.due.iter().all(|due| delivered.any(|one| one == due));
+        if all {
+            self.caught_up(series)?;
+        }
+        Ok(all)
     }
 
     /// A message handed on, of the day whose mark its packet bears. Its report comes behind it.

@@ -4,13 +4,13 @@
 use crate::compare::{hex, Asked};
 use crate::ends::{
     self, Confirmed, LoggedIn, Published, PublishedSeveral, Received, ReceivedSeveral, Receiver, ReceiverOpened,
-    Sender, SenderOpened, Sent, Served,
+    Sender, SenderOpened, Sent, SentPacket, Served,
 };
 use crate::ends::{SEND_MESSAGE, SEND_NONE, SEND_REFUSED};
 use crate::Written;
 use reader::generate::Random;
 use reader::receiving::Receiving;
-use reader::serving::Serving;
+use reader::serving::{OnePacket, Serving};
 
 /// What a call answers on both sides, or their first difference.
 pub type Both<T> = Result<Result<T, u8>, String>;
@@ -61,10 +61,10 @@ fn noisy_sender(r: &mut Random, mut end: Sender) -> Sender {
     }
     for (i, one) in end.series.iter_mut().enumerate() {
         if i >= end.count {
-            *one =
-                Served { next: r.next(), published: r.next() as u32, series: r.pick(&[0, 1, 2, 3]), login: r.byte() };
+            let (next, piece, published) = (r.next(), r.next(), r.next() as u32);
+            *one = Served { next, piece, published, series: r.pick(&[0, 1, 2, 3]), login: r.byte() };
         } else if !flag(r, &mut one.login) {
-            one.next = r.next();
+            (one.next, one.piece) = (r.next(), r.next());
         }
     }
     end
@@ -207,6 +207,26 @@ impl World {
         let mut given = self.sender().send(series, &self.logs[0][..log], &mut self.output);
         given.end = self.sender_left(given.end);
         self.asked.same("Send", given, right)?;
+        self.same_output(matches!(answer, Ok(Some(_))))?;
+        self.sender = right.end;
+        Ok(answer)
+    }
+
+    pub fn send_packet(&mut self, series: u16, log: usize, room: usize) -> Both<Option<OnePacket>> {
+        self.lend(room);
+        let answer = self.serving.send_packet(series, &self.logs[1][..log], room, &mut self.written);
+        let end = ends::sender(&self.serving);
+        let none = SentPacket { end, bytes: 0, number: 0, answer: SEND_NONE, refusal: 0, last: 0 };
+        let right = match answer {
+            Ok(None) => none,
+            Ok(Some(OnePacket { number, last })) => {
+                SentPacket { bytes: self.written.len(), number, answer: SEND_MESSAGE, last: last.into(), ..none }
+            }
+            Err(refusal) => SentPacket { answer: SEND_REFUSED, refusal, ..none },
+        };
+        let mut given = self.sender().send_packet(series, &self.logs[0][..log], &mut self.output);
+        given.end = self.sender_left(given.end);
+        self.asked.same("Send packet", given, right)?;
         self.same_output(matches!(answer, Ok(Some(_))))?;
         self.sender = right.end;
         Ok(answer)

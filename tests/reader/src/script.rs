@@ -11,6 +11,7 @@ use crate::several::{Answer, Stop, RECORD_HEADER};
 mod book;
 mod calendar;
 mod line;
+mod packets;
 mod parts;
 mod receiving;
 mod serving;
@@ -117,8 +118,13 @@ impl Script {
 
     /// The last answer begins with these two words, or is this one word.
     fn begins(&self, expected: &str) {
+        self.first_words(2, expected);
+    }
+
+    /// The last answer's first words, so many, are these.
+    fn first_words(&self, count: usize, expected: &str) {
         let (line, answer) = self.calls.last().expect("a call");
-        let first = answer.split(' ').take(2).collect::<Vec<_>>().join(" ");
+        let first = answer.split(' ').take(count).collect::<Vec<_>>().join(" ");
         assert_eq!(first, expected, "line {}: {}", self.calls.len(), &line[..line.len().min(120)]);
     }
 
@@ -161,6 +167,22 @@ impl Script {
         };
         self.add(format!("send {series} {room}"), text);
         out
+    }
+
+    /// One packet of the next message, and whether it is the last.
+    fn sent_packet(&mut self, series: u16, room: usize) -> Option<(Vec<u8>, bool)> {
+        let mut out = vec![];
+        let answer = self.serving.send_packet(series, &self.log, room, &mut out);
+        let (text, packet) = match answer {
+            Ok(None) => ("none".to_string(), None),
+            Ok(Some(one)) => {
+                let word = if one.last { "last" } else { "more" };
+                (format!("packet {} {word} {}", out.len(), hex(&out)), Some((out, one.last)))
+            }
+            Err(row) => (refused(row), None),
+        };
+        self.add(format!("sendpacket {series} {room}"), text);
+        packet
     }
 
     fn ropen(&mut self, series: &[u16]) -> Result<(), u8> {
@@ -238,7 +260,8 @@ impl Script {
         let mut lines = vec![format!("serving {} {}", or_none(day.map(|d| d.mark)), day.map_or(0, |d| d.used))];
         for one in day.iter().flat_map(|day| day.open.iter()) {
             let next = one.next.map_or("out".to_string(), |next| next.to_string());
-            lines.push(format!("series {} published {} next {next}", one.series, one.published));
+            let (series, published, piece) = (one.series, one.published, one.piece);
+            lines.push(format!("series {series} published {published} next {next} piece {piece}"));
         }
         lines.push(format!("receiving {}", self.receiving.open.len()));
         for one in self.receiving.open.iter() {
@@ -335,6 +358,13 @@ impl Script {
         self.begins(expected);
     }
 
+    /// One packet: `packet LENGTH last`, `packet LENGTH more`, none, or a refusal. Gives the packet.
+    fn send_packet(&mut self, series: u16, room: usize, expected: &str) -> Vec<u8> {
+        let packet = self.sent_packet(series, room);
+        self.first_words(3, expected);
+        packet.map_or(vec![], |(packet, _)| packet)
+    }
+
     fn open_end(&mut self, series: &[u16], expected: &str) {
         _ = self.ropen(series);
         self.begins(expected);
@@ -385,8 +415,8 @@ impl Script {
     }
 }
 
-/// The whole script: the worked examples of both ends, of the calendar, of the book and of a bufferful, and both ends over a
-/// faulty line. Gives it with the place of the call that the faulty line begins with.
+/// The whole script: the worked examples of both ends, of the calendar, of the book, of a bufferful and of one packet a
+/// call, and both ends over a faulty line. Gives it with the place of the call that the faulty line begins with.
 pub fn whole_script() -> (Script, usize) {
     let mut s = Script::new(LOG, CHAIN);
     serving::examples(&mut s);
@@ -395,6 +425,7 @@ pub fn whole_script() -> (Script, usize) {
     calendar::examples(&mut s);
     book::examples(&mut s);
     several::examples(&mut s);
+    packets::examples(&mut s);
     let from = s.calls.len();
     faulty_line(&mut s, 2_000_000_000);
     serving::last_marks(&mut s);

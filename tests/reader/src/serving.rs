@@ -1,7 +1,8 @@
-//! The serving end (document 01): Opening, Publish, Login and Send, each with its tests in the refusal table's order. The
-//! log and the output are lent; an output is given as a vector that is emptied and holds what was written, and its room.
+//! The serving end (document 01): Opening, Publish, Login and Send, and the form of Send that writes one packet (document
+//! 02, No. 4), each with its tests in the refusal table's order. The log and the output are lent; an output is given as a
+//! vector that is emptied and holds what was written, and its room.
 
-use crate::cut::{write_message, write_packet, Header};
+use crate::cut::{chain_letter, cut, write_message, write_packet, Header};
 use crate::few::{may_open, Few};
 use crate::makeup::{check, items_right, makeup_right, shape_right, widths_right, Direction};
 use crate::packet::{read, said_length, u16_at, u32_at, MessagePacket, Packet};
@@ -17,12 +18,22 @@ pub const ENTRY_HEADER: usize = 16;
 /// Header, tag 0x05 and message header of a packet that the end writes.
 pub const AROUND: usize = 4 + 6 + MESSAGE_HEADER;
 
-/// A series of the day: how many were published, and the number that Send sends next, if it is logged in.
+/// A series of the day: how many were published; the number that is sent next, if it is logged in; and how many packets of
+/// that message were written one by one, 0 where none is unfinished.
 #[derive(Clone, Copy, Debug, Default, PartialEq, Eq)]
 pub struct Served {
     pub series: u16,
     pub published: u32,
     pub next: Option<u64>,
+    pub piece: u64,
+}
+
+/// A packet of a message, written by itself.
+#[derive(Clone, Copy, Debug, PartialEq, Eq)]
+pub struct OnePacket {
+    pub number: u32,
+    /// It is the message's last one.
+    pub last: bool,
 }
 
 #[derive(Clone, Copy, Debug, PartialEq)]
@@ -59,6 +70,18 @@ impl Day {
             rest = &rest[ENTRY_HEADER + length..];
         }
     }
+
+    /// The message that both forms of Send are about, with its series' place: 13, 14, none if all have been stepped over, 20.
+    fn left<'a>(&self, log: &'a [u8], series: u16) -> Result<Option<(usize, Header, &'a [u8])>, u8> {
+        let place = self.place(series).ok_or(13)?;
+        let next = self.open[place].next.ok_or(14)?;
+        if next > self.open[place].published.into() {
+            return Ok(None);
+        }
+        let (tid, content) = self.entry(log, series, next).ok_or(20)?;
+        let number = u32::try_from(next).expect("at most the published count");
+        Ok(Some((place, Header { tid, series, number, mark: Some(self.mark) }, content)))
+    }
 }
 
 /// The message packet that Login and Answer take: 12 where the bytes aren't one packet, or by their first four no message
@@ -88,7 +111,7 @@ impl Serving {
         if !may_open(series) || self.day.is_some_and(|day| mark <= day.mark) {
             return Err(11);
         }
-        let open = Few::of(series.iter().map(|&series| Served { series, published: 0, next: None })).ok_or(11)?;
+        let open = Few::of(series.iter().map(|&series| Served { series, ..Served::default() })).ok_or(11)?;
         self.day = Some(Day { mark, open, used: 0 });
         Ok(())
     }
@@ -163,7 +186,7 @@ impl Serving {
         if next == 0 || next > u64::from(one.published) + 1 {
             return Err(19);
         }
-        one.next = Some(next);
+        (one.next, one.piece) = (Some(next), 0);
         out.clear();
         write_packet(out, &Header { tid: LOGIN, series: 0, number: 0, mark: Some(day.mark) }, b'S', content);
         Ok(())
@@ -172,19 +195,41 @@ impl Serving {
     /// Send: the number of the next message, whose packets are all written; none if all have been stepped over.
     pub fn send(&mut self, series: u16, log: &[u8], room: usize, out: &mut Vec<u8>) -> Result<Option<u32>, u8> {
         let day = self.day.as_mut().ok_or(13)?;
-        let place = day.place(series).ok_or(13)?;
-        let next = day.open[place].next.ok_or(14)?;
-        if next > day.open[place].published.into() {
-            return Ok(None);
-        }
-        let (tid, content) = day.entry(log, series, next).ok_or(20)?;
-        let number = u32::try_from(next).expect("at most the published count");
+        let Some((place, header, content)) = day.left(log, series)? else { return Ok(None) };
         out.clear();
-        write_message(out, &Header { tid, series, number, mark: Some(day.mark) }, content).ok_or(20)?;
+        write_message(out, &header, content).ok_or(20)?;
         if room < out.len() {
             return Err(18);
         }
-        day.open[place].next = Some(next + 1);
-        Ok(Some(number))
+        let one = &mut day.open[place];
+        (one.next, one.piece) = (Some(u64::from(header.number) + 1), 0);
+        Ok(Some(header.number))
+    }
+
+    /// Send, one packet: the next one of the next message. With the message's last packet it steps on. 20 also where the
+    /// entry, altered meanwhile, has no such packet.
+    pub fn send_packet(
+        &mut self,
+        series: u16,
+        log: &[u8],
+        room: usize,
+        out: &mut Vec<u8>,
+    ) -> Result<Option<OnePacket>, u8> {
+        let day = self.day.as_mut().ok_or(13)?;
+        let Some((place, header, content)) = day.left(log, series)? else { return Ok(None) };
+        let parts = cut(content).ok_or(20)?;
+        let one = &mut day.open[place];
+        let i = usize::try_from(one.piece).ok().filter(|&i| i < parts.len()).ok_or(20)?;
+        out.clear();
+        write_packet(out, &header, chain_letter(i, parts.len()), parts[i]);
+        if room < out.len() {
+            return Err(18);
+        }
+        let last = i + 1 == parts.len();
+        one.piece += 1;
+        if last {
+            (one.next, one.piece) = (Some(u64::from(header.number) + 1), 0);
+        }
+        Ok(Some(OnePacket { number: header.number, last }))
     }
 }

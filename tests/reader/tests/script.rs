@@ -1,6 +1,7 @@
 //! The script that stands in the repository is the one that the models make; every answer of every call is there; and over
 //! the faulty line what was handed on is what was published.
 
+use reader::cut::{write_message, Header};
 use reader::packet::{read, said_length, MessagePacket, Packet};
 use reader::script::{faulty_line, whole_script, Script, CHAIN, LOG};
 use std::collections::{BTreeMap, BTreeSet};
@@ -38,6 +39,7 @@ fn every_answer_is_there() {
     assert_eq!(rows("publish"), [7, 8, 9, 10, 13, 18]);
     assert_eq!(rows("login"), [1, 2, 4, 5, 6, 7, 8, 9, 10, 12, 13, 15, 16, 18, 19]);
     assert_eq!(rows("send"), [13, 14, 18]);
+    assert_eq!(rows("sendpacket"), [13, 14, 18]);
     assert_eq!(rows("ropen"), [11]);
     assert_eq!(rows("ask"), [7, 8, 9, 10, 13, 18]);
     assert_eq!(rows("answer"), [1, 2, 4, 5, 6, 7, 8, 9, 10, 12, 13, 15, 16]);
@@ -51,6 +53,8 @@ fn every_answer_is_there() {
         ("login", "login"),
         ("send", "sent"),
         ("send", "none"),
+        ("sendpacket", "packet"),
+        ("sendpacket", "none"),
         ("ropen", "opened"),
         ("connect", "connected"),
         ("ask", "asked"),
@@ -96,6 +100,28 @@ fn message(packet: &[u8]) -> MessagePacket<'_> {
 type Flow = (u16, u32);
 type Message = (u32, Vec<u8>);
 
+/// What the line was given of a message: its packets, or of one that is unfinished or broken off the first few.
+#[derive(Clone, Default, PartialEq)]
+struct Sent {
+    packets: Vec<Vec<u8>>,
+    whole: bool,
+}
+
+/// What the receiving end was given: an answer with its series, a message whole.
+#[derive(Clone, PartialEq)]
+enum Delivery {
+    Answer(u16, Vec<u8>),
+    Message(Vec<Vec<u8>>),
+}
+
+/// Since the last login of a series: its answer and then every message sent, and all that was delivered.
+struct SinceLogin {
+    due: Vec<Delivery>,
+    delivered: Vec<Delivery>,
+    /// The number of the last message sent.
+    number: Option<u32>,
+}
+
 #[derive(Default)]
 struct History {
     day: u32,
@@ -107,9 +133,13 @@ struct History {
     /// What was printed: login packets, answers with their series, messages as packets.
     logins: BTreeSet<Vec<u8>>,
     answers: BTreeSet<(u16, Vec<u8>)>,
-    messages: Vec<Vec<Vec<u8>>>,
+    messages: Vec<Sent>,
+    /// Which of the messages is unfinished, by series.
+    unfinished: BTreeMap<u16, usize>,
     /// The packet received last, if no other call of the receiving end came since: messages and places that it may be of.
     run: Vec<(usize, usize)>,
+    /// By series, where no opening and no connection came since its last login.
+    logged_in: BTreeMap<u16, SinceLogin>,
     /// What happened, counted.
     seen: BTreeMap<String, usize>,
 }
@@ -120,17 +150,30 @@ impl History {
         let said: Vec<&str> = answer.split(' ').collect();
         let series = || words[1].parse::<u16>().unwrap();
         match (words[0], said[0]) {
-            ("sopen", "opened") => self.day = words[1].parse().unwrap(),
+            ("sopen", "opened") => {
+                self.day = words[1].parse().unwrap();
+                for series in self.unfinished.keys().copied().collect::<Vec<_>>() {
+                    self.break_off(series, "an opening");
+                }
+                self.logged_in.clear();
+            }
             ("publish", "published") => {
                 let flow = self.published.entry((series(), self.day)).or_default();
                 flow.push((u32::from_str_radix(words[2], 16).unwrap(), bytes(words[3])));
                 assert_eq!(said[1].parse::<usize>().unwrap(), flow.len());
+                if self.unfinished.contains_key(&series()) {
+                    self.note("publish within a message");
+                }
             }
             ("ask", "asked") => _ = self.logins.insert(bytes(said[2])),
             ("login", _) => {
                 assert!(self.logins.contains(&bytes(words[3])), "a login packet that was printed");
                 if said[0] == "login" {
-                    self.answers.insert((series(), bytes(said[2])));
+                    let answer = bytes(said[2]);
+                    self.break_off(series(), "a login");
+                    self.answers.insert((series(), answer.clone()));
+                    let due = vec![Delivery::Answer(series(), answer)];
+                    self.logged_in.insert(series(), SinceLogin { due, delivered: vec![], number: None });
                 }
             }
             ("send", "sent") => {
@@ -140,11 +183,28 @@ impl History {
                     packets.push(rest[..length].to_vec());
                     rest = &rest[length..];
                 }
-                self.messages.push(packets);
+                self.break_off(series(), "a whole Send");
+                self.messages.push(Sent { packets, whole: false });
+                self.finished(series(), self.messages.len() - 1);
             }
+            ("sendpacket", "packet") => {
+                let place = *self.unfinished.entry(series()).or_insert(self.messages.len());
+                if place == self.messages.len() {
+                    self.messages.push(Sent::default());
+                }
+                self.messages[place].packets.push(bytes(said[3]));
+                self.packets_right(series(), place);
+                if said[2] == "last" {
+                    self.unfinished.remove(&series());
+                    self.note(&format!("finished in {} packets", self.messages[place].packets.len()));
+                    self.finished(series(), place);
+                }
+            }
+            ("send" | "sendpacket", "none") => self.none_left(series()),
             ("answer", _) => {
                 let packet = bytes(words[2]);
                 assert!(self.answers.contains(&(series(), packet.clone())), "an answer that was printed");
+                self.deliver(Delivery::Answer(series(), packet.clone()));
                 if said[0] == "answered" {
                     let day = message(&packet).mark.expect("a tag");
                     self.answered.insert(series(), day);
@@ -152,24 +212,85 @@ impl History {
                 }
             }
             ("receive", what) => self.receive(&bytes(words[1]), what, &said),
+            ("ropen", "opened") | ("connect", _) => self.logged_in.clear(),
             _ => {}
         }
         if ["ropen", "connect", "ask", "answer"].contains(&words[0]) {
             self.run.clear();
         }
-        *self
-            .seen
-            .entry(format!("{} {}", words[0], if said[0] == "refused" { answer } else { said[0] }))
-            .or_default() += 1;
+        let said = if said[0] == "refused" { answer } else { said[0] };
+        self.note(&format!("{} {said}", words[0]));
         self.agree();
     }
 
+    fn note(&mut self, what: &str) {
+        *self.seen.entry(what.to_string()).or_default() += 1;
+    }
+
+    fn break_off(&mut self, series: u16, by: &str) {
+        if self.unfinished.remove(&series).is_some() {
+            self.note(&format!("broken off by {by}"));
+        }
+    }
+
+    /// The packets are the first ones of the message published under their number. Gives whether they are all of them, and
+    /// the number.
+    fn packets_right(&self, series: u16, place: usize) -> (bool, u32) {
+        let packets = self.messages[place].packets.concat();
+        let number = message(&self.messages[place].packets[0]).number;
+        let (tid, content) = &self.published[&(series, self.day)][number as usize - 1];
+        let mut right = vec![];
+        write_message(&mut right, &Header { tid: *tid, series, number, mark: Some(self.day) }, content).unwrap();
+        assert!(right.starts_with(&packets), "message {number} of series {series}: packets of the one published");
+        (right == packets, number)
+    }
+
+    /// A message is sent whole; and since a login the numbers follow each other.
+    fn finished(&mut self, series: u16, place: usize) {
+        let (all, number) = self.packets_right(series, place);
+        assert!(all, "message {number} of series {series}: all packets of the one published");
+        self.messages[place].whole = true;
+        let packets = self.messages[place].packets.clone();
+        if let Some(since) = self.logged_in.get_mut(&series) {
+            assert!(since.number.is_none_or(|last| number == last + 1), "the numbers follow each other");
+            since.number = Some(number);
+            since.due.push(Delivery::Message(packets));
+        }
+    }
+
+    fn deliver(&mut self, what: Delivery) {
+        for since in self.logged_in.values_mut() {
+            since.delivered.push(what.clone());
+        }
+    }
+
+    /// Demand 3's second half: where the last login's answer and then every message sent were delivered, whole and in order,
+    /// n is the published count.
+    fn none_left(&mut self, series: u16) {
+        assert!(!self.unfinished.contains_key(&series), "none, and a message is unfinished");
+        let Some(since) = self.logged_in.get(&series) else { return };
+        let mut delivered = since.delivered.iter();
+        if since.due.iter().all(|due| delivered.any(|one| one == due)) {
+            let flow = (series, self.day);
+            let published = self.published.get(&flow).map_or(0, Vec::len);
+            assert_eq!(self.reports.get(&flow).copied().unwrap_or(0) as usize, published, "{flow:?} has all arrived");
+            self.note("all arrived");
+        }
+    }
+
     fn receive(&mut self, packet: &[u8], what: &str, said: &[&str]) {
-        let is = |m: usize, i: usize| self.messages[m].get(i).is_some_and(|one| one == packet);
+        let is = |m: usize, i: usize| self.messages[m].packets.get(i).is_some_and(|one| one == packet);
         let next = self.run.iter().filter(|&&(m, i)| is(m, i + 1)).map(|&(m, i)| (m, i + 1));
         let first = (0..self.messages.len()).filter(|&m| is(m, 0)).map(|m| (m, 0));
         self.run = next.chain(first).collect();
         assert!(!self.run.is_empty(), "a packet that was printed, behind those before it");
+        let whole = |&&(m, i): &&(usize, usize)| self.messages[m].whole && i + 1 == self.messages[m].packets.len();
+        if let Some(&(m, _)) = self.run.iter().find(whole) {
+            self.deliver(Delivery::Message(self.messages[m].packets.clone()));
+        }
+        if self.run.iter().all(|&(m, i)| !self.messages[m].whole && i + 1 == self.messages[m].packets.len()) {
+            self.note("receive the last packet that was written so far");
+        }
         let packet = message(packet);
         if ["again", "held", "message"].contains(&what) {
             let day = self.answered[&packet.series];
@@ -180,8 +301,8 @@ impl History {
             let one = (u32::from_str_radix(said[2], 16).unwrap(), bytes(said[3]));
             self.handed_on.entry((packet.series, day)).or_default().push(one);
             if packet.chain == b'L' {
-                let packets = self.run.iter().map(|&(m, _)| self.messages[m].len()).max().unwrap();
-                *self.seen.entry(format!("message of {packets} packets")).or_default() += 1;
+                let packets = self.run.iter().map(|&(m, _)| self.messages[m].packets.len()).max().unwrap();
+                self.note(&format!("message of {packets} packets"));
             }
         }
     }
@@ -226,6 +347,20 @@ fn over_a_faulty_line() {
         "send none",
         "send refused 14",
         "send refused 18",
+        "sendpacket packet",
+        "sendpacket none",
+        "sendpacket refused 13",
+        "sendpacket refused 14",
+        "sendpacket refused 18",
+        "finished in 1 packets",
+        "finished in 2 packets",
+        "finished in 17 packets",
+        "broken off by a login",
+        "broken off by an opening",
+        "broken off by a whole Send",
+        "publish within a message",
+        "receive the last packet that was written so far",
+        "all arrived",
         "ask refused 18",
         "answer refused 15",
         "receive again",

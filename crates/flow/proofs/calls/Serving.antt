@@ -6,7 +6,7 @@ use mathlib.Core.Path.{_≡_, refl}
 use mathlib.Core.List.{List}
 use mathlib.Core.Bool.{true, false, not, _||_}
 use mathlib.Core.Option.{Option, none, some}
-use borrow.Author.Tests.{ltb-true, ltb-false, leb-false, eqb-false, not-true, not-false}
+use borrow.Author.Tests.{ltb-true, ltb-false, leb-true, leb-false, eqb-false, not-true, not-false}
 use lib.ListN.{length}
 use lib.Dec.{ltb, leb, eqb}
 use Rattle.ftd.specs.Login.{loginTid, loginBytes}
@@ -40,12 +40,17 @@ use Rattle.flow.specs.declared.sender.Sent.{Sent}
 use Rattle.flow.specs.declared.sender.Sent.the-variants.{Drained}
 use Rattle.flow.specs.declared.sender.Sent.the-variants.{Wrote as Message-sent}
 use Rattle.flow.specs.declared.sender.Sent.the-variants.{Refused as NotSent}
+use Rattle.flow.specs.declared.sender.SentPacket.{SentPacket}
+use Rattle.flow.specs.declared.sender.SentPacket.the-variants.{Drained as NoPacket}
+use Rattle.flow.specs.declared.sender.SentPacket.the-variants.{Wrote as Packet-sent}
+use Rattle.flow.specs.declared.sender.SentPacket.the-variants.{Refused as NotPacket}
 use Rattle.flow.specs.Ends.{Left, Wrote, left, wrote, over, mostMessages, wrongSeries, before, upTo, isServed}
-use Rattle.flow.specs.Ends.{publishedOf, placeOf, withEntry, withNext}
+use Rattle.flow.specs.Ends.{publishedOf, placeOf, withEntry, withPlace}
 use Rattle.flow.specs.Log.{entryBytes, logShort, entryFits, entryOf}
 use Rattle.flow.specs.Serving.{wrongDayOpening, wrongRun, noLogin, notZero, startElsewhere, startOf, wrongStart}
 use Rattle.flow.specs.Serving.{openDayOf, publishOf, loginWith, loginRead, loginOf, noneLeft, sendBytes}
-use Rattle.flow.specs.Serving.{sendEntry, sendOf}
+use Rattle.flow.specs.Serving.{sendEntry, sendOf, sendPackets, nextPacket, noPacket, lastPacket, afterPacket}
+use Rattle.flow.specs.Serving.{sendPacketEntry, sendPacketOf}
 use Rattle.flow.proofs.common.Bools.{or-neither}
 use Rattle.flow.proofs.common.Rows.{by-when}
 use Rattle.flow.proofs.ends.SenderOpened.{openedSender}
@@ -140,7 +145,7 @@ pub record LoginTests (e : Sender) (s : ℕ) (h : Header) (date : TradeDate) (as
 -- The answer that was written.
 abbrev pub answered : Sender → ℕ → ℕ → List ℕ → List ℕ → Wrote Sender LoggedIn
 answered e s next content out =
-    wrote (withNext e s next) (Answered (length (loginBytes (e .day .date) content)))
+    wrote (withPlace e s next 0) (Answered (length (loginBytes (e .day .date) content)))
     (over (loginBytes (e .day .date) content) out)
 
 pub data LoginDone (e : Sender) (s : ℕ) (p content out : List ℕ) : Wrote Sender LoggedIn → Type 0 where
@@ -229,15 +234,15 @@ pub data SendDone (e : Sender) (s : ℕ) (log out : List ℕ) : Wrote Sender Sen
       → entryOf e log s (placeOf e s .next) ≡ some x →
       length (sendBytes e s x) ≤ length out →
       SendDone e s log out
-      (wrote (withNext e s (suc (placeOf e s .next))) (Message-sent (placeOf e s .next) (length (sendBytes e s x)))
+      (wrote (withPlace e s (suc (placeOf e s .next)) 0) (Message-sent (placeOf e s .next) (length (sendBytes e s x)))
       (over (sendBytes e s x) out))
 
 module _ (e : Sender) (s : ℕ) (log out : List ℕ) where
-  none-left : noneLeft e s ≡ true → publishedOf e s < placeOf e s .next
+  pub none-left : noneLeft e s ≡ true → publishedOf e s < placeOf e s .next
   unfolding noneLeft
   none-left h = ltb-true (publishedOf e s) (placeOf e s .next) h
 
-  some-left : noneLeft e s ≡ false → placeOf e s .next ≤ publishedOf e s
+  pub some-left : noneLeft e s ≡ false → placeOf e s .next ≤ publishedOf e s
   unfolding noneLeft
   some-left h = ltb-false (publishedOf e s) (placeOf e s .next) h
 
@@ -259,3 +264,54 @@ module _ (e : Sender) (s : ℕ) (log out : List ℕ) where
       let r : Seated e s = record { served = not-false _ q1; login = not-false _ q2 } in
       by-when (SendDone e s log out) (noneLeft e s) (λ q. send-drained r (none-left q)) λ q3.
       send-entry (entryOf e log s (placeOf e s .next)) r (some-left q3) refl
+
+-- ─── Send of one packet ───
+
+pub data PacketDone (e : Sender) (s : ℕ) (log out : List ℕ) : Wrote Sender SentPacket → Type 0 where
+  packet-unknown : isServed e s ≡ false → PacketDone e s log out (wrote e (NotPacket UnknownSeries) out)
+  packet-outside : isServed e s ≡ true → placeOf e s .login ≡ false
+      → PacketDone e s log out (wrote e (NotPacket NotLoggedIn) out)
+  packet-drained : Seated e s → publishedOf e s < placeOf e s .next → PacketDone e s log out (wrote e NoPacket out)
+  packet-damaged : Seated e s → placeOf e s .next ≤ publishedOf e s → entryOf e log s (placeOf e s .next) ≡ none →
+      PacketDone e s log out (wrote e (NotPacket DamagedLog) out)
+  packet-missing : (x : List ℕ) → Seated e s → placeOf e s .next ≤ publishedOf e s
+      → entryOf e log s (placeOf e s .next) ≡ some x →
+      length (sendPackets e s x) ≤ placeOf e s .piece → PacketDone e s log out (wrote e (NotPacket DamagedLog) out)
+  packet-small : (x : List ℕ) → Seated e s → placeOf e s .next ≤ publishedOf e s
+      → entryOf e log s (placeOf e s .next) ≡ some x → placeOf e s .piece < length (sendPackets e s x) →
+      length out < length (nextPacket e s x) → PacketDone e s log out (wrote e (NotPacket TooSmall) out)
+  packet-taken : (x : List ℕ) → Seated e s → placeOf e s .next ≤ publishedOf e s
+      → entryOf e log s (placeOf e s .next) ≡ some x → placeOf e s .piece < length (sendPackets e s x) →
+      length (nextPacket e s x) ≤ length out →
+      PacketDone e s log out
+      (wrote (afterPacket e s (lastPacket e s x))
+      (Packet-sent (placeOf e s .next) (length (nextPacket e s x)) (lastPacket e s x)) (over (nextPacket e s x) out))
+
+module _ (e : Sender) (s : ℕ) (log out : List ℕ) where
+  no-packet : (x : List ℕ) → noPacket e s x ≡ true → length (sendPackets e s x) ≤ placeOf e s .piece
+  unfolding noPacket
+  no-packet x h = leb-true (length (sendPackets e s x)) (placeOf e s .piece) h
+
+  a-packet : (x : List ℕ) → noPacket e s x ≡ false → placeOf e s .piece < length (sendPackets e s x)
+  unfolding noPacket
+  a-packet x h = leb-false (length (sendPackets e s x)) (placeOf e s .piece) h
+
+  packet-entry : (o : Option (List ℕ)) → Seated e s → placeOf e s .next ≤ publishedOf e s
+      → entryOf e log s (placeOf e s .next) ≡ o →
+      PacketDone e s log out (sendPacketEntry e s out o)
+  packet-entry none r h g = packet-damaged r h g
+  packet-entry (some x) r h g =
+      by-when (PacketDone e s log out) (noPacket e s x) (λ q. packet-missing x r h g (no-packet x q)) λ q1.
+      by-when (PacketDone e s log out) (ltb (length out) (length (nextPacket e s x)))
+      (λ q. packet-small x r h g (a-packet x q1) (ltb-true (length out) (length (nextPacket e s x)) q)) λ q.
+      packet-taken x r h g (a-packet x q1) (ltb-false (length out) (length (nextPacket e s x)) q)
+
+  pub packet-cases : PacketDone e s log out (sendPacketOf e s log out)
+  unfolding sendPacketOf
+  packet-cases =
+      by-when (PacketDone e s log out) (not (isServed e s)) (λ q. packet-unknown (not-true _ q)) λ q1.
+      by-when (PacketDone e s log out) (not (placeOf e s .login)) (λ q. packet-outside (not-false _ q1) (not-true _ q))
+      λ q2.
+      let r : Seated e s = record { served = not-false _ q1; login = not-false _ q2 } in
+      by-when (PacketDone e s log out) (noneLeft e s) (λ q. packet-drained r (none-left e s log out q)) λ q3.
+      packet-entry (entryOf e log s (placeOf e s .next)) r (some-left e s log out q3) refl

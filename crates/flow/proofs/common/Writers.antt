@@ -30,9 +30,8 @@ module _ (v : Verdict) (f : v ≡ fine) (bytes out : List ℕ) where
 
 -- An answer of the writer other than how many bytes were written.
 abbrev pub Otherwise : Written → Type 0
-Otherwise w = OneOf (1 ∷ 2 ∷ 3 ∷ []) (tagOf the-type w)
+Otherwise w = OneOf (1 ∷ 2 ∷ []) (tagOf the-type w)
 
 pub not-bytes : (n : ℕ) → Otherwise (Bytes n) → ⊥
 not-bytes n (inl h) = omega arith
-not-bytes n (inr (inl h)) = omega arith
-not-bytes n (inr (inr h)) = omega arith
+not-bytes n (inr h) = omega arith

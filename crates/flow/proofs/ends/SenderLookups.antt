@@ -9,7 +9,7 @@ use lib.Seq.{getD-set-same, getD-set-other}
 use Rattle.flow.specs.declared.sender.DaySeries.{DaySeries}
 use Rattle.flow.specs.declared.sender.Sender.{Sender}
 use Rattle.flow.specs.Ends.{member, indexOf, newSeries, noPlace, daySeries, isServed, publishedOf, placeOf}
-use Rattle.flow.specs.Ends.{withEntry, withNext}
+use Rattle.flow.specs.Ends.{withEntry, withPlace}
 use Rattle.flow.proofs.ends.Lookups.{index-inside, index-differs, numbers-set, numbers-few}
 
 -- Both arrays have 8 places, as in every value of the type.
@@ -73,31 +73,32 @@ module _ (e : Sender) (t : ℕ) (h : isServed e t ≡ true) where
   unfolding placeOf withEntry
   place-entry size s = ap (λ (l : List ℕ). getD (e .seat .places) (indexOf s l) noPlace) (series-entry size)
 
-  -- ─── The number that is sent next ───
+  -- ─── The number that is sent next, and how many packets of it were written ───
 
-  pub series-next : (next : ℕ) → daySeries (withNext e t next) ≡ daySeries e
-  unfolding withNext daySeries
-  series-next next = refl
+  pub series-next : (next piece : ℕ) → daySeries (withPlace e t next piece) ≡ daySeries e
+  unfolding withPlace daySeries
+  series-next next piece = refl
 
-  pub served-next : (next s : ℕ) → isServed (withNext e t next) s ≡ isServed e s
-  unfolding isServed withNext daySeries
-  served-next next s = refl
+  pub served-next : (next piece s : ℕ) → isServed (withPlace e t next piece) s ≡ isServed e s
+  unfolding isServed withPlace daySeries
+  served-next next piece s = refl
 
-  pub published-next : (next s : ℕ) → publishedOf (withNext e t next) s ≡ publishedOf e s
-  unfolding publishedOf withNext daySeries
-  published-next next s = refl
+  pub published-next : (next piece s : ℕ) → publishedOf (withPlace e t next piece) s ≡ publishedOf e s
+  unfolding publishedOf withPlace daySeries
+  published-next next piece s = refl
 
-  pub place-next : Eight e → (next : ℕ) → placeOf (withNext e t next) t ≡ record { login = true; next = next }
-  unfolding placeOf withNext daySeries
-  place-next z next =
-      getD-set-same (e .seat .places) (indexOf t (daySeries e)) (record { login = true; next = next }) noPlace
-      (let i = served-index in let a = z .series in let b = z .places in omega arith)
+  pub place-next : Eight e → (next piece : ℕ)
+      → placeOf (withPlace e t next piece) t ≡ record { login = true; next = next; piece = piece }
+  unfolding placeOf withPlace daySeries
+  place-next z next piece =
+      getD-set-same (e .seat .places) (indexOf t (daySeries e)) (record { login = true; next = next; piece = piece })
+      noPlace (let i = served-index in let a = z .series in let b = z .places in omega arith)
 
-  pub place-other : (next s : ℕ) → (s ≡ t → ⊥) → placeOf (withNext e t next) s ≡ placeOf e s
-  unfolding placeOf withNext daySeries
-  place-other next s n =
+  pub place-other : (next piece s : ℕ) → (s ≡ t → ⊥) → placeOf (withPlace e t next piece) s ≡ placeOf e s
+  unfolding placeOf withPlace daySeries
+  place-other next piece s n =
       getD-set-other (e .seat .places) (indexOf t (daySeries e)) (indexOf s (daySeries e))
-      (record { login = true; next = next }) noPlace (served-apart s n)
+      (record { login = true; next = next; piece = piece }) noPlace (served-apart s n)
 
   -- ─── Both keep the places ───
 
@@ -110,11 +111,11 @@ module _ (e : Sender) (t : ℕ) (h : isServed e t ≡ true) where
         places = z .places;
       }
 
-  pub eight-next : Eight e → (next : ℕ) → Eight (withNext e t next)
-  unfolding withNext
-  eight-next z next =
+  pub eight-next : Eight e → (next piece : ℕ) → Eight (withPlace e t next piece)
+  unfolding withPlace
+  eight-next z next piece =
       record {
         series = z .series;
         places = length-set (e .seat .places) (indexOf t (daySeries e))
-            (record { login = true; next = next }) ∙ z .places;
+            (record { login = true; next = next; piece = piece }) ∙ z .places;
       }

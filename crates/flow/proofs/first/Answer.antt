@@ -13,7 +13,8 @@ use Rattle.flow.specs.declared.receiver.Confirmed.{Confirmed}
 use Rattle.flow.specs.Ends.{Left, dayOf, loggedIn, withSeries}
 use Rattle.flow.specs.Answers.{Message, isTaken, confirmedSaid, reportIn}
 use Rattle.flow.specs.Receiving.{lastAfter, confirmLoginOf}
-use Rattle.flow.specs.World.{InSeries, inSeries, Dated, dated, latestOf, only, ReceiverSide, afterConfirm}
+use Rattle.flow.specs.World.{InSeries, inSeries, Dated, dated, latestOf, only, Transmission, ReceiverSide}
+use Rattle.flow.specs.World.{afterConfirm}
 use Rattle.flow.proofs.common.Histories.{latestOf-same, latestOf-other, each-append, each-at}
 use Rattle.flow.proofs.calls.Receiving.{Confirmed-as, confirms, confirm-as}
 use Rattle.flow.proofs.steps.Moves.{Moves, moves-with}
@@ -23,7 +24,7 @@ use Rattle.flow.proofs.steps.Turns.{confirm-turn, turn-eight}
 use Rattle.flow.proofs.common.Days.{upto-same}
 use Rattle.flow.specs.Agreement.{EachDated}
 
-module _ (P : List (Dated Message)) (ms : List (InSeries (List (List ℕ)))) (v : ReceiverSide) (h : Safe P ms v) (s : ℕ)
+module _ (P : List (Dated Message)) (ts : List Transmission) (v : ReceiverSide) (h : Safe P ts v) (s : ℕ)
     (p : List ℕ) where
   abbrev r : Left Receiver Confirmed
   r = confirmLoginOf (v .end) s p
@@ -71,7 +72,7 @@ module _ (P : List (Dated Message)) (ms : List (InSeries (List (List ℕ)))) (v 
           each-at s d (dayOf (withSeries (v .end) s (datedOf p .date) last loggedIn) s) (last ∷ [])
           (moves-with (v .end) (h .eight) s o (datedOf p .date) last loggedIn .date ∙ i)
 
-  pub safe-confirm : Safe P ms (afterConfirm v s p (confirmLoginOf (v .end) s p))
+  pub safe-confirm : Safe P ts (afterConfirm v s p (confirmLoginOf (v .end) s p))
   safe-confirm =
       record {
         eight = turn-eight (datedOf p .date) false (v .end) (h .eight) (r .end) _ _

@@ -19,18 +19,18 @@ use Rattle.flow.specs.declared.receiver.Received.{Received}
 use Rattle.flow.specs.Ends.{Wrote, dayOf, liveOf}
 use Rattle.flow.specs.Answers.{Message, receivedSaid, messageIn, reportIn}
 use Rattle.flow.specs.Receiving.{receiveOf}
-use Rattle.flow.specs.World.{came, borne, InSeries, Dated, dated, latestOf, other, seriesIn, ReceiverSide}
-use Rattle.flow.specs.World.{afterReceive}
+use Rattle.flow.specs.World.{came, borne, Dated, dated, latestOf, other, seriesIn, whole, Transmission}
+use Rattle.flow.specs.World.{ReceiverSide, continues, afterReceive}
 use Rattle.flow.proofs.steps.Moves.{Moves}
 use Rattle.flow.proofs.pieces.Outcomes.{Delivered, keeps, reports, hands}
 use Rattle.flow.proofs.right.End.{EndRight, receive-right}
 use Rattle.flow.proofs.pieces.Completes.{Wants}
-use Rattle.flow.proofs.packets.Genuine.{headed, Genuine}
+use Rattle.flow.proofs.packets.Genuine.{headed, Begun}
 use Rattle.flow.proofs.pieces.Takes.{PacketAt, Before, take-within, take-series, take-date, take-holds}
 use Rattle.flow.proofs.pieces.Takes.{take-opens, take-delivers, take-completes}
 use Rattle.flow.proofs.first.Safe.{Safe}
-use Rattle.flow.proofs.pieces.Runs.{Run, Behind}
-use Rattle.flow.proofs.common.Extends.{same-some}
+use Rattle.flow.proofs.pieces.Runs.{Run, Behind, line-rule}
+use Rattle.flow.proofs.common.Extends.{Extends, same-some, place-kept}
 use Rattle.flow.proofs.pieces.Pieces.{firstPieces}
 use Rattle.flow.proofs.pieces.Chained.{Chain-open}
 use Rattle.flow.proofs.steps.Turns.{receive-turn, turn-eight}
@@ -59,12 +59,12 @@ delivered-dated e s d k x after ms ks (keeps m) = tt
 delivered-dated e s d k x after ms ks (reports {n = n} m q l) = each-at s d (dayOf e s) (n ∷ []) q
 delivered-dated e s d k x after ms ks (hands m q l w) = each-at s d (dayOf e s) (k ∷ []) q
 
-module _ (P : List (Dated Message)) (ms : List (InSeries (List (List ℕ)))) (v : ReceiverSide) (h : Safe P ms v) where
-  module _ (i j : ℕ) (m : InSeries (List (List ℕ))) (p : List ℕ)
-      (at : getElem? ms i ≡ some m)
-      (g : Genuine P (m .series) (m .what))
-      (here : getElem? (m .what) j ≡ some p)
-      (line : (n : ℕ) → j ≡ suc n → v .previous ≡ came i n)
+module _ (P : List (Dated Message)) (ts : List Transmission) (v : ReceiverSide) (h : Safe P ts v) where
+  module _ (i j : ℕ) (m : Transmission) (p : List ℕ)
+      (at : getElem? ts i ≡ some m)
+      (g : Begun P (m .series) (m .packets) (m .stands))
+      (here : getElem? (m .packets) j ≡ some p)
+      (line : continues (v .previous) i j ≡ true)
     where
       abbrev e : Receiver
       e = v .end
@@ -76,21 +76,21 @@ module _ (P : List (Dated Message)) (ms : List (InSeries (List (List ℕ)))) (v 
       s = m .series
 
       -- By the line's rule the packet before it came right before it.
-      run-behind : (t k d : ℕ) (c : List ℕ) → m .what ≡ packetsOf (headed s t k d) c → shaped c mostContent ≡ true
+      run-behind : (t k d : ℕ) (c : List ℕ) → Extends (m .packets) (packetsOf (headed s t k d) c) → shaped c mostContent ≡ true
           → 0 < j → Run e (v .buffer) s t k d c j
       run-behind t k d c w q = go j refl
         where
           go : (n : ℕ) → j ≡ n → 0 < n → Run e (v .buffer) s t k d c n
           go zero z l = absurd (omega arith)
           go (suc n) z l =
-              let b : Behind ms e (v .buffer) (came i n) = rw (line n z) at (h .chained) in
-              let x = same-some (getElem? ms i) (b .0) m (b .1) at in
-              let f : (t k d : ℕ) (c : List ℕ) → m .what ≡ packetsOf (headed (m .series) t k d) c
+              let b : Behind ts e (v .buffer) (came i n) = rw (line-rule (v .previous) i j line n z) at (h .chained) in
+              let x = same-some (getElem? ts i) (b .0) m (b .1) at in
+              let f : (t k d : ℕ) (c : List ℕ) → Extends (m .packets) (packetsOf (headed (m .series) t k d) c)
               → shaped c mostContent ≡ true → Run e (v .buffer) (m .series) t k d c (suc n) =
               rw x at (b .2) in
               f t k d c w q
 
-      run-before : (t k d : ℕ) (c : List ℕ) → m .what ≡ packetsOf (headed s t k d) c → shaped c mostContent ≡ true
+      run-before : (t k d : ℕ) (c : List ℕ) → Extends (m .packets) (packetsOf (headed s t k d) c) → shaped c mostContent ≡ true
           → j < length (piecesOf c) → Before e (v .buffer) s t k d c j
       run-before t k d c w q within =
           record {
@@ -100,10 +100,10 @@ module _ (P : List (Dated Message)) (ms : List (InSeries (List (List ℕ)))) (v 
           }
 
       -- One packet more of it has come.
-      received-run : (t k d : ℕ) (b : List ℕ) → m .what ≡ packetsOf (headed s t k d) b → shaped b mostContent ≡ true
+      received-run : (t k d : ℕ) (b : List ℕ) → Extends (m .packets) (packetsOf (headed s t k d) b) → shaped b mostContent ≡ true
           → Run (r .end) (r .bytes) s t k d b (suc j)
       received-run t k d b w q =
-          let a : PacketAt s t k d b j p = record { good = q; here = rw w at here } in
+          let a : PacketAt s t k d b j p = record { good = q; here = place-kept (m .packets) _ w j p here } in
           let before = run-before t k d b w q (take-within a) in
           record {
             holding = take-holds a e (h .eight) (v .buffer) before;
@@ -112,7 +112,7 @@ module _ (P : List (Dated Message)) (ms : List (InSeries (List (List ℕ)))) (v 
           }
 
       found : PacketAt s (g .what .tid) (suc (g .place)) (g .day) (g .what .content) j p
-      found = record { good = g .good; here = rw (g .packets) at here }
+      found = record { good = g .good; here = place-kept (m .packets) _ (g .packets) j p here }
 
       before : Before e (v .buffer) s (g .what .tid) (suc (g .place)) (g .day) (g .what .content) j
       before =
@@ -158,17 +158,18 @@ module _ (P : List (Dated Message)) (ms : List (InSeries (List (List ℕ)))) (v 
                 (delivered-dated e s (g .day) (suc (g .place)) (g .what) (r .end) _ _ delivered),
           )
 
-      pub safe-receive : Safe P ms (afterReceive v (m .what) i j p r)
+      pub safe-receive : Safe P ts (afterReceive v m i j p r)
       safe-receive =
           record {
             eight = turn-eight None false e (h .eight) (r .end) _ _ (receive-turn None false e p (v .buffer));
             days = λ t. delivered-day e s (g .day) (suc (g .place)) (g .what) (r .end) _ _ delivered t ∙ h .days t;
             right = received-right;
             dated = received-dated;
-            chained = (m, at, received-run);
+            chained = rw line (m, at, received-run);
           }
 
       -- With its last packet, a message for which the end is ready is handed on.
-      pub receive-completes : j + 1 ≡ length (m .what) → Wants e (v .buffer) s (suc (g .place)) (g .day)
+      pub receive-completes : m .stands ≡ whole → j + 1 ≡ length (m .packets)
+          → Wants e (v .buffer) s (suc (g .place)) (g .day)
           → messageIn (receivedSaid p (r .bytes) (r .answer)) ≡ g .what ∷ []
-      receive-completes n = take-completes found e (h .eight) (v .buffer) before (n ∙ ap length (g .packets))
+      receive-completes w n = take-completes found e (h .eight) (v .buffer) before (n ∙ ap length (g .all w))

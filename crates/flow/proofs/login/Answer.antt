@@ -20,7 +20,7 @@ use Rattle.flow.specs.declared.sender.Sender.{Sender}
 use Rattle.flow.specs.declared.sender.LoggedIn.the-variants.{Wrote as Answered}
 use Rattle.flow.specs.declared.sender.LoggedIn.the-variants.{Refused as NotIn}
 use Rattle.flow.specs.Ends.{wrote, over, newSeries}
-use Rattle.flow.specs.Helpers.{nextAt}
+use Rattle.flow.specs.Helpers.{placedAt}
 use Rattle.flow.specs.LoginHelpers.{startOutside, loginAnswer}
 
 -- ─── Its size ───
@@ -61,7 +61,7 @@ module _ (e : Sender) (i next : ℕ) (content out : List ℕ) (n : ℕ)
     unfolding loginAnswer
     answer-outside x = rw (← size, le-ltb (length out) n room, ← q, x)
 
-    pub answer-written : b ≡ false → (f : Sender) → f ≡ nextAt e i next
+    pub answer-written : b ≡ false → (f : Sender) → f ≡ placedAt e i next 0
         → (o : List ℕ) → o ≡ over (loginBytes (e .day .date) content) out
         → wrote f (Answered n) o ≡ loginAnswer e i next content out
     unfolding loginAnswer

@@ -22,7 +22,7 @@ use Rattle.flow.specs.declared.sender.Sender.{Sender}
 use Rattle.flow.specs.declared.sender.LoggedIn.{LoggedIn}
 use Rattle.flow.specs.declared.sender.LoggedIn.the-variants.{Refused as NotIn}
 use Rattle.flow.specs.Ends.{_when_else_, Wrote, wrote, before, indexOf, daySeries, isServed, publishedOf}
-use Rattle.flow.specs.Ends.{withNext}
+use Rattle.flow.specs.Ends.{withPlace}
 use Rattle.flow.specs.Serving.{wrongRun, notZero, startElsewhere, wanted, startOf, loginWith}
 use Rattle.flow.specs.Helpers.{Finds}
 use Rattle.flow.specs.LoginHelpers.{wrongLogin, loginContents, loginLine, loginAnswer}
@@ -69,7 +69,7 @@ module _ (e : Sender) (s : ℕ) (h : Header) (date : TradeDate) (asked content o
       (wrote e (NotIn UnknownSeries) out when not (isServed e s) else
       unless e out (loginLine (e .day .date) s h date (resumeOf asked))
       (loginAnswer e (indexOf s (daySeries e)) (startOf e date (resumeOf asked)) content out))
-  unfolding loginWith loginContents wrongLogin loginLine loginAnswer publishedOf withNext
+  unfolding loginWith loginContents wrongLogin loginLine loginAnswer publishedOf withPlace
   login-rows =
       rows e out (wrongRun content packetContent) (wrongWidth asked || wrongWidth content)
       (wrongItem asked || wrongItem content) (wrongLogin h asked content) (not (isServed e s))

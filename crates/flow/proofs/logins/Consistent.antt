@@ -97,6 +97,7 @@ isConnect (World.openSender date ss) = false
 isConnect (World.publish s tid content) = false
 isConnect (World.login s i content out) = false
 isConnect (World.send s out) = false
+isConnect (World.sendPacket s out) = false
 isConnect (World.openReceiver ss) = false
 isConnect World.connect = true
 isConnect (World.requestLogin s content out) = false
@@ -131,6 +132,7 @@ step-turn w h (World.publish s tid content) = turned stays
 step-turn w h (World.login s i content out) =
     by-given (Quiet w) w (getElem? (w .receiving .requests) i) (turned stays) (λ p e. turned stays)
 step-turn w h (World.send s out) = turned stays
+step-turn w h (World.sendPacket s out) = turned stays
 step-turn w h (World.openReceiver ss) = turned (open-turn (w .serving .day) false (w .receiving .end) ss)
 step-turn w h World.connect = turned (connects refl)
 step-turn w h (World.requestLogin s c out) = turned (request-turn (w .serving .day) false (w .receiving .end) s c out)
@@ -140,6 +142,6 @@ step-turn w h (World.confirmLogin i) =
     (confirm-turn (w .serving .day) false (w .receiving .end) (a .series) (a .what)
     (answer-upto (w .serving .day) a (h i a e))))
 step-turn w h (World.receive i j) =
-    by-given (Quiet w) w (getElem? (w .serving .messages) i) (turned stays)
-    (λ m e. by-given (Quiet w) w (getElem? (m .what) j) (turned stays)
+    by-given (Quiet w) w (getElem? (w .serving .transmissions) i) (turned stays)
+    (λ m e. by-given (Quiet w) w (getElem? (m .packets) j) (turned stays)
     (λ p f. turned (receive-turn (w .serving .day) false (w .receiving .end) p (w .receiving .buffer))))

@@ -62,6 +62,7 @@ module _ (w : World) (h : Timely w) where
   requests-step (World.login s i content out) =
       by-given (Then false) w (getElem? (w .receiving .requests) i) (on false w refl) (λ p e. on false _ refl)
   requests-step (World.send s out) = on false _ refl
+  requests-step (World.sendPacket s out) = on false _ refl
   requests-step (World.openReceiver ss) = on false _ refl
   requests-step World.connect = on true _ refl
   requests-step (World.requestLogin s c out) = λ t.
@@ -75,8 +76,8 @@ module _ (w : World) (h : Timely w) where
   requests-step (World.confirmLogin i) =
       by-given (Then false) w (getElem? (w .serving .answers) i) (on false w refl) (λ a e. on false _ refl)
   requests-step (World.receive i j) =
-      by-given (Then false) w (getElem? (w .serving .messages) i) (on false w refl)
-      (λ m e. by-given (Then false) w (getElem? (m .what) j) (on false w refl) (λ p f. on false _ refl))
+      by-given (Then false) w (getElem? (w .serving .transmissions) i) (on false w refl)
+      (λ m e. by-given (Then false) w (getElem? (m .packets) j) (on false w refl) (λ p f. on false _ refl))
 
   pub timely-step : (e : Event) → Timely (step w e)
   timely-step e =

@@ -19,7 +19,7 @@ use Rattle.flow.specs.declared.sender.Sender.{Sender}
 use Rattle.flow.specs.declared.sender.LoggedIn.{LoggedIn}
 use Rattle.flow.specs.Ends.{Wrote, publishedOf, placeOf}
 use Rattle.flow.specs.Serving.{startOf, loginOf}
-use Rattle.flow.specs.World.{InSeries, inSeries, Event, openSender, publish, login, send, openReceiver, connect}
+use Rattle.flow.specs.World.{InSeries, inSeries, Event, openSender, publish, login, send, sendPacket, openReceiver, connect}
 use Rattle.flow.specs.World.{requestLogin, confirmLogin, receive, afterLogin, World, serves, step}
 use Rattle.flow.proofs.ends.SenderLookups.{Eight, place-next}
 use Rattle.flow.proofs.calls.Serving.{LoginTests, LoginDone, login-refused, login-taken, login-cases}
@@ -110,6 +110,7 @@ module _ (w : World) where
       (login-cases (w .serving .end) t p content out) (taken-effect t i p content out l))
       q
   answer-taken (send t out) s a q = absurd (no-append (w .serving .answers) (inSeries s a) q)
+  answer-taken (sendPacket t out) s a q = absurd (no-append (w .serving .answers) (inSeries s a) q)
   answer-taken (openReceiver ss) s a q = absurd (no-append (w .serving .answers) (inSeries s a) q)
   answer-taken connect s a q = absurd (no-append (w .serving .answers) (inSeries s a) q)
   answer-taken (requestLogin t content out) s a q = absurd (no-append (w .serving .answers) (inSeries s a) q)
@@ -118,9 +119,9 @@ module _ (w : World) where
       (λ p. absurd (no-append (w .serving .answers) (inSeries s a) p))
       (λ x l p. absurd (no-append (w .serving .answers) (inSeries s a) p)) q
   answer-taken (receive i j) s a q =
-      by-given (Answered (receive i j) s a) w (getElem? (w .serving .messages) i)
+      by-given (Answered (receive i j) s a) w (getElem? (w .serving .transmissions) i)
       (λ p. absurd (no-append (w .serving .answers) (inSeries s a) p))
-      (λ m k. by-given (Answered (receive i j) s a) w (getElem? (m .what) j)
+      (λ m k. by-given (Answered (receive i j) s a) w (getElem? (m .packets) j)
       (λ p. absurd (no-append (w .serving .answers) (inSeries s a) p))
       (λ x l p. absurd (no-append (w .serving .answers) (inSeries s a) p))) q
 
@@ -132,11 +133,11 @@ startAt {w} t =
     startOf (w .serving .end) (datedOf (t .packet) .date) (resumeOf (part (t .packet) (t .body .start) (t .body .len)))
 
 pub login-next : (w : World) (e : Event) (s : ℕ) (a : List ℕ) → Eight (w .serving .end) → (t : LoginTaken w e s a) →
-    (placeOf (step w e .serving .end) s ≡ record { login = true; next = startAt t }) × (1 ≤ startAt t)
+    (placeOf (step w e .serving .end) s ≡ record { login = true; next = startAt t; piece = 0 }) × (1 ≤ startAt t)
     × (startAt t ≤ publishedOf (w .serving .end) s + 1)
 login-next w e s a z t = (
   ap (λ (u : World). placeOf (u .serving .end) s) (t .effect)
-      ∙ place-next (w .serving .end) s (t .tests .served) z (startAt t),
+      ∙ place-next (w .serving .end) s (t .tests .served) z (startAt t) 0,
   t .tests .from-one,
   t .tests .behind,
 )

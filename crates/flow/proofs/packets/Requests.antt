@@ -29,7 +29,7 @@ use Rattle.flow.specs.declared.receiver.Receiver.{Receiver}
 use Rattle.flow.specs.declared.receiver.Requested.{Requested}
 use Rattle.flow.specs.declared.receiver.Requested.the-variants.{Wrote as Asked}
 use Rattle.flow.specs.declared.receiver.Requested.the-variants.{Refused as NotAsked}
-use Rattle.flow.specs.Ends.{_when_else_, Wrote, wrote, over, before, isServed, withNext, isOpen, keptOf}
+use Rattle.flow.specs.Ends.{_when_else_, Wrote, wrote, over, before, isServed, withPlace, isOpen, keptOf}
 use Rattle.flow.specs.Answers.{isTaken, written, requestedSaid}
 use Rattle.flow.specs.Serving.{wrongRun, startOf, wrongStart, loginWith, loginOf}
 use Rattle.flow.specs.Receiving.{nextWanted, requestOf, requestBytes, requestLoginOf}
@@ -78,7 +78,7 @@ loginByAsk e t s date next content out =
     refused OtherDay when before (e .day .date) date else
     refused TooSmall when ltb (length out) (length answer) else
     refused WrongStart when wrongStart e t start else
-    wrote (withNext e t start) (Answered (length answer)) (over answer out)
+    wrote (withPlace e t start 0) (Answered (length answer)) (over answer out)
   where
     refused : Refusal → Wrote Sender LoggedIn
     refused r = wrote e (NotIn r) out

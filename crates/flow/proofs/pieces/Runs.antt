@@ -1,16 +1,21 @@
 -- Pieces in runs: what a chain holds right behind packet j of a message, which is why the line's rule is needed.
 -- Assumes nothing.
-use Prim.Native.Nat.{ℕ, suc, _<_}
-use mathlib.Core.Path.{_≡_}
-use mathlib.Core.List.{List, _++_}
+use Prim.Native.Nat.{ℕ, zero, suc, _<_}
+use native.Mathlib.Omega.{arith}
+use mathlib.Core.Path.{_≡_, refl}
+use mathlib.Core.List.{List}
 use mathlib.Core.Bool.{true}
+use borrow.Author.Tests.{eqb-true}
 use mathlib.Core.Option.{some}
 use lib.ListN.{length, getElem?}
+use lib.Dec.{eqb}
 use Rattle.ftd.specs.Chain.{piecesOf, packetsOf}
 use Rattle.ftd.specs.Fields.{shaped, mostContent}
 use Rattle.flow.specs.declared.receiver.Receiver.{Receiver}
-use Rattle.flow.specs.World.{InSeries, Previous, came, other}
-use Rattle.flow.proofs.common.Extends.{place-append}
+use Rattle.flow.specs.World.{Transmission, Previous, came, other, behind, continues}
+use Rattle.flow.proofs.common.Bools.{and-both, clash}
+use Rattle.flow.proofs.common.Extends.{Extends, extends-along}
+use Rattle.flow.proofs.common.Transmissions.{Onward, onward-at}
 use Rattle.flow.proofs.packets.Genuine.{headed}
 use Rattle.flow.proofs.pieces.Chained.{Chain-open, Holding}
 use Rattle.flow.proofs.pieces.Completes.{Wants}
@@ -21,17 +26,39 @@ pub record Run (e : Receiver) (buffer : List ℕ) (s t k d : ℕ) (c : List ℕ)
   pub holding : Holding e buffer s t k d c n
   pub opens : n < length (piecesOf c) → Wants e buffer s k d → Chain-open e s
 
--- By the receiving end's previous call: packet j of the message at place i of the line. Nothing is known otherwise, and
--- the line's rule forbids to go on.
-abbrev pub Behind : List (InSeries (List (List ℕ))) → Receiver → List ℕ → Previous → Type 0
-Behind ms e buffer (came i j) =
-    (m : InSeries (List (List ℕ))) × (getElem? ms i ≡ some m)
-    × ((t k d : ℕ) (c : List ℕ) → m .what ≡ packetsOf (headed (m .series) t k d) c → shaped c mostContent ≡ true
-    → Run e buffer (m .series) t k d c (suc j))
-Behind ms e buffer other = Unit
+-- By the receiving end's previous call: packet j of the transmission at place i of the line, at the end of a run; of
+-- every message that the transmission is the start of. Nothing is known otherwise, and the line's rule forbids to go on.
+abbrev pub Behind : List Transmission → Receiver → List ℕ → Previous → Type 0
+Behind ts e buffer (came i j) =
+    (m : Transmission) × (getElem? ts i ≡ some m)
+    × ((t k d : ℕ) (c : List ℕ) → Extends (m .packets) (packetsOf (headed (m .series) t k d) c)
+    → shaped c mostContent ≡ true → Run e buffer (m .series) t k d c (suc j))
+Behind ts e buffer other = Unit
 
--- More is sent.
-pub behind-grows : (ms ns : List (InSeries (List (List ℕ)))) (e : Receiver) (buffer : List ℕ) (p : Previous)
-    → Behind ms e buffer p → Behind (ms ++ ns) e buffer p
-behind-grows ms ns e buffer (came i j) b = (b .0, place-append ms ns i (b .0) (b .1), b .2)
-behind-grows ms ns e buffer other b = tt
+-- The transmissions go on: a longer start is one of no more messages.
+pub behind-onward : (ts us : List Transmission) → Onward ts us → (e : Receiver) (buffer : List ℕ) (p : Previous)
+    → Behind ts e buffer p → Behind us e buffer p
+behind-onward ts us o e buffer (came i j) b =
+    let x = onward-at ts us o i (b .0) (b .1) in
+    let l = x .2 in (
+      x .0,
+      x .1,
+      λ t k d c w q.
+          let f : Extends (x .0 .packets) (packetsOf (headed (b .0 .series) t k d) c) = rw (l .series) at w in
+          rw (l .series)
+          (b .2 t k d c (extends-along (b .0 .packets) (x .0 .packets) _ (l .packets) f) q),
+    )
+behind-onward ts us o e buffer other b = tt
+
+-- The line's rule: the packet before it is the receiving end's call before this one.
+was-before : (p : Previous) (i j : ℕ) → behind p i j ≡ true → p ≡ came i j
+was-before (came a b) i j q =
+    let x = and-both (eqb a i) (eqb b j) q in
+    let u = eqb-true a i (x .0) in
+    let v = eqb-true b j (x .1) in
+    rw (u, v)
+was-before other i j q = clash _ q refl
+
+pub line-rule : (p : Previous) (i j : ℕ) → continues p i j ≡ true → (n : ℕ) → j ≡ suc n → p ≡ came i n
+line-rule p i zero l n q = absurd (omega arith)
+line-rule p i (suc j) l n q = let f : j ≡ n = omega arith in rw f at (was-before p i j l)

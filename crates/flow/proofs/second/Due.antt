@@ -4,7 +4,7 @@ use Prim.Native.Nat.{ℕ, suc, _+_, _≤_}
 use native.Mathlib.Omega.{arith}
 use mathlib.Core.Path.{_≡_, refl, sym, ap, _∙_}
 use mathlib.Core.List.{List, [], _∷_, _++_, map, append-nil}
-use mathlib.Core.Bool.{Bool, true, false, cond}
+use mathlib.Core.Bool.{Bool, true, false, cond, _&&_}
 use mathlib.Core.Logic.{_⊎_, inl, inr}
 use mathlib.Core.Option.{some}
 use borrow.Author.Tests.{eqb-true}
@@ -17,10 +17,11 @@ use Rattle.flow.specs.Ends.{isOpen, allParts, dayOf, lastOf}
 use Rattle.flow.specs.Answers.{isTaken, openedSaid}
 use Rattle.flow.specs.Receiving.{openEndOf, confirmLoginOf, receiveOf}
 use Rattle.flow.specs.World
-use Rattle.flow.specs.World.{InSeries, Delivery, answer, message, Event, World, only, receives, afterConfirm}
-use Rattle.flow.specs.World.{afterReceive, step, run, inRun, inRuns}
+use Rattle.flow.specs.World.{InSeries, Delivery, answer, message, Standing, going, whole, broken, isWhole}
+use Rattle.flow.specs.World.{Transmission, Event, World, only, receives, afterConfirm, continues, afterReceive}
+use Rattle.flow.specs.World.{step, run, inRun, inRuns}
 use Rattle.flow.specs.Agreement.{Subsequence, done, skip, keep, since}
-use Rattle.flow.proofs.common.Bools.{and-both}
+use Rattle.flow.proofs.common.Bools.{and-both, clash}
 use Rattle.flow.proofs.common.Lists.{since-is, since-along}
 use Rattle.flow.proofs.common.Extends.{Extends, extends-along}
 use Rattle.flow.proofs.packets.Answers.{Answering}
@@ -32,8 +33,8 @@ use Rattle.flow.proofs.logins.Timely.{Reached, reached-onward}
 use Rattle.flow.proofs.logins.Starts.{Timely, timely-step}
 use Rattle.flow.proofs.second.Sending.{Numbered}
 use Rattle.flow.proofs.second.Ready.{Ready, turn-ready, receive-length}
-use Rattle.flow.proofs.packets.Genuine.{AllGenuine}
-use Rattle.flow.proofs.first.Half.{SafeWorld, step-safe, line-rule}
+use Rattle.flow.proofs.packets.Genuine.{AllBegun}
+use Rattle.flow.proofs.first.Half.{SafeWorld, step-safe}
 use Rattle.flow.proofs.second.Taking.{logs-in, next-ready}
 use Rattle.flow.proofs.common.Rows.{by-given}
 use Rattle.flow.proofs.ends.ReceiverLookups.{Eight}
@@ -134,64 +135,72 @@ module _ (s d n : ℕ) (content : List ℕ) (ans : Answering content) where
         go ys (underway k xs g N q u) =
             due-turn ys r r′ (h .receiving .eight) t (underway k xs g N q (not-answer (x .series) (x .what) xs ys u))
 
-    pass-receive : (i j : ℕ) (m : InSeries (List (List ℕ))) (p : List ℕ) → SafeWorld w → AllGenuine (w .serving)
-        → inRun w (World.receive i j) ≡ true → allParts r ≤ length (w .receiving .buffer)
-        → getElem? (w .serving .messages) i ≡ some m → getElem? (m .what) j ≡ some p
-        → Passes w (receives w (afterReceive (w .receiving) (m .what) i j p (receiveOf r p (w .receiving .buffer))))
-    pass-receive i j m p safe genuine line room e f =
-        record {
-          more = only (eqb (suc j) (length (m .what))) (message (m .what));
-          delivered-is = refl;
-          keeps = λ ys. go
-              ys (eqb (suc j) (length (m .what))) refl;
-        }
+    pass-receive : (i j : ℕ) (m : Transmission) (p : List ℕ) → SafeWorld w → AllBegun (w .serving)
+        → allParts r ≤ length (w .receiving .buffer)
+        → getElem? (w .serving .transmissions) i ≡ some m → getElem? (m .packets) j ≡ some p
+        → Passes w (receives w (afterReceive (w .receiving) m i j p (receiveOf r p (w .receiving .buffer))))
+    pass-receive i j m p safe begun room e f =
+        record { more = only ends (message (m .packets)); delivered-is = refl; keeps = λ ys. go ys ends refl }
       where
+        -- It ends a run over a whole transmission.
+        ends : Bool
+        ends = continues (w .receiving .previous) i j && (isWhole (m .stands) && eqb (suc j) (length (m .packets)))
+
         r′ : Receiver
         r′ = receiveOf r p (w .receiving .buffer) .end
 
         t : Turned (At d) false r r′
         t = turned (receive-turn (At d) false r p (w .receiving .buffer))
 
-        whole : suc j ≡ length (m .what) → (ys : List Delivery) → Due (message (m .what) ∷ ys) r → Due ys r′
-        whole l ys (waiting k xs o g N q u) = elim (sub-cases u) [
+        is-whole : (x : Standing) → isWhole x ≡ true → x ≡ whole
+        is-whole going q = clash _ q refl
+        is-whole whole q = refl
+        is-whole broken q = clash _ q refl
+
+        all : ends ≡ true → (ys : List Delivery) → Due (message (m .packets) ∷ ys) r → Due ys r′
+        all x ys (waiting k xs o g N q u) = elim (sub-cases u) [
           | inl b ↦ absurd (let c = b .0 in let z : _≡_ {A = ℕ} 0 1 = cc in omega arith)
           | inr b ↦ due-turn ys r r′ (h .receiving .eight) t (waiting k xs o g N q b)
         ]
-        whole l ys (underway k [] g N q u) = due-turn ys r r′ (h .receiving .eight) t (underway k [] g N q (sub-nil ys))
-        whole l ys (underway k (x ∷ xs) g N q u) = elim (sub-cases u) [
-          | inl b ↦ let c = b .0 in let z : x ≡ m .what = cc in
+        all x ys (underway k [] g N q u) = due-turn ys r r′ (h .receiving .eight) t (underway k [] g N q (sub-nil ys))
+        all x ys (underway k (y ∷ xs) g N q u) = elim (sub-cases u) [
+          | inl b ↦ let c = b .0 in let z : y ≡ m .packets = cc in
+              let l =
+              and-both (continues (w .receiving .previous) i j)
+              (isWhole (m .stands) && eqb (suc j) (length (m .packets))) x in
+              let n = and-both (isWhole (m .stands)) (eqb (suc j) (length (m .packets))) (l .1) in
               underway (suc k) xs
-              (next-ready w (h .receiving .eight) safe genuine i j m e (line-rule w i j line) room p f l s d k
-              (rw z at (N .0)) g) (N .1) (omega arith) (b .1)
-          | inr b ↦ due-turn ys r r′ (h .receiving .eight) t (underway k (x ∷ xs) g N q b)
+              (next-ready w (h .receiving .eight) safe begun i j m e (is-whole (m .stands) (n .0)) (l .0) room p f
+              (eqb-true (suc j) (length (m .packets)) (n .1)) s d k (rw z at (N .0)) g) (N .1) (omega arith) (b .1)
+          | inr b ↦ due-turn ys r r′ (h .receiving .eight) t (underway k (y ∷ xs) g N q b)
         ]
 
-        go : (ys : List Delivery) (b : Bool) → eqb (suc j) (length (m .what)) ≡ b
-            → Due (only b (message (m .what)) ++ ys) r → Due ys r′
-        go ys true q = whole (eqb-true (suc j) (length (m .what)) q) ys
+        go : (ys : List Delivery) (b : Bool) → ends ≡ b → Due (only b (message (m .packets)) ++ ys) r → Due ys r′
+        go ys true q = all q ys
         go ys false q = due-turn ys r r′ (h .receiving .eight) t
 
     -- Each event but a connection.
-    pub passes : SafeWorld w → AllGenuine (w .serving) → (e : Event) → inRun w e ≡ true
+    pub passes : SafeWorld w → AllBegun (w .serving) → (e : Event) → inRun w e ≡ true
         → allParts r ≤ length (w .receiving .buffer) → step w e .receiving .restarts ≡ w .receiving .restarts
         → Passes w (step w e)
-    passes safe genuine (World.openSender date ss) l room q = still _ refl (turned stays)
-    passes safe genuine (World.publish t tid c) l room q = still _ refl (turned stays)
-    passes safe genuine (World.login t i c out) l room q =
+    passes safe begun (World.openSender date ss) l room q = still _ refl (turned stays)
+    passes safe begun (World.publish t tid c) l room q = still _ refl (turned stays)
+    passes safe begun (World.login t i c out) l room q =
         by-given (Passes w) w (getElem? (w .receiving .requests) i) (still w refl (turned stays))
         (λ p e. still _ refl (turned stays))
-    passes safe genuine (World.send t out) l room q = still _ refl (turned stays)
-    passes safe genuine (World.openReceiver ss) l room q = still _ refl (turned (open-turn (At d) false r ss))
-    passes safe genuine World.connect l room q = absurd (omega arith)
-    passes safe genuine (World.requestLogin t c out) l room q =
+    passes safe begun (World.send t out) l room q = still _ refl (turned stays)
+    passes safe begun (World.sendPacket t out) l room q = still _ refl (turned stays)
+    passes safe begun (World.openReceiver ss) l room q = still _ refl (turned (open-turn (At d) false r ss))
+    passes safe begun World.connect l room q = absurd (omega arith)
+    passes safe begun (World.requestLogin t c out) l room q =
         still _ refl (turned (request-turn (At d) false r t c out))
-    passes safe genuine (World.confirmLogin i) l room q =
+    passes safe begun (World.confirmLogin i) l room q =
         by-given (Passes w) w (getElem? (w .serving .answers) i) (still w refl (turned stays))
         (λ x e. pass-confirm x i e)
-    passes safe genuine (World.receive i j) l room q =
-        by-given (Passes w) w (getElem? (w .serving .messages) i) (still w refl (turned stays))
-        (λ m e. by-given (Passes w) w (getElem? (m .what) j) (still w refl (turned stays))
-        (λ p f. pass-receive i j m p safe genuine l room e f))
+    passes safe begun (World.receive i j) l room q =
+        by-given (Passes w) w (getElem? (w .serving .transmissions) i) (still w refl (turned stays))
+        (λ m e. by-given (Passes w) w (getElem? (m .packets) j) (still w refl (turned stays))
+        (λ p f. pass-receive i j m p safe begun room e f))
 
   -- The series is open.
   due-open : (ys : List Delivery) (r : Receiver) → Due ys r → isOpen r s ≡ true
@@ -229,6 +238,7 @@ grows-step w h (World.login t i c out) =
     by-given (Grows w) w (getElem? (w .receiving .requests) i) (grows-same w w refl (omega arith) refl)
     (λ p e. grows-same w _ refl (omega arith) refl)
 grows-step w h (World.send t out) = grows-same w _ refl (omega arith) refl
+grows-step w h (World.sendPacket t out) = grows-same w _ refl (omega arith) refl
 grows-step w h (World.openReceiver ss) =
     grows-same w _ refl
     (taken-grows (isTaken (openedSaid (openEndOf (w .receiving .end) ss .answer))) (w .receiving .restarts)) refl
@@ -238,8 +248,8 @@ grows-step w h (World.confirmLogin i) =
     by-given (Grows w) w (getElem? (w .serving .answers) i) (grows-same w w refl (omega arith) refl)
     (λ x e. record { delivered = (_, refl); restarts = omega arith; size = refl })
 grows-step w h (World.receive i j) =
-    by-given (Grows w) w (getElem? (w .serving .messages) i) (grows-same w w refl (omega arith) refl)
-    (λ m e. by-given (Grows w) w (getElem? (m .what) j) (grows-same w w refl (omega arith) refl)
+    by-given (Grows w) w (getElem? (w .serving .transmissions) i) (grows-same w w refl (omega arith) refl)
+    (λ m e. by-given (Grows w) w (getElem? (m .packets) j) (grows-same w w refl (omega arith) refl)
     (λ p f. record {
       delivered = (_, refl);
       restarts = omega arith;
@@ -305,8 +315,8 @@ module _ (s d n : ℕ) (content : List ℕ) (ans : Answering content) where
       let q2 = f .restarts in
       let qa : step w e .receiving .restarts ≡ w .receiving .restarts = omega arith in
       let qb : run (step w e) es .receiving .restarts ≡ step w e .receiving .restarts = omega arith in
-      let genuine = h .source .genuine in
-      let t = passes s d n content ans w h day safe genuine e (b .0) room qa in
+      let begun = h .source .begun in
+      let t = passes s d n content ans w h day safe begun e (b .0) room qa in
       let o = due-open s d n content ans _ (w .receiving .end) u in
       let sz = g .size in
       let pt = parts-step w h s o e in
@@ -315,7 +325,7 @@ module _ (s d n : ℕ) (content : List ℕ) (ans : Answering content) where
       (g .delivered) (f .delivered) in
       let first = since-is (w .receiving .delivered) (step w e .receiving .delivered) (t .more) (t .delivered-is) in
       let u′ = rw (parted, first) at u in
-      due-run (step w e) es h′ (step-safe w e genuine (b .0) safe) (b .1)
+      due-run (step w e) es h′ (step-safe w e begun (b .0) safe) (b .1)
       (day-stays (w .serving) (step w e .serving) m ca ∙ day) cb qb (omega arith)
       (t .keeps (since (step w e .receiving .delivered) (run (step w e) es .receiving .delivered)) u′)
 

@@ -63,8 +63,8 @@ caught-up u e fs s d a out h safe l c =
     let is : a ≡ loginBytes (At d) (t .content) =
     t .answer ∙ ap (λ (x : TradeDate). loginBytes x (t .content)) (login-day u h e s d a t (c .day)) in
     let opens = login-opens u h e s d a t (c .day) in
-    let g = login-sends u served e s d a t (c .day) fs (c .no-opening) (c .last) in
-    let all = all-sent u served e s d a t (c .day) fs (c .no-opening) (c .last) out (c .drained) in
+    let g = login-sends u served (h .source .unfinished) e s d a t (c .day) fs (c .no-opening) (c .last) in
+    let all = all-sent u served (h .source .unfinished) e s d a t (c .day) fs (c .no-opening) (c .last) out (c .drained) in
     let sent = sentIn (v .serving) (w .serving) s in
     let n = startAt t + length sent in
     let numbered =
@@ -109,7 +109,7 @@ complete log buffer es fs e s d a out l c =
     let parts = line-parts o es (e ∷ fs) (is-true _ l) in
     let b = and-both (inRun u e) (inRuns (step u e) fs) (parts .1) in
     let h = timely-run o (timely-start log buffer) es in
-    let safe = step-safe u e (h .source .genuine) (b .0) (safe-run log buffer es (rw (parts .0) tt)) in
+    let safe = step-safe u e (h .source .begun) (b .0) (safe-run log buffer es (rw (parts .0) tt)) in
     let q : run o (es ++ (e ∷ fs)) ≡ run (step u e) fs = run-append o es (e ∷ fs) in
     settled (run (step u e) fs) s d (caught-up u e fs s d a out h safe (b .1) c)
     (rw q at (safe-run log buffer (es ++ (e ∷ fs)) l))

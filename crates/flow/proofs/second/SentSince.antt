@@ -1,28 +1,33 @@
 -- From a login on, while no day is opened and no other login of the series is taken, what is sent there is the messages
 -- from the login's start on, one after the other; and all of them where none is left. Assumes nothing.
-use Prim.Native.Nat.{ℕ, suc, _+_, _≤_}
+use Prim.Native.Nat.{ℕ, suc, _+_, _≤_, _<_}
 use native.Mathlib.Omega.{arith}
 use mathlib.Core.Path.{_≡_, refl, ap, _∙_, sym, subst}
 use mathlib.Core.List.{List, [], _∷_, _++_, append-nil}
 use mathlib.Core.Bool.{Bool, true, false, cond}
+use mathlib.Core.Option.{some}
 use borrow.Author.Tests.{eqb-true, eqb-false}
 use lib.ListN.{length, getElem?}
 use lib.Dec.{eqb}
 use Rattle.ftd.specs.declared.tags.TradeDate.the-variants.{At}
 use Rattle.flow.specs.declared.sender.Place.{Place}
 use Rattle.flow.specs.declared.sender.Sent.the-variants.{Drained}
-use Rattle.flow.specs.Ends.{isServed, placeOf}
-use Rattle.flow.specs.Serving.{sendBytes, sendOf}
-use Rattle.flow.specs.World.{InSeries, packetsIn, Event, SenderSide, World, step, run}
+use Rattle.flow.specs.Ends.{isServed, publishedOf, placeOf}
+use Rattle.flow.specs.Log.{entryOf}
+use Rattle.flow.specs.Serving.{sendPackets, sendBytes, nextPacket, lastPacket, afterPacket, sendOf}
+use Rattle.flow.specs.World.{InSeries, inSeries, only, soFar, packetsIn, Event, SenderSide, World, step, run}
 use Rattle.flow.specs.Agreement.{since, inThat, publishedOn}
-use Rattle.flow.proofs.ends.SenderLookups.{served-next}
-use Rattle.flow.proofs.source.Moves.{Move, stays, opens, publishes, logs-in, sends, sentSide, step-moves}
+use Rattle.flow.proofs.ends.SenderLookups.{served-next, place-next, place-other}
+use Rattle.flow.proofs.calls.Serving.{Seated}
+use Rattle.flow.proofs.source.Moves.{Move, stays, opens, publishes, logs-in, sends, sends-packet, sentSide}
+use Rattle.flow.proofs.source.Moves.{packetSide, step-moves}
 use Rattle.flow.proofs.source.Moves.{run-keeps}
 use Rattle.flow.proofs.source.Growth.{Grown, grown-same, grown-along, move-grows}
 use Rattle.flow.proofs.source.Served.{ServedSide}
 use Rattle.flow.proofs.source.Kept.{move-served, published-count}
-use Rattle.flow.proofs.second.SentFrom.{sentIn, answeredIn, SentFrom, from-published, from-login, from-other}
-use Rattle.flow.proofs.second.SentFrom.{from-sent}
+use Rattle.flow.proofs.second.SentFrom.{sentIn, answeredIn, SentAs, SentFrom, from-published, from-same}
+use Rattle.flow.proofs.second.SentFrom.{from-more, sent-numbered, finished-numbered}
+use Rattle.flow.proofs.source.Goings.{Unfinished, move-unfinished}
 use Rattle.flow.proofs.source.Sends.{drained-exactly}
 use Rattle.flow.proofs.logins.Taken.{LoginTaken, startAt, login-next}
 use Rattle.flow.proofs.common.Extends.{none-some}
@@ -36,6 +41,7 @@ pub record Since (v u : SenderSide) (s d k : ℕ) : Type 0 where
   pub grown : Grown v u
   pub openings : v .openings ≤ u .openings
   pub served : ServedSide u
+  pub unfinished : Unfinished u
   pub sent : u .openings ≡ v .openings → answeredIn v u s ≡ [] → SentFrom v u s d k
 
 one-not-none : {A : Type 0} (b : Bool) (x : A) → cond b (x ∷ []) [] ≡ [] → b ≡ false
@@ -43,6 +49,87 @@ one-not-none true x q = cc
 one-not-none false x q = refl
 
 module _ (v : SenderSide) (s d k : ℕ) where
+  -- A packet: of another series, or not the message's last, or its last.
+  module _ (u : SenderSide) (t : ℕ) (x : List ℕ) (r : Seated (u .end) t)
+      (b : placeOf (u .end) t .next ≤ publishedOf (u .end) t)
+      (c : entryOf (u .end) (u .log) t (placeOf (u .end) t .next) ≡ some x)
+      (l : placeOf (u .end) t .piece < length (sendPackets (u .end) t x)) (z : Since v u s d k)
+      (before : SentFrom v u s d k)
+    where
+      abbrev far : List (List ℕ)
+      far = soFar t (u .transmissions) ++ (nextPacket (u .end) t x ∷ [])
+
+      -- The place behind it, of the series s.
+      after-packet : (last : Bool) → lastPacket (u .end) t x ≡ last
+          → (isServed (afterPacket (u .end) t (lastPacket (u .end) t x)) s ≡ isServed (u .end) s)
+          × ((s ≡ t → ⊥) → placeOf (afterPacket (u .end) t (lastPacket (u .end) t x)) s ≡ placeOf (u .end) s)
+          × (placeOf (afterPacket (u .end) t (lastPacket (u .end) t x)) t .login ≡ true)
+          × (placeOf (afterPacket (u .end) t (lastPacket (u .end) t x)) t .next ≡ cond last (suc (placeOf (u .end) t .next))
+          (placeOf (u .end) t .next))
+      unfolding afterPacket
+      after-packet true e =
+          let p = place-next (u .end) t (r .served) (z .served .eight) (suc (placeOf (u .end) t .next)) 0 in
+          rw e (
+            served-next (u .end) t (r .served) (suc (placeOf (u .end) t .next)) 0 s,
+            λ n. place-other (u .end) t (r .served) (suc (placeOf (u .end) t .next)) 0 s n,
+            ap (λ (y : Place). y .login) p,
+            ap (λ (y : Place). y .next) p,
+          )
+      after-packet false e =
+          let next = placeOf (u .end) t .next in
+          let piece = placeOf (u .end) t .piece + 1 in
+          let p = place-next (u .end) t (r .served) (z .served .eight) next piece in
+          rw e (
+            served-next (u .end) t (r .served) next piece s,
+            λ n. place-other (u .end) t (r .served) next piece s n,
+            ap (λ (y : Place). y .login) p,
+            ap (λ (y : Place). y .next) p,
+          )
+
+      none-there : lastPacket (u .end) t x ≡ false → sentIn v (packetSide u t x) s ≡ sentIn v u s
+      none-there e =
+          ap (λ (m : List (InSeries (List (List ℕ)))). inThat s (since (v .messages) m))
+          (ap (λ (y : Bool). u .messages ++ only y (inSeries t far)) e ∙ append-nil (u .messages))
+
+      one-there : lastPacket (u .end) t x ≡ true
+          → sentIn v (packetSide u t x) s ≡ sentIn v u s ++ cond (eqb t s) (far ∷ []) []
+      one-there e =
+          ap (λ (y : Bool). inThat s (since (v .messages) (u .messages ++ only y (inSeries t far)))) e
+          ∙ that-more s t (v .messages) (u .messages) far (z .grown .messages)
+
+      packet-sent : SentFrom v (packetSide u t x) s d k
+      packet-sent = go (eqb t s) refl (lastPacket (u .end) t x) refl
+        where
+          go : (y : Bool) → eqb t s ≡ y → (last : Bool) → lastPacket (u .end) t x ≡ last
+              → SentFrom v (packetSide u t x) s d k
+          go true q true e =
+              let same = eqb-true t s q in
+              let f : sentIn v (packetSide u t x) s ≡ sentIn v u s ++ (far ∷ []) = rw q at (one-there e) in
+              let p = after-packet true e in
+              from-more v u (z .served) s d k before (packetSide u t x) far refl refl (p .0)
+              (rw (← same) (p .2, p .3)) f
+              (subst (λ (i : ℕ). SentFrom v u i d k → SentAs u i d (placeOf (u .end) i .next) far) same
+              (λ g. finished-numbered v u (z .served) t d k g (z .unfinished) x r b c l e) before)
+          go true q false e =
+              let same = eqb-true t s q in
+              let p = after-packet false e in
+              from-same v u (z .served) s d k before (packetSide u t x) refl refl (p .0)
+              (rw (← same) (p .2, p .3)) (none-there e)
+          go false q true e =
+              let n = eqb-false t s q in
+              let f : sentIn v (packetSide u t x) s ≡ sentIn v u s ++ [] = rw q at (one-there e) in
+              let p = after-packet true e in
+              let y = p .1 (λ j. n (sym j)) in
+              from-same v u (z .served) s d k before (packetSide u t x) refl refl (p .0)
+              (ap (λ (l : Place). l .login) y ∙ before .login, ap (λ (l : Place). l .next) y)
+              (f ∙ append-nil (sentIn v u s))
+          go false q false e =
+              let n = eqb-false t s q in
+              let p = after-packet false e in
+              let y = p .1 (λ j. n (sym j)) in
+              from-same v u (z .served) s d k before (packetSide u t x) refl refl (p .0)
+              (ap (λ (l : Place). l .login) y ∙ before .login, ap (λ (l : Place). l .next) y) (none-there e)
+
   move-sent : (u w : SenderSide) → Move u w → Since v u s d k → w .openings ≡ v .openings → answeredIn v w s ≡ []
       → SentFrom v w s d k
   move-sent u w stays z o a = z .sent o a
@@ -53,7 +140,10 @@ module _ (v : SenderSide) (s d k : ℕ) where
       let more = that-more s t (v .answers) (u .answers) _ (z .grown .answers) in
       let e = append-empty (answeredIn v u s) (cond (eqb t s) (_ ∷ []) []) (sym more ∙ a) in
       let n = eqb-false t s (one-not-none (eqb t s) _ (e .1)) in
-      from-login v u (z .served) s d k (z .sent o (e .0)) t _ content (q .served) (λ p. n (sym p))
+      let m : s ≡ t → ⊥ = λ p. n (sym p) in
+      let y = place-other (u .end) t (q .served) _ 0 s m in
+      from-same v u (z .served) s d k (z .sent o (e .0)) _ refl refl (served-next (u .end) t (q .served) _ 0 s)
+      (ap (λ (l : Place). l .login) y ∙ z .sent o (e .0) .login, ap (λ (l : Place). l .next) y) refl
   move-sent u w (sends t x r b c) z o a =
       go (eqb t s) refl
       (that-more s t (v .messages) (u .messages) (packetsIn (sendBytes (u .end) t x)) (z .grown .messages))
@@ -69,31 +159,45 @@ module _ (v : SenderSide) (s d k : ℕ) where
           let f : sentIn v (sentSide u t x) s ≡ sentIn v u s ++ (packetsIn (sendBytes (u .end) t x) ∷ []) = rw q at e in
           subst (λ (i : ℕ). (sentIn v (sentSide u t x) i ≡ sentIn v u i ++ (packetsIn (sendBytes (u .end) t x) ∷ []))
           → SentFrom v u i d k → SentFrom v (sentSide u t x) i d k) same
-          (λ f g. from-sent v u (z .served) t d k g x r b c f) f before
+          (λ f g.
+          let p = place-next (u .end) t (r .served) (z .served .eight) (suc (placeOf (u .end) t .next)) 0 in
+          from-more v u (z .served) t d k g (sentSide u t x) _ refl refl
+          (served-next (u .end) t (r .served) (suc (placeOf (u .end) t .next)) 0 t)
+          (ap (λ (l : Place). l .login) p, ap (λ (l : Place). l .next) p) f
+          (sent-numbered v u (z .served) t d k g x r b c))
+          f before
       go false q e =
           let n = eqb-false t s q in
           let f : sentIn v (sentSide u t x) s ≡ sentIn v u s ++ [] = rw q at e in
-          from-other v u (z .served) s d k before t x (r .served) (λ p. n (sym p)) (f ∙ append-nil (sentIn v u s))
+          let p = place-other (u .end) t (r .served) (suc (placeOf (u .end) t .next)) 0 s (λ p. n (sym p)) in
+          from-same v u (z .served) s d k before (sentSide u t x) refl refl
+          (served-next (u .end) t (r .served) (suc (placeOf (u .end) t .next)) 0 s)
+          (ap (λ (l : Place). l .login) p ∙ before .login, ap (λ (l : Place). l .next) p)
+          (f ∙ append-nil (sentIn v u s))
+  move-sent u w (sends-packet t x r b c l) z o a = packet-sent u t x r b c l z (z .sent o a)
 
   pub move-since : (u w : SenderSide) → Move u w → Since v u s d k → Since v w s d k
   move-since u w m z = record {
     grown = grown-along v u w (z .grown) (move-grows u w m);
     openings = let a = z .openings in let b = openings-grow u w m in omega arith;
     served = move-served u w m (z .served);
+    unfinished = move-unfinished u w m (z .served) (z .unfinished);
     sent = move-sent u w m z;
   }
 
   -- Right behind the login.
-  pub since-login : ServedSide v → v .day ≡ At d → isServed (v .end) s ≡ true
-      → placeOf (v .end) s ≡ record { login = true; next = k } → Since v v s d k
-  since-login h q o p = record {
+  pub since-login : ServedSide v → Unfinished v → v .day ≡ At d → isServed (v .end) s ≡ true
+      → placeOf (v .end) s ≡ record { login = true; next = k; piece = 0 } → Since v v s d k
+  since-login h y q o p = record {
     grown = grown-same v;
     openings = omega arith;
     served = h;
+    unfinished = y;
     sent = λ a b. record {
       day = q;
       served = o;
-      place = rw (since-same (v .messages)) (p ∙ ap (λ (i : ℕ). record { login = true; next = i }) (omega arith));
+      login = ap (λ (x : Place). x .login) p;
+      next = rw (since-same (v .messages)) (ap (λ (x : Place). x .next) p ∙ omega arith);
       each =
           λ j ps r. absurd
           (none-some ps
@@ -105,19 +209,20 @@ module _ (v : SenderSide) (s d k : ℕ) where
 
 -- u before the login, then the login, then fs.
 module _
-    (u : World) (right : ServedSide (u .serving)) (e : Event) (s d : ℕ) (a : List ℕ) (t : LoginTaken u e s a)
+    (u : World) (right : ServedSide (u .serving)) (going : Unfinished (u .serving)) (e : Event) (s d : ℕ) (a : List ℕ) (t : LoginTaken u e s a)
     (day : step u e .serving .day ≡ At d) (fs : List Event) where
   still-served : isServed (step u e .serving .end) s ≡ true
   still-served =
       ap (λ (w : World). isServed (w .serving .end) s) (t .effect)
-      ∙ served-next (u .serving .end) s (t .tests .served) (startAt t) s ∙ t .tests .served
+      ∙ served-next (u .serving .end) s (t .tests .served) (startAt t) 0 s ∙ t .tests .served
 
   login-since : Since (step u e .serving) (run (step u e) fs .serving) s d (startAt t)
   login-since =
       run-keeps (λ (v : SenderSide). Since (step u e .serving) v s d (startAt t))
       (move-since (step u e .serving) s d (startAt t)) (step u e) fs
       (since-login (step u e .serving) s d (startAt t)
-      (move-served (u .serving) (step u e .serving) (step-moves u e) right) day still-served
+      (move-served (u .serving) (step u e .serving) (step-moves u e) right)
+      (move-unfinished (u .serving) (step u e .serving) (step-moves u e) right going) day still-served
       (login-next u e s a (right .eight) t .0))
 
   module _
@@ -139,6 +244,6 @@ module _
         let p = h .placed s (g .0 .served) (g .0 .login) .1 in
         let c = published-count (w .serving) h s d (f .day) (g .0 .served) in
         let n : placeOf (w .serving .end) s .next ≡ startAt t + length (sentIn (step u e .serving) (w .serving) s) =
-        ap (λ (x : Place). x .next) (f .place) in
+        f .next in
         let l = g .1 in
         omega arith

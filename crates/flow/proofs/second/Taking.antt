@@ -31,7 +31,7 @@ use Rattle.flow.specs.Ends.{Wrote, before, loggedIn, isOpen, keptOf, wit
 use Rattle.flow.specs.Receiving.{lastAfter, confirmLoginOf, advance, receiveWith, receiveOf}
 use Rattle.flow.specs.Answers.{Message, receivedSaid, messageIn}
 use Rattle.flow.specs.World
-use Rattle.flow.specs.World.{came, InSeries, World}
+use Rattle.flow.specs.World.{whole, Transmission, World, continues}
 use Rattle.flow.proofs.packets.Answers.{Answering, confirmByLogin, confirm-by-login}
 use Rattle.flow.proofs.ends.ReceiverLookups.{kept-same, live-same, open-stays, Eight}
 use Rattle.flow.proofs.steps.Turns.{receive-turn, confirm-onward}
@@ -43,7 +43,8 @@ use Rattle.flow.proofs.calls.Receive.{Took, unknown, not-in, repeats, h
 use Rattle.flow.proofs.calls.Receive.{hands-last, receive-with}
 use Rattle.flow.proofs.packets.Messages.{headerAt, spanAt, packet-dated, packet-received}
 use Rattle.flow.proofs.pieces.Completes.{Wants}
-use Rattle.flow.proofs.packets.Genuine.{headed, AllGenuine}
+use Rattle.flow.proofs.packets.Genuine.{headed, BegunIn, AllBegun}
+use Rattle.flow.proofs.common.Lists.{every-at}
 use Rattle.flow.proofs.first.Receive.{receive-completes}
 use Rattle.flow.proofs.first.Half.{SafeWorld}
 use Rattle.flow.proofs.common.Days.{Upto}
@@ -163,14 +164,15 @@ wanted r buffer s d k few room h = go (eqb k (keptOf r s .last + 1)) refl
               (eqb-false k (keptOf r s .last + 1) q);
         })
 
-module _ (w : World) (eight : Eight (w .receiving .end)) (safe : SafeWorld w) (genuine : AllGenuine (w .serving))
-    (i j : ℕ) (m : InSeries (List (List ℕ)))
-    (here : getElem? (w .serving .messages) i ≡ some m)
-    (line : (n : ℕ) → j ≡ suc n → w .receiving .previous ≡ came i n)
+module _ (w : World) (eight : Eight (w .receiving .end)) (safe : SafeWorld w) (begun : AllBegun (w .serving))
+    (i j : ℕ) (m : Transmission)
+    (here : getElem? (w .serving .transmissions) i ≡ some m)
+    (all : m .stands ≡ whole)
+    (line : continues (w .receiving .previous) i j ≡ true)
     (room : allParts (w .receiving .end) ≤ length (w .receiving .buffer))
   where
-    pub next-ready : (p : List ℕ) → getElem? (m .what) j ≡ some p → suc j ≡ length (m .what) → (s d k : ℕ)
-        → Whole s d k (m .what) → Ready (w .receiving .end) s d k
+    pub next-ready : (p : List ℕ) → getElem? (m .packets) j ≡ some p → suc j ≡ length (m .packets) → (s d k : ℕ)
+        → Whole s d k (m .packets) → Ready (w .receiving .end) s d k
         → Ready (receiveOf (w .receiving .end) p (w .receiving .buffer) .end) s d (suc k)
     next-ready p at last s d k g h =
         elim (wanted (w .receiving .end) (w .receiving .buffer) s d k (g .few) room h) [
@@ -184,17 +186,17 @@ module _ (w : World) (eight : Eight (w .receiving .end)) (safe : SafeWorld w) (g
         handed x =
             let e = w .receiving .end in
             let shape = eight in
-            let o = genuine i m here in
+            let o = every-at (BegunIn (w .serving .published)) (w .serving .transmissions) i m begun here in
             let same =
             same-head (headed s (g .tid) k d) (headed (m .series) (o .what .tid) (suc (o .place)) (o .day)) (g .content)
             (o .what .content) j p (g .shape) (o .good)
-            (rw (g .is) at at) (rw (o .packets) at at) in
+            (rw (g .is) at at) (rw (o .all all) at at) in
             let day : d ≡ o .day = at-same d (o .day) (same .2) in
             let y = rw (same .0, same .1, day) at x in
             let done =
-            receive-completes (w .serving .published) (w .serving .messages) (w .receiving) safe i j m p here o at line
-            (omega arith) y in
-            let q = packet-handed s d k (m .what) g j p at e (w .receiving .buffer) (o .what) done in
+            receive-completes (w .serving .published) (w .serving .transmissions) (w .receiving) safe i j m p here o at line
+            all (omega arith) y in
+            let q = packet-handed s d k (m .packets) g j p at e (w .receiving .buffer) (o .what) done in
             let f = kept-same e shape s (x .open-series) (keptOf e s .date) k loggedIn in
             rw q (record {
               opens = open-stays e shape s (x .open-series) (keptOf e s .date) k loggedIn s ∙ x .open-series;

@@ -12,8 +12,8 @@ use Rattle.flow.specs.declared.series.SeriesPlace.{SeriesPlace}
 use Rattle.flow.specs.declared.series.SeriesPlace.the-variants.{At}
 use Rattle.flow.specs.declared.sender.Sender.{Sender}
 use Rattle.flow.specs.Ends.{indexOf, newSeries, noPlace, sender, daySeries, publishedOf, placeOf, withEntry}
-use Rattle.flow.specs.Ends.{withNext}
-use Rattle.flow.specs.Helpers.{Finds}
+use Rattle.flow.specs.Ends.{withPlace}
+use Rattle.flow.specs.Helpers.{Finds, placedAt}
 use Rattle.flow.proofs.series.Places.{unmapped}
 use Rattle.flow.proofs.ends.SenderLookups.{Eight}
 
@@ -51,10 +51,7 @@ module _ (e : Sender) (s i : ℕ) (at : i ≡ indexOf s (daySeries e)) where
   unfolding withEntry
   entry-at size = rw at
 
-  -- Logged in there, with a number next.
-  pub next-at : (next : ℕ)
-      → sender (e .day .date) (e .day .count) (e .day .series) (e .day .used)
-      (set (e .seat .places) i (record { login = true; next = next }))
-      ≡ withNext e s next
-  unfolding withNext
-  next-at next = rw at
+  -- Logged in there, with a number next, of which so many packets were written.
+  pub placed-at : (next piece : ℕ) → placedAt e i next piece ≡ withPlace e s next piece
+  unfolding withPlace
+  placed-at next piece = rw at

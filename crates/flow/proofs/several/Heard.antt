@@ -8,7 +8,7 @@ use borrow.Author.Tests.{eqb-true}
 use lib.ListN.{length, getElem?, length-append}
 use lib.Seq.{drop-append-seam}
 use Rattle.flow.specs.Answers.{Message}
-use Rattle.flow.specs.World.{Dated, Event, openSender, publish, login, send, openReceiver, connect, requestLogin}
+use Rattle.flow.specs.World.{Dated, Event, openSender, publish, login, send, sendPacket, openReceiver, connect, requestLogin}
 use Rattle.flow.specs.World.{confirmLogin, receive, World, step, run, inRun, inRuns}
 use Rattle.flow.specs.Agreement.{of, latest, reported, since}
 use Rattle.flow.specs.Bufferful.{unheard, heard}
@@ -35,6 +35,7 @@ step-grows w (publish s tid content) = same-grows w
 step-grows w (login s i content out) =
     by-given (Grows w) w (getElem? (w .receiving .requests) i) (same-grows w) (λ p q. same-grows w)
 step-grows w (send s out) = same-grows w
+step-grows w (sendPacket s out) = same-grows w
 step-grows w (openReceiver ss) = same-grows w
 step-grows w connect = same-grows w
 step-grows w (requestLogin s content out) = same-grows w
@@ -42,8 +43,8 @@ step-grows w (confirmLogin i) =
     by-given (Grows w) w (getElem? (w .serving .answers) i) (same-grows w)
     (λ a q. (extends-same (w .receiving .handed), extends-append (w .receiving .reports) _))
 step-grows w (receive i j) =
-    by-given (Grows w) w (getElem? (w .serving .messages) i) (same-grows w) λ m q.
-    by-given (Grows w) w (getElem? (m .what) j) (same-grows w) λ p r.
+    by-given (Grows w) w (getElem? (w .serving .transmissions) i) (same-grows w) λ m q.
+    by-given (Grows w) w (getElem? (m .packets) j) (same-grows w) λ p r.
     (extends-append (w .receiving .handed) _, extends-append (w .receiving .reports) _)
 
 -- ─── One event ───
@@ -54,6 +55,7 @@ unheard-same w (openSender date ss) q = refl
 unheard-same w (publish s tid content) q = refl
 unheard-same w (login s i content out) q = clash _ q refl
 unheard-same w (send s out) q = refl
+unheard-same w (sendPacket s out) q = refl
 unheard-same w (openReceiver ss) q = refl
 unheard-same w connect q = refl
 unheard-same w (requestLogin s content out) q = refl
@@ -109,7 +111,7 @@ module _ (s d : ℕ) where
   heard-run w g h H q [] t = ap (λ (l : List (Dated ℕ)). latest 0 (of s d l)) (append-nil H) ∙ q
   heard-run w g h H q (e ∷ es) t =
       let x = and-both (inRun w e) (inRuns (step w e) es) t in
-      let safe = step-safe w e (g .genuine) (x .0) h in
+      let safe = step-safe w e (g .begun) (x .0) h in
       let grows = step-grows w e in
       let new = cond (unheard w e) [] (since (w .receiving .reports) (step w e .receiving .reports)) in
       ap (λ (l : List (Dated ℕ)). latest 0 (of s d l)) (sym (append-assoc H new (heard (step w e) es)))

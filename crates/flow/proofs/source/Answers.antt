@@ -26,7 +26,7 @@ use Rattle.flow.proofs.common.Bools.{or-neither}
 use Rattle.flow.proofs.common.Days.{upTo-self}
 use Rattle.flow.proofs.common.Extends.{place-last}
 use Rattle.flow.proofs.calls.Serving.{LoginTests}
-use Rattle.flow.proofs.source.Moves.{Move, stays, opens, publishes, logs-in, sends}
+use Rattle.flow.proofs.source.Moves.{Move, stays, opens, publishes, logs-in, sends, sends-packet}
 use Rattle.flow.proofs.source.Served.{ServedSide}
 use Rattle.flow.proofs.source.Kept.{move-rises}
 use Rattle.flow.proofs.source.Entries.{served-day}
@@ -82,3 +82,4 @@ move-answers v u (logs-in s p content out x y c e t) h g =
     place-last (GenuineAnswer (v .day)) (v .answers) _ g
     (answer-genuine v h s x (datedOf p .date) (part p (c .start) (c .len)) content out t)
 move-answers v u (sends s x a b c) h g = g
+move-answers v u (sends-packet s x a b c d) h g = g

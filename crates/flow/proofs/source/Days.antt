@@ -16,7 +16,7 @@ use Rattle.flow.specs.Answers.{Message}
 use Rattle.flow.specs.World.{dated, Event, SenderSide, World, run, step}
 use Rattle.flow.specs.Agreement.{of}
 use Rattle.flow.proofs.common.Extends.{Extends, place-kept}
-use Rattle.flow.proofs.source.Moves.{Move, stays, opens, publishes, logs-in, sends, step-moves}
+use Rattle.flow.proofs.source.Moves.{Move, stays, opens, publishes, logs-in, sends, sends-packet, step-moves}
 use Rattle.flow.proofs.source.Growth.{Grown}
 use Rattle.flow.proofs.source.Served.{ServedSide}
 use Rattle.flow.proofs.source.Kept.{move-rises}
@@ -51,6 +51,7 @@ day-stays v u (opens date ss a b) o = absurd (omega arith)
 day-stays v u (publishes s tid content t) o = refl
 day-stays v u (logs-in s p content out h x c g t) o = refl
 day-stays v u (sends s x a b c) o = refl
+day-stays v u (sends-packet s x a b c d) o = refl
 
 pub openings-grow : (v u : SenderSide) → Move v u → v .openings ≤ u .openings
 openings-grow v u stays = omega arith
@@ -58,6 +59,7 @@ openings-grow v u (opens date ss a b) = omega arith
 openings-grow v u (publishes s tid content t) = omega arith
 openings-grow v u (logs-in s p content out h x c g t) = omega arith
 openings-grow v u (sends s x a b c) = omega arith
+openings-grow v u (sends-packet s x a b c d) = omega arith
 
 pub openings-run : (w : World) (es : List Event) → w .serving .openings ≤ run w es .serving .openings
 openings-run w [] = omega arith
@@ -88,6 +90,7 @@ move-over d v u (opens date ss a b) h o =
 move-over d v u (publishes s tid content t) h o = record { below = o .below; other = o .other }
 move-over d v u (logs-in s p content out x y c g t) h o = record { below = o .below; other = o .other }
 move-over d v u (sends s x a b c) h o = record { below = o .below; other = o .other }
+move-over d v u (sends-packet s x a b c e) h o = record { below = o .below; other = o .other }
 
 none-there : (s d t : ℕ) (day : TradeDate) (m : Message) → isDay d day ≡ false → of s d (dated t day m ∷ []) ≡ []
 none-there s d t day m q = go (eqb t s) (isDay d day) q
@@ -107,3 +110,4 @@ move-closed d s v u (publishes t tid content z) o =
     ∙ append-nil (of s d (v .published))
 move-closed d s v u (logs-in t p content out x y c g z) o = refl
 move-closed d s v u (sends t x a b c) o = refl
+move-closed d s v u (sends-packet t x a b c e) o = refl

@@ -14,8 +14,8 @@ use Rattle.ftd.specs.declared.tags.TradeDate.{TradeDate}
 use Rattle.ftd.specs.declared.tags.TradeDate.the-variants.{None, At}
 use Rattle.flow.specs.declared.sender.Sender.{Sender}
 use Rattle.flow.specs.Ends.{member, daySeries, isServed, publishedOf, placeOf}
-use Rattle.flow.specs.Log.{entryBytes, entryOf}
-use Rattle.flow.specs.Serving.{sendBytes}
+use Rattle.flow.specs.Log.{entryBytes, entryTid, entryContent, entryOf}
+use Rattle.flow.specs.Serving.{sendPackets, sendBytes}
 use Rattle.flow.specs.Answers.{Message}
 use Rattle.flow.specs.World.{Dated, packetsIn}
 use Rattle.flow.specs.Agreement.{of}
@@ -87,6 +87,11 @@ module _ (e : Sender) (log : List ℕ) (day : TradeDate) (history : List (Dated 
 
 -- ─── What is sent of it ───
 
+pub packets-sent : (e : Sender) (s tid number : ℕ) (content : List ℕ) →
+    sendPackets e s (entryBytes s tid number content)
+    ≡ packetsOf (record { date = e .day .date; tid = tid; series = s; number = placeOf e s .next }) content
+packets-sent e s tid number content = rw (tid-back s tid number content, content-back s tid number content)
+
 pub cut-sent : (e : Sender) (s tid number : ℕ) (content : List ℕ) →
     packetsIn (sendBytes e s (entryBytes s tid number content))
     ≡ packetsOf (record { date = e .day .date; tid = tid; series = s; number = placeOf e s .next }) content
@@ -95,3 +100,11 @@ cut-sent e s tid number content =
     rw (tid-back s tid number content, content-back s tid number content)
     (ap (λ (r : Run). r .entries)
     (chain-laws .cut-back (record { date = e .day .date; tid = tid; series = s; number = placeOf e s .next }) content))
+
+-- The bytes of any entry cut into its packets.
+pub cut-packets : (e : Sender) (s : ℕ) (x : List ℕ) → packetsIn (sendBytes e s x) ≡ sendPackets e s x
+unfolding sendBytes
+cut-packets e s x =
+    ap (λ (r : Run). r .entries)
+    (chain-laws .cut-back
+    (record { date = e .day .date; tid = entryTid x; series = s; number = placeOf e s .next }) (entryContent x))

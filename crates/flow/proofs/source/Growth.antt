@@ -1,8 +1,10 @@
 -- Histories of the serving side only grow. Assumes nothing.
 use mathlib.Core.List.{List}
-use Rattle.flow.specs.World.{Event, SenderSide, World, run}
+use Rattle.flow.specs.World.{Event, endedIn, SenderSide, World, run}
 use Rattle.flow.proofs.common.Extends.{Extends, extends-same, extends-append, extends-along}
-use Rattle.flow.proofs.source.Moves.{Move, stays, opens, publishes, logs-in, sends, run-keeps}
+use Rattle.flow.proofs.source.Moves.{Move, stays, opens, publishes, logs-in, sends, sends-packet, run-keeps}
+use Rattle.flow.proofs.common.Transmissions.{Onward, onward-same, onward-all, onward-ended, onward-append}
+use Rattle.flow.proofs.common.Transmissions.{onward-packet}
 
 -- ─── Histories only grow ───
 
@@ -57,6 +59,23 @@ move-grows v u (sends s x a b c) =
       messages = extends-append
           (v .messages) _;
     }
+move-grows v u (sends-packet s x a b c d) =
+    record {
+      published = extends-same (v .published);
+      answers = extends-same (v .answers);
+      messages = extends-append
+          (v .messages) _;
+    }
+
+-- Each transmission stays in its place and only grows.
+pub move-onward : (v u : SenderSide) → Move v u → Onward (v .transmissions) (u .transmissions)
+move-onward v u stays = onward-same (v .transmissions)
+move-onward v u (opens date ss a b) = onward-all (v .transmissions)
+move-onward v u (publishes s tid content t) = onward-same (v .transmissions)
+move-onward v u (logs-in s p content out h x c g t) = onward-ended s (v .transmissions)
+move-onward v u (sends s x a b c) =
+    onward-append (v .transmissions) (endedIn s (v .transmissions)) _ (onward-ended s (v .transmissions))
+move-onward v u (sends-packet s x a b c d) = onward-packet s _ _ (v .transmissions)
 
 pub run-grows : (w : World) (es : List Event) → Grown (w .serving) (run w es .serving)
 run-grows w es =

@@ -88,7 +88,7 @@ module _ (v : SenderSide) (h : ServedSide v) (s : ℕ) (out : List ℕ) where
   -- ─── Written ───
 
   sent-then : (r : Wrote Sender Sent) → SendDone end s log out r → (k n : ℕ) → r .answer ≡ Message-sent k n →
-      (placeOf end s .next ≡ k) × (placeOf (r .end) s ≡ record { login = true; next = suc k })
+      (placeOf end s .next ≡ k) × (placeOf (r .end) s ≡ record { login = true; next = suc k; piece = 0 })
   sent-then r (send-unknown a) k n q = absurd (let z : _≡_ {A = ℕ} 0 1 = cc in omega arith)
   sent-then r (send-outside a b) k n q = absurd (let z : _≡_ {A = ℕ} 0 1 = cc in omega arith)
   sent-then r (send-drained a b) k n q = absurd (let z : _≡_ {A = ℕ} 0 1 = cc in omega arith)
@@ -97,11 +97,11 @@ module _ (v : SenderSide) (h : ServedSide v) (s : ℕ) (out : List ℕ) where
   sent-then r (send-taken x a b c d) k n q =
       let same : placeOf end s .next ≡ k = cc in (
         same,
-        place-next end s (a .served) (h .eight) (suc (placeOf end s .next))
-            ∙ ap (λ (j : ℕ). record { login = true; next = suc j }) same,
+        place-next end s (a .served) (h .eight) (suc (placeOf end s .next)) 0
+            ∙ ap (λ (j : ℕ). record { login = true; next = suc j; piece = 0 }) same,
       )
 
   -- The number written was next, and next is one more.
   pub sent-next : (k n : ℕ) → sendOf end s log out .answer ≡ Message-sent k n →
-      (placeOf end s .next ≡ k) × (placeOf (sendOf end s log out .end) s ≡ record { login = true; next = suc k })
+      (placeOf end s .next ≡ k) × (placeOf (sendOf end s log out .end) s ≡ record { login = true; next = suc k; piece = 0 })
   sent-next = sent-then (sendOf end s log out) (send-cases end s log out)

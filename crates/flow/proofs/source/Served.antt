@@ -12,7 +12,7 @@ use Rattle.ftd.specs.declared.tags.TradeDate.the-variants.{None, At}
 use Rattle.flow.specs.declared.sender.Place.{Place}
 use Rattle.flow.specs.declared.sender.Sender.{Sender}
 use Rattle.flow.specs.Ends.{mostMessages, wrongSeries, upTo, freshSender, daySeries, isServed, publishedOf}
-use Rattle.flow.specs.Ends.{placeOf, withNext}
+use Rattle.flow.specs.Ends.{placeOf, withPlace}
 use Rattle.flow.specs.Answers.{Message}
 use Rattle.flow.specs.World.{Dated, SenderSide}
 use Rattle.flow.proofs.common.Days.{above-along}
@@ -90,42 +90,42 @@ module _ (e : Sender) (log : List ℕ) (day : TradeDate) (history : List (Dated 
 
     -- ─── The number that is sent next ───
 
-    module _ (s next : ℕ) (open-here : isServed e s ≡ true) (low : 1 ≤ next) (high : next ≤ publishedOf e s + 1) where
-      holds-next : Holds (withNext e s next) log (onDate day history)
-      unfolding withNext
+    module _ (s next piece : ℕ) (open-here : isServed e s ≡ true) (low : 1 ≤ next) (high : next ≤ publishedOf e s + 1) where
+      holds-next : Holds (withPlace e s next piece) log (onDate day history)
+      unfolding withPlace
       holds-next = record {
         inside = h .holds .inside;
         laid-out = h .holds .laid-out;
         sound =
-            sound-kept e (withNext e s next) (onDate day history) (served-next e s open-here next) (h .holds .sound);
+            sound-kept e (withPlace e s next piece) (onDate day history) (served-next e s open-here next piece) (h .holds .sound);
       }
 
-      date-next : withNext e s next .day .date ≡ e .day .date
-      unfolding withNext
+      date-next : withPlace e s next piece .day .date ≡ e .day .date
+      unfolding withPlace
       date-next = refl
 
-      placed-next : (u : ℕ) → isServed e u ≡ true → placeOf (withNext e s next) u .login ≡ true
-          → Placed (withNext e s next) u
+      placed-next : (u : ℕ) → isServed e u ≡ true → placeOf (withPlace e s next piece) u .login ≡ true
+          → Placed (withPlace e s next piece) u
       placed-next u q l = go (eqb u s) refl
         where
-          go : (b : Bool) → eqb u s ≡ b → Placed (withNext e s next) u
+          go : (b : Bool) → eqb u s ≡ b → Placed (withPlace e s next piece) u
           go true c =
               rw (eqb-true u s c)
-              (rw (place-next e s open-here (h .eight) next, published-next e s open-here next s) (low, high))
+              (rw (place-next e s open-here (h .eight) next piece, published-next e s open-here next piece s) (low, high))
           go false c =
-              let o = place-other e s open-here next u (eqb-false u s c) in
+              let o = place-other e s open-here next piece u (eqb-false u s c) in
               let m : placeOf e u .login ≡ true = ap (λ (p : Place). p .login) (sym o) ∙ l in
-              rw (o, published-next e s open-here next u) (h .placed u q m)
+              rw (o, published-next e s open-here next piece u) (h .placed u q m)
 
-      pub served-after : Served (withNext e s next) log day history
+      pub served-after : Served (withPlace e s next piece) log day history
       served-after = record {
-        eight = eight-next e s open-here (h .eight) next;
+        eight = eight-next e s open-here (h .eight) next piece;
         same-day = date-next ∙ h .same-day;
-        unopened = λ q. (series-next e s open-here next ∙ h .unopened q .0, h .unopened q .1);
+        unopened = λ q. (series-next e s open-here next piece ∙ h .unopened q .0, h .unopened q .1);
         counted =
-            λ u q. published-next e s open-here next u ∙ h .counted u (sym (served-next e s open-here next u) ∙ q);
+            λ u q. published-next e s open-here next piece u ∙ h .counted u (sym (served-next e s open-here next piece u) ∙ q);
         not-later = h .not-later;
         few = h .few;
         holds = holds-next;
-        placed = λ u q. placed-next u (sym (served-next e s open-here next u) ∙ q);
+        placed = λ u q. placed-next u (sym (served-next e s open-here next piece u) ∙ q);
       }

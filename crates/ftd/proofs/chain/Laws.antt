@@ -35,7 +35,7 @@ use Rattle.ftd.proofs.runs.Joined.{Entry, Entries, run-of, Local, run-e
 use Rattle.ftd.proofs.packet.Laws.{by-test}
 use Rattle.ftd.proofs.write.Laws.{message-back, message-places, dated-back, message-one}
 use Rattle.ftd.proofs.write.Puts.{length-packet, length-message}
-use Rattle.ftd.proofs.chain.Pieces.{shaped-facts, framed-count, framed-size, pieces-some}
+use Rattle.ftd.proofs.chain.Pieces.{shaped-facts, framed-count, framed-size, pieces-some, some-length}
 use Rattle.ftd.proofs.chain.Singles.{exact-shaped, one-piece}
 
 -- ─── The trade date ───
@@ -225,12 +225,8 @@ module _ (m : Message) (content : List ℕ) where
   as-many = (
     framed-count m true (piecesOf content),
     rw (framed-count m true (piecesOf content))
-        (some (piecesOf content) (pieces-some content)),
+        (some-length (piecesOf content) (pieces-some content)),
   )
-    where
-      some : (ps : List Piece) → isNil ps ≡ false → 0 < length ps
-      some [] e = let y : _≡_ {A = ℕ} 0 1 = cc in absurd (omega arith)
-      some (p ∷ ps) e = omega arith
 
   packet-at : (i : ℕ) → i < length (packetsOf m content)
       → packetAtPlace m content i ≡ packetFor m (letterAt m content i) (pieceAtPlace content i)

@@ -4,7 +4,7 @@ use mathlib.Core.Path.{_≡_, refl, sym, ap, _∙_}
 use mathlib.Core.List.{List, [], _∷_}
 use mathlib.Core.Bool.{Bool, true, false, _&&_}
 use native.Mathlib.Omega.{arith}
-use borrow.Author.Tests.{leb-true, le-leb, lt-leb, eqb-true, eqb-false}
+use borrow.Author.Tests.{leb-true, le-leb, lt-leb, eqb-true, eqb-false, eq-eqb, ne-eqb}
 use lib.ListN.{length, getD, drop, length-drop, length-take, length-append, drop-of-length-le}
 use lib.Seq.{drop-drop}
 use lib.Dec.{leb, eqb, eqb·suc-zero}
@@ -202,32 +202,46 @@ framed-drop m (suc i) first (p ∷ ps) =
     later false = refl
 
 head-of : (ls : List (List ℕ)) (i : ℕ) (x : List ℕ) (xs : List (List ℕ)) → drop i ls ≡ x ∷ xs
-    → (getD ls i [] ≡ x) × (i < length ls)
+    → (getD ls i [] ≡ x) × (length ls ≡ i + 1 + length xs)
 head-of [] zero x xs e = let y = ap length e in absurd (omega arith)
 head-of [] (suc i) x xs e = let y = ap length e in absurd (omega arith)
-head-of (l ∷ ls) zero x xs e = (cc, omega arith)
+head-of (l ∷ ls) zero x xs e = let y = ap length e in (cc, omega arith)
 head-of (l ∷ ls) (suc i) x xs e = let h = head-of ls i x xs e in (h .0, omega (arith, h .1))
 
--- Packet i of a message, from piece i of its content.
+pub some-length : (ps : List Piece) → isNil ps ≡ false → 0 < length ps
+some-length [] e = let y : _≡_ {A = ℕ} 0 1 = cc in absurd (omega arith)
+some-length (p ∷ ps) e = omega arith
+
+-- Packet i of a message, from piece i of its content: its bytes, that there is one, and whether it is the last.
 pub packet-here : (m : Message) (content : List ℕ) (i at : ℕ) (c : Cut) → NextPiece content at c
     → shapely (runOf field (drop at content)) ≡ true → drop i (piecesOf content) ≡ piecesOf (drop at content)
     → (getD (packetsOf m content) i [] ≡ packetFor m (chainAt (eqb i 0) (eqb (c .end) (length content)))
     (pieceAt content at c)) × (i < length (packetsOf m content))
+    × (eqb (i + 1) (length (packetsOf m content)) ≡ eqb (c .end) (length content))
 unfolding packetsOf
 packet-here m content i at c next s e = go (eqb (c .end) (length content)) refl
   where
+    all : List (List ℕ)
+    all = framed m true (piecesOf content)
+
+    from : drop i all ≡ framed m (eqb i 0) (piecesOf (drop at content))
+    from = framed-drop m i true (piecesOf content) ∙ ap (framed m (eqb i 0)) e
+
     go : (b : Bool) → eqb (c .end) (length content) ≡ b
-        → (getD (framed m true (piecesOf content)) i [] ≡ packetFor m (chainAt (eqb i 0) b) (pieceAt content at c))
-        × (i < length (framed m true (piecesOf content)))
+        → (getD all i [] ≡ packetFor m (chainAt (eqb i 0) b) (pieceAt content at c)) × (i < length all)
+        × (eqb (i + 1) (length all) ≡ b)
     go true q =
-        head-of (framed m true (piecesOf content)) i _ _
-        (framed-drop m i true (piecesOf content) ∙ ap (framed m (eqb i 0)) e
-        ∙ frame-last content at c next s m (eqb i 0) (eqb-true (c .end) (length content) q))
+        let h =
+        head-of all i _ _ (from ∙ frame-last content at c next s m (eqb i 0)
+        (eqb-true (c .end) (length content) q)) in
+        (h .0, omega (arith, h .1), eq-eqb (i + 1) (length all) (omega (arith, h .1)))
     go false q =
-        head-of (framed m true (piecesOf content)) i _ _
-        (framed-drop m i true (piecesOf content) ∙ ap (framed m (eqb i 0)) e
-        ∙ frame-more content at c next s m (eqb i 0)
-        (below (c .end) (length content) (next .high) (eqb-false (c .end) (length content) q)))
+        let more : c .end < length content =
+        below (c .end) (length content) (next .high) (eqb-false (c .end) (length content) q) in
+        let h = head-of all i _ _ (from ∙ frame-more content at c next s m (eqb i 0) more) in
+        let k : 0 < length (framed m false (piecesOf (drop (c .end) content))) =
+        rw framed-count (some-length (piecesOf (drop (c .end) content)) (pieces-some (drop (c .end) content))) in
+        (h .0, omega (arith, h .1), ne-eqb (i + 1) (length all) (λ x. omega (arith, h .1)))
 
 pub packet-none : (m : Message) (content : List ℕ) (i : ℕ) → length (piecesOf content) ≤ i
     → length (packetsOf m content) ≤ i

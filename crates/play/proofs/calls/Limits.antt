@@ -17,7 +17,7 @@ use Rattle.play.specs.declared.calls.Verb.the-variants.{Answer as NamesA
 use Rattle.play.specs.declared.calls.Verb.the-variants.{State as NamesState, Calendar as NamesCalendar}
 use Rattle.play.specs.declared.calls.Verb.the-variants.{Mark as NamesMark, Book as NamesBook, Take as NamesTake}
 use Rattle.play.specs.declared.calls.Verb.the-variants.{Level as NamesLevel, Mean as NamesMean, ReceiveAll as NamesReceiveAll}
-use Rattle.play.specs.declared.calls.Verb.the-variants.{PublishAll as NamesPublishAll}
+use Rattle.play.specs.declared.calls.Verb.the-variants.{PublishAll as NamesPublishAll, SendPacket as NamesSendPacket}
 use Rattle.play.specs.declared.calls.Call.{Call}
 use Rattle.play.specs.declared.calls.Call.the-variants.{Bad, OpenDay, Login, Send, OpenEnd, Connect}
 use Rattle.play.specs.declared.calls.Call.the-variants.{Ask, Receive, State, SetCalendar, StartBook, ShowLevel, ShowMean}
@@ -55,9 +55,9 @@ login-limited : (b : Bool) (x y : ℕ) → Limited (loginCallWith b x y)
 unfolding loginCallWith
 login-limited b x y = either b _ (λ _. unless x 65535 _ (λ _. unless y 65536 _ (λ h. h)))
 
-send-limited : (b : Bool) (x y : ℕ) → Limited (sendWith b x y)
+send-limited : (b : Bool) (x y : ℕ) (single : Bool) → Limited (sendWith b x y single)
 unfolding sendWith
-send-limited b x y = either b _ (λ _. unless x 65535 _ (λ _. unless y 65536 _ (λ h. h)))
+send-limited b x y single = either b _ (λ _. unless x 65535 _ (λ _. unless y 65536 _ (λ h. h)))
 
 end-limited : (n : ℕ) → Limited (openEndWith n)
 unfolding openEndWith
@@ -107,7 +107,7 @@ named-limited line NamesBuffers = buffers-limited _ _ _
 named-limited line NamesOpenDay = day-limited _ _
 named-limited line NamesPublish = publish-limited _ _ _
 named-limited line NamesLogin = login-limited _ _ _
-named-limited line NamesSend = send-limited _ _ _
+named-limited line NamesSend = send-limited _ _ _ false
 named-limited line NamesOpenEnd = end-limited _
 named-limited line NamesConnect = plain-limited _ Connect tt
 named-limited line NamesAsk = time-limited _ _ _ (ask-limited _ _ _)
@@ -122,6 +122,7 @@ named-limited line NamesLevel = level-limited _ _ _ _
 named-limited line NamesMean = plain-limited _ ShowMean tt
 named-limited line NamesReceiveAll = plain-limited _ ReceiveAll tt
 named-limited line NamesPublishAll = plain-limited _ PublishAll tt
+named-limited line NamesSendPacket = send-limited _ _ _ true
 
 pub limited : (line : List ℕ) (c : Call) → c ≡ callOf line → Limited c
 unfolding callOf
@@ -146,8 +147,8 @@ module _ (c : Call) (h : Limited c) where
   pub login-limit : (s n : ℕ) → c ≡ Login s n → n ≤ 65536
   login-limit s n e = rw e at h
 
-  pub send-limit : (s n : ℕ) → c ≡ Send s n → n ≤ 65536
-  send-limit s n e = rw e at h
+  pub send-limit : (s n : ℕ) (single : Bool) → c ≡ Send s n single → n ≤ 65536
+  send-limit s n single e = rw e at h
 
   pub ask-limit : (s n : ℕ) → c ≡ Ask s n → n ≤ 65536
   ask-limit s n e = rw e at h

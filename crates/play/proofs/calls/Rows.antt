@@ -15,7 +15,7 @@ use Rattle.play.specs.declared.calls.Verb.the-variants.{Answer as NamesA
 use Rattle.play.specs.declared.calls.Verb.the-variants.{State as NamesState, Calendar as NamesCalendar}
 use Rattle.play.specs.declared.calls.Verb.the-variants.{Mark as NamesMark, Book as NamesBook, Take as NamesTake}
 use Rattle.play.specs.declared.calls.Verb.the-variants.{Level as NamesLevel, Mean as NamesMean, ReceiveAll as NamesReceiveAll}
-use Rattle.play.specs.declared.calls.Verb.the-variants.{PublishAll as NamesPublishAll}
+use Rattle.play.specs.declared.calls.Verb.the-variants.{PublishAll as NamesPublishAll, SendPacket as NamesSendPacket}
 use Rattle.play.specs.declared.calls.Call.{Call}
 use Rattle.play.specs.declared.calls.Call.the-variants.{Bad, Connect, Receive, State, StartBook, ShowMean, ReceiveAll, PublishAll}
 use Rattle.play.specs.Words.{endOf, tidIn, sameWord, argument, hasForm, seriesCount, wordCount}
@@ -52,9 +52,13 @@ module _ (line : List ℕ) (v : Verb) (r : Call) where
         → y ≡ numberAt line 1 → r ≡ namedCall line v
     names-login k e h q p = rw (e, ← h, ← q, ← p) k
 
-    pub names-send : r ≡ sendWith b x y → v ≡ NamesSend → b ≡ hasForm line 2 0 → x ≡ numberAt line 0
+    pub names-send : r ≡ sendWith b x y false → v ≡ NamesSend → b ≡ hasForm line 2 0 → x ≡ numberAt line 0
         → y ≡ numberAt line 1 → r ≡ namedCall line v
     names-send k e h q p = rw (e, ← h, ← q, ← p) k
+
+    pub names-packet : r ≡ sendWith b x y true → v ≡ NamesSendPacket → b ≡ hasForm line 2 0 → x ≡ numberAt line 0
+        → y ≡ numberAt line 1 → r ≡ namedCall line v
+    names-packet k e h q p = rw (e, ← h, ← q, ← p) k
 
     pub names-ask : (a : Bool) (z : ℕ) (c : Call) → r ≡ timeWith a z c → v ≡ NamesAsk → a ≡ hasForm line 1 0
         → z ≡ numberAt line 0 → c ≡ askWith b x y → b ≡ hasForm line 2 1 → x ≡ numberAt line 0 → y ≡ numberAt line 1

@@ -89,9 +89,10 @@ module _ (p : Player) (line log chain : List ℕ) (call : Call) (r : Played) (t 
       → Plays (readyTurn p line log chain call) r t t′ log chain
   ready-login s n e h = rw e (h, refl, refl)
 
-  pub ready-send : (s n : ℕ) → call ≡ Send s n → PlaysSend p s log n r t t′
+  pub ready-send : (s n : ℕ) (single : Bool) → call ≡ Send s n single → PlaysSend p s log n single r t t′
       → Plays (readyTurn p line log chain call) r t t′ log chain
-  ready-send s n e h = rw e (h, refl, refl)
+  ready-send s n true e h = rw e (h, refl, refl)
+  ready-send s n false e h = rw e (h, refl, refl)
 
   pub ready-end : (n : ℕ) → call ≡ OpenEnd n → ShowsOpenEnd p (seriesFrom line 0 n) r t t′
       → Plays (readyTurn p line log chain call) r t t′ log chain
@@ -159,7 +160,7 @@ module _ (p : Player) (line log chain : List ℕ) (call : Call) (r : Played) (t 
   others (OpenDay date n) k = refl
   others (Publish s tid) k = refl
   others (Login s n) k = refl
-  others (Send s n) k = refl
+  others (Send s n single) k = refl
   others (OpenEnd n) k = refl
   others Connect k = refl
   others (Ask s n) k = refl

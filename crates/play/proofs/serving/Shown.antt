@@ -2,19 +2,21 @@
 use Prim.Native.Nat.{ℕ}
 use mathlib.Core.Path.{_≡_, ap}
 use mathlib.Core.List.{List, _++_}
+use mathlib.Core.Bool.{Bool, true, false}
 use lib.ListN.{replicate, take, drop}
 use Rattle.flow.specs.declared.sender.Sender.{Sender}
 use Rattle.flow.specs.declared.sender.Opened.{Opened}
 use Rattle.flow.specs.declared.sender.Published.{Published}
 use Rattle.flow.specs.declared.sender.LoggedIn.{LoggedIn}
 use Rattle.flow.specs.declared.sender.Sent.{Sent}
-use Rattle.flow.specs.Serving.{loginOf, sendOf}
+use Rattle.flow.specs.declared.sender.SentPacket.{SentPacket}
+use Rattle.flow.specs.Serving.{loginOf, sendOf, sendPacketOf}
 use Rattle.listing.specs.Text.{WroteText}
 use Rattle.play.specs.declared.player.Player.{Player}
 use Rattle.play.specs.declared.player.Played.{Played}
-use Rattle.play.specs.Lines.{openedLine, publishedLine, loginAnswerLine, sentLine}
+use Rattle.play.specs.Lines.{openedLine, publishedLine, loginAnswerLine, sentLine, sentPacketLine}
 use Rattle.play.specs.Played.{withSender, ShowsOpenDay, ShowsPublish, ShowsLogin, ShowsSend, PlaysPublish}
-use Rattle.play.specs.Played.{PlaysLogin, PlaysSend}
+use Rattle.play.specs.Played.{PlaysLogin, ShowsSendPacket, PlaysSend}
 
 pub sender-is : (p pl : Player) (e m : Sender) → pl ≡ withSender p e → e ≡ m → pl ≡ withSender p m
 sender-is p pl e m q f = rw (← f) q
@@ -57,6 +59,20 @@ module _ (n : ℕ) (o : List ℕ) (z : o ≡ replicate n 0) where
     pub send-bytes : (b : List ℕ) → b ≡ sendOf x s log o .bytes → b ≡ sendOf x s log (replicate n 0) .bytes
     send-bytes b g = rw (← z) g
 
+    pub packet-sender : (p pl : Player) (e : Sender) → pl ≡ withSender p e → e ≡ sendPacketOf x s log o .end
+        → pl ≡ withSender p (sendPacketOf x s log (replicate n 0) .end)
+    packet-sender p pl e q f = rw (← z, ← f) q
+
+    pub packet-shown : {l t : List ℕ} {to : ℕ} (a : SentPacket) (b : List ℕ) → a ≡ sendPacketOf x s log o .answer
+        → b ≡ sendPacketOf x s log o .bytes → WroteText l 0 (sentPacketLine b a) t to
+        → WroteText l 0 (sentPacketLine (sendPacketOf x s log (replicate n 0) .bytes)
+        (sendPacketOf x s log (replicate n 0) .answer)) t to
+    packet-shown a b f g q = rw (← z, ← f, ← g) q
+
+    pub packet-bytes : (b : List ℕ) → b ≡ sendPacketOf x s log o .bytes
+        → b ≡ sendPacketOf x s log (replicate n 0) .bytes
+    packet-bytes b g = rw (← z) g
+
 -- ─── The call of a line ───
 
 module _ (p : Player) (r : Played) (t t′ : List ℕ) where
@@ -75,6 +91,11 @@ module _ (p : Player) (r : Played) (t t′ : List ℕ) where
       → PlaysLogin p s said given room r t t′
   login-played s n room packet content said given out h z e f = rw (← z, ← e, ← f) (h .0)
 
-  pub send-played : (s n room : ℕ) (log out : List ℕ) → ShowsSend p s (take (p .log) log) n out r t t′ → n ≡ room
-      → PlaysSend p s log room r t t′
-  send-played s n room log out h z = rw (← z) (h .0)
+  module _ (s n room : ℕ) (single : Bool) (log out : List ℕ) where
+    pub send-played : single ≡ false → ShowsSend p s (take (p .log) log) n out r t t′ → n ≡ room
+        → PlaysSend p s log room single r t t′
+    send-played e h z = rw (e, ← z) (h .0)
+
+    pub packet-played : single ≡ true → ShowsSendPacket p s (take (p .log) log) n out r t t′ → n ≡ room
+        → PlaysSend p s log room single r t t′
+    packet-played e h z = rw (e, ← z) (h .0)

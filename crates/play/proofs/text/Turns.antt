@@ -3,6 +3,7 @@
 use Prim.Native.Nat.{ℕ, zero, suc, _+_, _-_, _*_, _<_, _≤_}
 use mathlib.Core.Path.{_≡_, refl, sym}
 use mathlib.Core.List.{List, [], _∷_, _++_, append-nil, append-assoc}
+use mathlib.Core.Bool.{Bool, true, false}
 use native.Mathlib.Numerals.{add-one}
 use native.Mathlib.Omega.{arith}
 use borrow.Author.Tests.{eq-eqb, ne-eqb}
@@ -27,6 +28,10 @@ use Rattle.flow.specs.declared.sender.Sent.{Sent}
 use Rattle.flow.specs.declared.sender.Sent.the-variants.{Drained}
 use Rattle.flow.specs.declared.sender.Sent.the-variants.{Wrote as MessageSent}
 use Rattle.flow.specs.declared.sender.Sent.the-variants.{Refused as NotSent}
+use Rattle.flow.specs.declared.sender.SentPacket.{SentPacket}
+use Rattle.flow.specs.declared.sender.SentPacket.the-variants.{Drained as NoPacket}
+use Rattle.flow.specs.declared.sender.SentPacket.the-variants.{Wrote as PacketSent}
+use Rattle.flow.specs.declared.sender.SentPacket.the-variants.{Refused as NotPacket}
 use Rattle.flow.specs.declared.receiver.Requested.{Requested}
 use Rattle.flow.specs.declared.receiver.Requested.the-variants.{Wrote as Asked}
 use Rattle.flow.specs.declared.receiver.Requested.the-variants.{Refused as NotAsked}
@@ -46,10 +51,10 @@ use Rattle.calendar.specs.declared.trading.TradeTime.the-variants.{Outside, Ins
 use Rattle.ftd.specs.Bytes.{part}
 use Rattle.ftd.specs.declared.packet.Span.{Span}
 use Rattle.flow.specs.Answers.{contentIn}
-use Rattle.play.specs.Lines.{hexBytes, contentText, wordLine, numbered, bytesLine, refusedLine, openedLine}
-use Rattle.play.specs.Lines.{publishedLine, loginAnswerLine, sentLine, opened, published, login, sent, none}
-use Rattle.play.specs.Lines.{requestedLine, confirmedLine, messageLine, receivedLine, asked, answered, idle, again}
-use Rattle.play.specs.Lines.{Passing, held, set, inside, outside, date, setLine, timeLine, dateLine}
+use Rattle.play.specs.Lines.{hexBytes, contentText, gap, wordLine, numbered, bytesLine, refusedLine, openedLine}
+use Rattle.play.specs.Lines.{publishedLine, loginAnswerLine, sentLine, packetLine, sentPacketLine, opened, published, login}
+use Rattle.play.specs.Lines.{sent, packet, lastGap, moreGap, none, requestedLine, confirmedLine, messageLine, receivedLine, asked}
+use Rattle.play.specs.Lines.{answered, idle, again, Passing, held, set, inside, outside, date, setLine, timeLine, dateLine}
 
 pub hex-append : (l m : List ℕ) → hexBytes (l ++ m) ≡ hexBytes l ++ hexBytes m
 unfolding hexBytes
@@ -147,9 +152,9 @@ module _ (a : Received) (at to : ℕ) where
   stops-refused r e = rw e tt
 
 module _ {l o : List ℕ} {to : ℕ} where
-  pub front-all : (w b : List ℕ) (n : ℕ) → length b ≤ n → WroteText l 0 (bytesLine w b) o to
-      → WroteText l 0 (bytesLine w (take n b)) o to
-  front-all w b n h q = rw (take-all n b h) q
+  pub front-all : (w g b : List ℕ) (n : ℕ) → length b ≤ n → WroteText l 0 (bytesLine w g b) o to
+      → WroteText l 0 (bytesLine w g (take n b)) o to
+  front-all w g b n h q = rw (take-all n b h) q
 
   pub refused-is : (x n : ℕ) (r : Refusal) → x ≡ n → n ≡ numberOf r → WroteText l 0 (wordLine (numbered refused x)) o to
       → WroteText l 0 (refusedLine r) o to
@@ -172,7 +177,7 @@ module _ {l o : List ℕ} {to : ℕ} where
       → WroteText l 0 (publishedLine a) o to
   published-not a r e q = rw e q
 
-  pub login-as : (a : LoggedIn) (b : List ℕ) (n : ℕ) → a ≡ Answered n → WroteText l 0 (bytesLine login (take n b)) o to
+  pub login-as : (a : LoggedIn) (b : List ℕ) (n : ℕ) → a ≡ Answered n → WroteText l 0 (bytesLine login gap (take n b)) o to
       → WroteText l 0 (loginAnswerLine b a) o to
   login-as a b n e q = rw e q
 
@@ -184,7 +189,7 @@ module _ {l o : List ℕ} {to : ℕ} where
       → WroteText l 0 (sentLine b a) o to
   sent-none a b e q = rw e q
 
-  pub sent-as : (a : Sent) (b : List ℕ) (k n : ℕ) → a ≡ MessageSent k n → WroteText l 0 (bytesLine sent (take n b)) o to
+  pub sent-as : (a : Sent) (b : List ℕ) (k n : ℕ) → a ≡ MessageSent k n → WroteText l 0 (bytesLine sent gap (take n b)) o to
       → WroteText l 0 (sentLine b a) o to
   sent-as a b k n e q = rw e q
 
@@ -192,7 +197,29 @@ module _ {l o : List ℕ} {to : ℕ} where
       → WroteText l 0 (sentLine b a) o to
   sent-not a b r e q = rw e q
 
-  pub requested-as : (a : Requested) (b : List ℕ) (n : ℕ) → a ≡ Asked n → WroteText l 0 (bytesLine asked (take n b)) o to
+  pub packet-last : (b : Bool) (x : List ℕ) → b ≡ true → WroteText l 0 (bytesLine packet lastGap x) o to
+      → WroteText l 0 (packetLine b x) o to
+  unfolding packetLine
+  packet-last b x e q = rw e q
+
+  pub packet-more : (b : Bool) (x : List ℕ) → b ≡ false → WroteText l 0 (bytesLine packet moreGap x) o to
+      → WroteText l 0 (packetLine b x) o to
+  unfolding packetLine
+  packet-more b x e q = rw e q
+
+  module _ (a : SentPacket) (b : List ℕ) where
+    pub one-none : a ≡ NoPacket → WroteText l 0 (wordLine none) o to → WroteText l 0 (sentPacketLine b a) o to
+    one-none e q = rw e q
+
+    pub one-as : (k n : ℕ) (isLast : Bool) → a ≡ PacketSent k n isLast
+        → WroteText l 0 (packetLine isLast (take n b)) o to → WroteText l 0 (sentPacketLine b a) o to
+    one-as k n isLast e q = rw e q
+
+    pub one-not : (r : Refusal) → a ≡ NotPacket r → WroteText l 0 (refusedLine r) o to
+        → WroteText l 0 (sentPacketLine b a) o to
+    one-not r e q = rw e q
+
+  pub requested-as : (a : Requested) (b : List ℕ) (n : ℕ) → a ≡ Asked n → WroteText l 0 (bytesLine asked gap (take n b)) o to
       → WroteText l 0 (requestedLine b a) o to
   requested-as a b n e q = rw e q
 

@@ -9,7 +9,7 @@ use reader::generate::{known_field_bytes, raw_field, Random};
 use reader::items::known_field;
 use reader::packet::{said_length, u16_at, u32_at};
 use reader::receiving::{Received, Receiving};
-use reader::serving::Serving;
+use reader::serving::{OnePacket, Serving};
 use reader::several::Stop;
 use std::hint::black_box;
 
@@ -46,6 +46,17 @@ fn called_login(
 #[inline(never)]
 fn called_send(mut end: Serving, series: u16, log: &[u8], out: &mut Vec<u8>) -> (Serving, Result<Option<u32>, u8>) {
     let answer = end.send(series, log, ROOM, out);
+    (end, answer)
+}
+
+#[inline(never)]
+fn called_send_packet(
+    mut end: Serving,
+    series: u16,
+    log: &[u8],
+    out: &mut Vec<u8>,
+) -> (Serving, Result<Option<OnePacket>, u8>) {
+    let answer = end.send_packet(series, log, ROOM, out);
     (end, answer)
 }
 
@@ -188,6 +199,51 @@ fn sends(bench: &Bench, name: &str, day: &Day, sends: usize, times: usize) {
                 let answer;
                 (end, answer) = called_send(end, 2, &day.log, called);
                 sum += answer.ok().flatten().map_or(0, |number| u64::from(number) + called.len() as u64);
+            }
+        }
+        sum
+    });
+}
+
+/// Packets sent one by one from the state that the day is in: so many, and that so often.
+fn packet_sends(bench: &Bench, name: &str, day: &Day, packets: usize, times: usize) {
+    let mut out = vec![0; ROOM];
+    let mut vectors = [(); 2].map(|()| Vec::with_capacity(ROOM));
+    let [theirs, called] = &mut vectors;
+    let sum_of = |answer: Result<Option<OnePacket>, u8>, out: &[u8]| {
+        let one = answer.ok().flatten();
+        one.map_or(0, |one| u64::from(one.number) + u64::from(one.last) + out.len() as u64)
+    };
+    let mut library = || {
+        let mut sum = 0;
+        for _ in 0..times {
+            let mut end = day.library;
+            for _ in 0..packets {
+                let answer = end.send_packet(2, &day.log, &mut out);
+                end = answer.end;
+                sum += u64::from(answer.number) + u64::from(answer.last) + answer.bytes as u64;
+            }
+        }
+        sum
+    };
+    bench.compare(name, &mut library, || {
+        let mut sum = 0;
+        for _ in 0..times {
+            let mut end = day.model;
+            for _ in 0..packets {
+                sum += sum_of(end.send_packet(2, &day.log, ROOM, theirs), theirs);
+            }
+        }
+        sum
+    });
+    bench.compare(&format!("{name}, as a call"), &mut library, || {
+        let mut sum = 0;
+        for _ in 0..times {
+            let mut end = day.model;
+            for _ in 0..packets {
+                let answer;
+                (end, answer) = called_send_packet(end, 2, &day.log, called);
+                sum += sum_of(answer, called);
             }
         }
         sum
@@ -437,6 +493,7 @@ fn main() {
     sends(&bench, "Send, 10 of a short log", &day(10, TID, &row, 1), 10, 100);
     sends(&bench, "Send, the last of 10,000", &day(10_000, TID, &row, 10_000), 1, 10);
     sends(&bench, "Send, 17 packets", &day(1, 0x7777, &long, 1), 1, 500);
+    packet_sends(&bench, "Send, 17 one by one", &day(1, 0x7777, &long, 1), 17, 500);
     let singles: Vec<Vec<u8>> = (1..=1000).flat_map(|number| packets(number, &row)).collect();
     receives(&bench, "Receive, 1,000 S", &singles, 1);
     let chain = packets(1, &long);

@@ -24,13 +24,16 @@ fn main() {
     }
     let seconds = start.elapsed().as_secs_f64();
     println!(
-        "{} calls in {count} lists, {} answers and buffers compared, {} checks of demand 3, {:.1} s, {:.0} calls a second",
+        "{} calls in {count} lists, {} answers and buffers compared, {} checks of demand 3 ({} that all has arrived), {:.1} s, \
+         {:.0} calls a second",
         lists.calls,
         lists.world.asked.0,
         lists.demand,
+        lists.arrived,
         seconds,
         lists.calls as f64 / seconds
     );
+    println!("messages sent packet by packet, and what broke the others off: {:?}", lists.transmissions);
     for ((call, name, row), n) in &lists.answers {
         match row {
             0 => println!("  {call}: {name} {n}"),

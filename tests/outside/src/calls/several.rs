@@ -3,6 +3,7 @@
 
 use super::{damaged, late, Kind, Lists};
 use crate::ends::{ReceivedSeveral, IN_PACKET, SEVERAL_END, SEVERAL_MESSAGE, SEVERAL_REFUSED, SEVERAL_SHORT};
+use crate::history::Delivery;
 use crate::several::{record, record_length};
 use reader::generate::Random;
 use reader::packet::{read, said_length, u16_at, u32_at, Packet};
@@ -22,36 +23,42 @@ impl Lists {
     }
 
     /// What a line brings: messages that were sent, some broken off, and other packets between them; where packets are damaged or
-    /// made up, such ones too.
-    fn brought(&self, r: &mut Random) -> Vec<u8> {
-        let mut bytes = vec![];
+    /// made up, such ones too. Gives the bytes, and what is delivered with them.
+    fn brought(&self, r: &mut Random) -> (Vec<u8>, Vec<Delivery>) {
+        let (mut bytes, mut whole) = (vec![], vec![]);
         for _ in 0..r.within(1, 5) {
             match r.below(8) {
                 0 => bytes.extend(r.pick(&[&[0, 2, 0, 0, 4, 0][..], &[1, 0, 0, 0], &[7, 0, 0, 1, 0]])),
                 1 | 2 if self.kind != Kind::Honest => bytes.extend(self.made_up_packet(r)),
                 _ => {
-                    let packets = late(r, &self.line.messages).map_or(vec![], |(_, packets)| packets);
-                    let count = if r.once_in(5) { r.below(packets.len() + 1) } else { packets.len() };
-                    for packet in &packets[..count] {
+                    let Some(one) = late(r, &self.line.messages) else { continue };
+                    let count = if r.once_in(5) { r.below(one.packets.len() + 1) } else { one.packets.len() };
+                    for packet in &one.packets[..count] {
                         if self.kind != Kind::Honest && r.once_in(12) {
                             bytes.extend(damaged(r, packet));
                         } else {
                             bytes.extend(&packet[..]);
                         }
                     }
+                    whole.extend(one.sent.filter(|_| count == one.packets.len()));
                 }
             }
         }
-        bytes
+        (bytes, whole)
     }
 
     pub(super) fn receive_several(&mut self, r: &mut Random) -> Result<(), String> {
-        let bytes = self.brought(r);
+        let (bytes, whole) = self.brought(r);
         let (cut, buffer) = (r.below(bytes.len() + 1), self.buffer(r));
-        self.receive_cut(&bytes, cut, buffer)
+        self.receive_cut(&bytes, cut, buffer)?;
+        for one in whole {
+            self.history.delivered(&one);
+        }
+        Ok(())
     }
 
     pub(super) fn receive_cut(&mut self, bytes: &[u8], cut: usize, buffer: usize) -> Result<(), String> {
+        self.lent(buffer);
         let mut taken = 0;
         for to in [cut, bytes.len()] {
             loop {
@@ -88,7 +95,7 @@ impl Lists {
     fn records(&self, r: &mut Random) -> Vec<u8> {
         let mut bytes = vec![];
         for _ in 0..r.below(6) {
-            let (series, (tid, content)) = (self.series(r), self.contents.message(r));
+            let (series, (tid, content)) = (self.series(r), self.contents.message(r, self.large()));
             bytes.extend(record(series, tid, &content));
         }
         let mut last = record(self.series(r), 0x7777, &[]);

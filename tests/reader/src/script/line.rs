@@ -1,13 +1,16 @@
 //! Both ends over a faulty line: what one end printed is given to the other, lost, repeated, late, out of order, broken off.
-//! Packets that are given are copies of printed ones, those of a message as a run from its first on.
+//! Packets that are given are copies of printed ones, those of a message as a run from its first on. Messages are sent whole
+//! or packet by packet; the packets of an unfinished one are given as soon as they are printed.
 
 use super::parts::*;
 use super::receiving::SERIES;
 use super::{Script, ROOM};
 use crate::generate::Random;
 use crate::packet::said_length;
+use std::collections::BTreeMap;
 
-/// What the line has seen: login packets, answers with the series of their login, messages sent as lists of packets.
+/// What the line has seen: login packets, answers with the series of their login, messages sent as lists of packets, of
+/// those that are broken off the first few.
 #[derive(Default)]
 struct Line {
     logins: Vec<(u16, Vec<u8>)>,
@@ -15,6 +18,8 @@ struct Line {
     messages: Vec<(u16, Vec<Vec<u8>>)>,
     /// How many of these are of earlier days.
     old: usize,
+    /// Which of these is unfinished, of each series that has one: its next packet goes behind those that it has.
+    unfinished: BTreeMap<u16, usize>,
 }
 
 /// A day: what it adds to the mark, the series that the serving end opens, in its order, and how many packets its long
@@ -42,17 +47,21 @@ fn cut_apart(mut bytes: &[u8]) -> Vec<Vec<u8>> {
     packets
 }
 
-/// One of the last few, mostly; else any.
+/// The place of one of the last few, mostly; else of any.
+fn late_place(r: &mut Random, count: usize) -> Option<usize> {
+    let few = count.min(3);
+    let i = if few == 0 || r.once_in(6) { r.below(count.max(1)) } else { count - 1 - r.below(few) };
+    (i < count).then_some(i)
+}
+
 fn late<T: Clone>(r: &mut Random, all: &[T]) -> Option<T> {
-    let few = all.len().min(3);
-    let i = if few == 0 || r.once_in(6) { r.below(all.len().max(1)) } else { all.len() - 1 - r.below(few) };
-    all.get(i).cloned()
+    late_place(r, all.len()).map(|i| all[i].clone())
 }
 
 /// Days from a first mark on, over one receiving end, which is opened if it isn't yet. At the end of each day all has
 /// arrived.
 pub fn faulty_line(s: &mut Script, first: u32) {
-    let mut r = Random::new(44);
+    let mut r = Random::new(34);
     let mut line = Line::default();
     if s.receiving.open.is_empty() {
         // Before the receiving end has its series, nothing arrives.
@@ -61,6 +70,7 @@ pub fn faulty_line(s: &mut Script, first: u32) {
     }
     for (mark, series, longs) in DAYS {
         s.open(first + mark, series, "opened");
+        line.unfinished.clear();
         let mut longs = longs.to_vec();
         for step in 0..220 {
             if step % 60 == 40 {
@@ -74,6 +84,7 @@ pub fn faulty_line(s: &mut Script, first: u32) {
         s.state();
         catch_up(s, &mut line, series);
         s.state();
+        begin_anew(s, &mut line, series);
         line.old = line.messages.len();
     }
 }
@@ -95,7 +106,9 @@ fn a_step(s: &mut Script, r: &mut Random, line: &mut Line, series: &[u16]) {
                 _ = s.answered(of, &packet);
             }
         }
-        9..=12 => send(s, line, one),
+        9..=10 => send(s, line, one),
+        11 => _ = send_packet(s, line, one),
+        12 => as_written(s, r, line, one),
         13..=16 => run(s, r, line),
         17 => {
             if r.once_in(8) {
@@ -128,13 +141,29 @@ fn ask(s: &mut Script, line: &mut Line, series: u16) {
 fn login(s: &mut Script, line: &mut Line, series: u16, packet: &[u8]) {
     if let Some(answer) = s.logged_in(series, ROOM, packet, &right(ANSWER)) {
         line.answers.push((series, answer));
+        line.unfinished.remove(&series);
     }
 }
 
 fn send(s: &mut Script, line: &mut Line, series: u16) {
     if let Some(bytes) = s.sent(series, ROOM) {
         line.messages.push((series, cut_apart(&bytes)));
+        line.unfinished.remove(&series);
     }
+}
+
+/// Gives whether a packet was written.
+fn send_packet(s: &mut Script, line: &mut Line, series: u16) -> bool {
+    let Some((packet, last)) = s.sent_packet(series, ROOM) else { return false };
+    let place = *line.unfinished.entry(series).or_insert(line.messages.len());
+    if place == line.messages.len() {
+        line.messages.push((series, vec![]));
+    }
+    line.messages[place].1.push(packet);
+    if last {
+        line.unfinished.remove(&series);
+    }
+    true
 }
 
 fn whole_login(s: &mut Script, line: &mut Line, series: u16) {
@@ -149,20 +178,63 @@ fn whole_login(s: &mut Script, line: &mut Line, series: u16) {
 
 /// A message of today or of an earlier day: all its packets or the first few, with calls of the serving end between them.
 fn run(s: &mut Script, r: &mut Random, line: &mut Line) {
-    let days = if r.once_in(10) { &line.messages[..line.old] } else { &line.messages[line.old..] };
-    let Some((_, packets)) = late(r, days) else { return };
+    let days = if r.once_in(10) { 0..line.old } else { line.old..line.messages.len() };
+    let Some(place) = late_place(r, days.len()).map(|i| days.start + i) else { return };
+    let packets = line.messages[place].1.len();
     // Long ones seldom arrive whole: the script stays small.
-    let most = if packets.len() > 4 && !r.once_in(6) { 3 } else { packets.len() };
-    let count = if r.once_in(4) || most < packets.len() { r.within(1, most) } else { packets.len() };
-    for packet in &packets[..count] {
-        s.received(packet);
+    let most = if packets > 4 && !r.once_in(6) { 3 } else { packets };
+    let count = if r.once_in(4) || most < packets { r.within(1, most) } else { packets };
+    for i in 0..count {
+        s.received(&line.messages[place].1[i].clone());
         if r.once_in(12) {
             let series = s.serving.day.expect("a day").open[0].series;
-            match r.below(3) {
-                0 => publish(s, r, series),
-                1 => send(s, line, series),
-                _ => refused_serving(s, r, series),
+            between(s, r, line, series);
+        }
+    }
+}
+
+/// A call of the serving end within a run.
+fn between(s: &mut Script, r: &mut Random, line: &mut Line, series: u16) {
+    match r.below(4) {
+        0 => publish(s, r, series),
+        1 => send(s, line, series),
+        2 => _ = send_packet(s, line, series),
+        _ => refused_serving(s, r, series),
+    }
+}
+
+/// A message packet by packet, each given as soon as it is printed, with calls of the serving end between: of this series a
+/// login or a whole Send breaks it off. Of one that is unfinished first those that it has.
+fn as_written(s: &mut Script, r: &mut Random, line: &mut Line, series: u16) {
+    let place = line.unfinished.get(&series).copied().unwrap_or(line.messages.len());
+    let mut given = 0;
+    loop {
+        while let Some(packet) = line.messages.get(place).and_then(|(_, packets)| packets.get(given)).cloned() {
+            s.received(&packet);
+            given += 1;
+        }
+        if given > 0 {
+            match r.below(12) {
+                0 => return,
+                1 => {
+                    if let Some((of, packet)) = late(r, &line.logins) {
+                        login(s, line, of, &packet);
+                    }
+                }
+                2 => {
+                    let other = s.serving.day.expect("a day").open[0].series;
+                    between(s, r, line, other);
+                }
+                3..=4 => publish(s, r, series),
+                5 => _ = s.sent_packet(series, 25),
+                _ => {}
             }
+            if line.unfinished.get(&series) != Some(&place) {
+                return;
+            }
+        }
+        if !send_packet(s, line, series) {
+            return;
         }
     }
 }
@@ -170,12 +242,13 @@ fn run(s: &mut Script, r: &mut Random, line: &mut Line) {
 /// Calls of the serving end that are refused.
 fn refused_serving(s: &mut Script, r: &mut Random, series: u16) {
     let mark = s.serving.day.expect("a day").mark;
-    match r.below(6) {
+    match r.below(7) {
         0 => s.publish(series, STRANGE, &[1, 2, 3], "refused 7"),
         1 => s.publish(series, MATCHES, &[], "refused 10"),
         2 => s.publish(5, STRANGE, &[], "refused 13"),
         3 => s.send(5, ROOM, "refused 13"),
-        4 => s.open(mark, &[series], "refused 11"),
+        4 => _ = s.send_packet(5, ROOM, "refused 13"),
+        5 => s.open(mark, &[series], "refused 11"),
         _ => s.open(mark.saturating_sub(1), &[], "refused 11"),
     }
 }
@@ -188,6 +261,7 @@ fn refused(s: &mut Script, r: &mut Random, series: u16) {
         2 => s.ask(5, ROOM, &right(REQUEST), "refused 13"),
         _ => {
             _ = s.sent(series, 25);
+            _ = s.sent_packet(series, 25);
             if s.asked(series, 11, &right(REQUEST)).is_some() {
                 unreachable!("no room for it");
             }
@@ -195,16 +269,52 @@ fn refused(s: &mut Script, r: &mut Random, series: u16) {
     }
 }
 
-/// A new line without faults: login of each series, and all messages that are left.
+/// A new line without faults: login of each series, and all messages that are left: whole, packet by packet, and begun
+/// packet by packet but then whole, in turn.
 fn catch_up(s: &mut Script, line: &mut Line, series: &[u16]) {
     s.connect();
     for &one in series {
         whole_login(s, line, one);
-        while let Some(bytes) = s.sent(one, ROOM) {
-            for packet in cut_apart(&bytes) {
-                s.received(&packet);
-            }
+        let mut turn = 1;
+        while arrives(s, line, one, turn % 3) {
+            turn += 1;
         }
         s.begins("none");
+    }
+}
+
+/// The next message is sent, and all its packets given; packet by packet of it so many at most, then whole, where this is
+/// 0 or 1. Gives whether there was one.
+fn arrives(s: &mut Script, line: &mut Line, series: u16, turn: usize) -> bool {
+    let by_packets = if turn == 2 { usize::MAX } else { turn };
+    let place = line.messages.len();
+    for i in 0..by_packets {
+        if !send_packet(s, line, series) {
+            return false;
+        }
+        s.received(&line.messages[place].1[i].clone());
+        if !line.unfinished.contains_key(&series) {
+            return true;
+        }
+    }
+    let place = line.messages.len();
+    send(s, line, series);
+    for packet in line.messages.get(place).map_or(vec![], |(_, packets)| packets.clone()) {
+        s.received(&packet);
+    }
+    line.messages.len() > place
+}
+
+/// All has arrived. A login packet of before starts at an earlier number once more; the first message of several packets is
+/// begun, and the next opening breaks it off.
+fn begin_anew(s: &mut Script, line: &mut Line, series: &[u16]) {
+    for &one in series {
+        let first = line.logins.iter().find(|(of, _)| *of == one).cloned();
+        login(s, line, one, &first.expect("a login").1);
+        while send_packet(s, line, one) {
+            if line.unfinished.contains_key(&one) {
+                return;
+            }
+        }
     }
 }

@@ -27,6 +27,7 @@ fn before_an_opening(s: &mut Script) {
     s.login(1, ROOM, &asking(Some(DAY), None), &answer, "refused 13");
     s.login(1, ROOM, &[], &answer, "refused 12");
     s.send(1, ROOM, "refused 13");
+    s.send_packet(1, ROOM, "refused 13");
 }
 
 /// 11, wrong in one way each and in two; marks that are first, higher, equal and lower.

@@ -69,13 +69,17 @@ fn chains(s: &mut Script) {
     let part = |number: u32, chain: u8, n: usize| piece(number, chain, &[plain(n)]);
     s.receive_all(&[part(4, b'F', 1), part(4, b'C', 2)].concat(), &["held 3", "held 3", "taken 67 end"]);
     s.states(
-        "serving 1000000000 32784\nseries 9 published 1 next 2\nreceiving 4\nseries 7 none last 0 out chain none\n\
+        "serving 1000000000 32784\nseries 9 published 1 next 2 piece 0\nreceiving 4\nseries 7 none last 0 out chain none\n\
          series 1 501 last 2 out chain none\nseries 3 600 last 3 in chain 15\nseries 9 7 last 1 out chain none",
     );
     received(
         s,
         &[&part(4, b'L', 3), &part(5, b'F', 4), &LINK, &part(5, b'L', 5), &part(5, b'L', 5)],
-        &[&["message 4", "taken 35 message"], &["held 4", "idle", "message 5", "taken 79 message"], &["again 5", "taken 37 end"]],
+        &[
+            &["message 4", "taken 35 message"],
+            &["held 4", "idle", "message 5", "taken 79 message"],
+            &["again 5", "taken 37 end"],
+        ],
     );
     s.receive_all(&[part(6, b'F', 0), part(5, b'S', 0)].concat(), &["held 5", "again 5", "taken 64 end"]);
     s.receive_all(&part(6, b'L', 0), &["refused 17", "taken 32 refused 17"]);

@@ -15,9 +15,6 @@ number-requires c κs = search needs
 enum-told : tie.Need-enum-told
 enum-told c = search needs
 
-enum-told-2 : tie.Need-enum-told-2
-enum-told-2 c = search needs
-
 returns : tie.Need-returns
 returns c = rw (c .before .w .given .1)
 
@@ -27,9 +24,6 @@ returns-2 c = rw (c .before .before .w2 .given .1, c .number .ensures)
 returns-3 : tie.Need-returns-3
 returns-3 c = rw (c .enum-told .given .1)
 
-returns-4 : tie.Need-returns-4
-returns-4 c = rw (c .enum-told2 .given .1)
-
 pub written-spec : {M : Type 1} → statement M
 written-spec =
     tie.close
@@ -38,8 +32,6 @@ written-spec =
     enum-known-w-2
     number-requires
     enum-told
-    enum-told-2
     returns
     returns-2
-    returns-3
-    returns-4)
+    returns-3)

@@ -33,8 +33,8 @@ mul-follows c =
     let h : c .before .before .before .i .given .0 .0 < 8 = search (needs, place-inside) in
     omega arith
 
-array-read-follows : tie.Need-array-read-follows
-array-read-follows c = search (needs, place-inside)
+element-copy-out-follows : tie.Need-element-copy-out-follows
+element-copy-out-follows c = search (needs, place-inside)
 
 follows-requires : tie.Need-follows-requires
 follows-requires c κs = search needs
@@ -81,7 +81,7 @@ check-entry-spec =
     be16-requires-2
     returns
     mul-follows
-    array-read-follows
+    element-copy-out-follows
     follows-requires
     sub-is-shaped
     part-is-shaped-start

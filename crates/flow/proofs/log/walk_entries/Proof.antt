@@ -60,12 +60,12 @@ enum-told-2 c = search needs
 
 returns-3 : tie.Need-returns-3 Inv-loop μ-loop
 returns-3 c =
-    let n = c .before .before .before .before .before in
+    let n = c .before .before .before .before .before .before in
     let a = n .before .before .before .args in
     let turn = n .before .loop in
     let check = c .before .before .check-entry in
     walk-wanted (a .e) (a .s) (a .k) (a .l .now) (turn .at) (n .entry-size .result) (n .entry-size .ensures .0)
-    (turn .last) _ (turn .inv .1) (c .before .before .before .before .if1 .left) (check .result) (check .ensures .0)
+    (turn .last) _ (turn .inv .1) (c .before .before .before .before .before .if1 .left) (check .result) (check .ensures .0)
     (turn .inv .0) (c .enum-told2 .given .1)
 
 enum-known-place : tie.Need-enum-known-place Inv-loop μ-loop

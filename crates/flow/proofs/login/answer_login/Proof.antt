@@ -27,8 +27,8 @@ returns-2 c = search (needs, answer-outside)
 write-login-requires : tie.Need-write-login-requires
 write-login-requires c κs = search needs
 
-with-next-requires : tie.Need-with-next-requires
-with-next-requires c κs = search needs
+with-place-requires : tie.Need-with-place-requires
+with-place-requires c κs = search needs
 
 same-length : tie.Need-same-length
 same-length c = search needs
@@ -47,6 +47,6 @@ answer-login-spec =
     wrong-start-requires
     returns-2
     write-login-requires
-    with-next-requires
+    with-place-requires
     same-length
     returns-3)

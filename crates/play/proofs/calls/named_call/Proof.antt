@@ -4,7 +4,7 @@ use Rattle.play.proofs.calls.Rows.{names-buffers, names-day, names-publ
 use Rattle.play.proofs.calls.Rows.{names-end, names-connect, names-ask, names-answer, names-receive}
 use Rattle.play.proofs.calls.Rows.{names-state, names-calendar, names-mark, names-none}
 use Rattle.play.proofs.calls.Rows.{names-book, names-take, names-level, names-mean}
-use Rattle.play.proofs.calls.Rows.{names-receive-all, names-publish-all}
+use Rattle.play.proofs.calls.Rows.{names-receive-all, names-publish-all, names-packet}
 use Rattle.play.proofs.calls.named_call.Statement.{statement}
 use Rattle.play.proofs.calls.named_call.Tie as tie
 
@@ -263,6 +263,21 @@ has-form-requires-17 c κs = search needs
 plain-call-requires-7 : tie.Need-plain-call-requires-7
 plain-call-requires-7 c κs = search needs
 
+enum-told-21 : tie.Need-enum-told-21
+enum-told-21 c = search needs
+
+has-form-requires-18 : tie.Need-has-form-requires-18
+has-form-requires-18 c κs = search needs
+
+number-at-requires-16 : tie.Need-number-at-requires-16
+number-at-requires-16 c κs = search needs
+
+number-at-requires-17 : tie.Need-number-at-requires-17
+number-at-requires-17 c κs = search needs
+
+send-with-requires-2 : tie.Need-send-with-requires-2
+send-with-requires-2 c κs = search needs
+
 returns : tie.Need-returns
 returns c = search (needs, names-none)
 
@@ -322,6 +337,9 @@ returns-19 c = search (needs, names-receive-all)
 
 returns-20 : tie.Need-returns-20
 returns-20 c = search (needs, names-publish-all)
+
+returns-21 : tie.Need-returns-21
+returns-21 c = search (needs, names-packet)
 
 pub named-call-spec : {M : Type 1} → statement M
 named-call-spec =
@@ -412,6 +430,11 @@ named-call-spec =
     enum-told-20
     has-form-requires-17
     plain-call-requires-7
+    enum-told-21
+    has-form-requires-18
+    number-at-requires-16
+    number-at-requires-17
+    send-with-requires-2
     returns
     returns-2
     returns-3
@@ -431,4 +454,5 @@ named-call-spec =
     returns-17
     returns-18
     returns-19
-    returns-20)
+    returns-20
+    returns-21)

@@ -14,8 +14,8 @@ returns-2 : tie.Need-returns-2
 unfolding sendWith
 returns-2 c = search (tests, holds, fails)
 
-cast-t6 : tie.Need-cast-t6
-cast-t6 c = search needs
+cast-t7 : tie.Need-cast-t7
+cast-t7 c = search needs
 
 returns-3 : tie.Need-returns-3
 unfolding sendWith
@@ -26,4 +26,4 @@ unfolding sendWith
 returns-4 c = search (tests, holds, fails)
 
 pub send-with-spec : {M : Type 1} → statement M
-send-with-spec = tie.close (tie.spec returns returns-2 cast-t6 returns-3 returns-4)
+send-with-spec = tie.close (tie.spec returns returns-2 cast-t7 returns-3 returns-4)

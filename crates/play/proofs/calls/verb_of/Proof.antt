@@ -13,7 +13,7 @@ is-word-requires c κs = search needs
 
 returns : tie.Need-returns
 unfolding verbOf
-returns c = search (needs, found, passed) depth 8 fits 9000
+returns c = search (needs, found, passed) depth 9 fits 12000
 
 slice-aggregate-is-word-2 : tie.Need-slice-aggregate-is-word-2
 slice-aggregate-is-word-2 c = search needs
@@ -23,7 +23,7 @@ is-word-requires-2 c κs = search needs
 
 returns-2 : tie.Need-returns-2
 unfolding verbOf
-returns-2 c = search (needs, found, passed) depth 8 fits 9000
+returns-2 c = search (needs, found, passed) depth 9 fits 12000
 
 slice-aggregate-is-word-3 : tie.Need-slice-aggregate-is-word-3
 slice-aggregate-is-word-3 c = search needs
@@ -33,7 +33,7 @@ is-word-requires-3 c κs = search needs
 
 returns-3 : tie.Need-returns-3
 unfolding verbOf
-returns-3 c = search (needs, found, passed) depth 8 fits 9000
+returns-3 c = search (needs, found, passed) depth 9 fits 12000
 
 slice-aggregate-is-word-4 : tie.Need-slice-aggregate-is-word-4
 slice-aggregate-is-word-4 c = search needs
@@ -43,7 +43,7 @@ is-word-requires-4 c κs = search needs
 
 returns-4 : tie.Need-returns-4
 unfolding verbOf
-returns-4 c = search (needs, found, passed) depth 8 fits 9000
+returns-4 c = search (needs, found, passed) depth 9 fits 12000
 
 slice-aggregate-is-word-5 : tie.Need-slice-aggregate-is-word-5
 slice-aggregate-is-word-5 c = search needs
@@ -53,14 +53,24 @@ is-word-requires-5 c κs = search needs
 
 returns-5 : tie.Need-returns-5
 unfolding verbOf
-returns-5 c = search (needs, found, passed) depth 8 fits 9000
+returns-5 c = search (needs, found, passed) depth 9 fits 12000
+
+slice-aggregate-is-word-6 : tie.Need-slice-aggregate-is-word-6
+slice-aggregate-is-word-6 c = search needs
+
+is-word-requires-6 : tie.Need-is-word-requires-6
+is-word-requires-6 c κs = search needs
+
+returns-6 : tie.Need-returns-6
+unfolding verbOf
+returns-6 c = search (needs, found, passed) depth 9 fits 12000
 
 end-verb-of-requires : tie.Need-end-verb-of-requires
 end-verb-of-requires c κs = search needs
 
-returns-6 : tie.Need-returns-6
+returns-7 : tie.Need-returns-7
 unfolding verbOf
-returns-6 c = search (needs, found, passed) depth 8 fits 9000
+returns-7 c = search (needs, found, passed) depth 9 fits 12000
 
 pub verb-of-spec : {M : Type 1} → statement M
 verb-of-spec =
@@ -81,5 +91,8 @@ verb-of-spec =
     slice-aggregate-is-word-5
     is-word-requires-5
     returns-5
+    slice-aggregate-is-word-6
+    is-word-requires-6
+    returns-6
     end-verb-of-requires
-    returns-6)
+    returns-7)

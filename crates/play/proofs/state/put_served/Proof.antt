@@ -28,14 +28,8 @@ size32-requires c κs = search needs
 put-numbered-requires-2 : tie.Need-put-numbered-requires-2
 put-numbered-requires-2 c κs = search needs
 
-slice-aggregate-put-word : tie.Need-slice-aggregate-put-word
-slice-aggregate-put-word c = search needs
-
-put-word-requires : tie.Need-put-word-requires
-put-word-requires c κs = search needs
-
-put-next-requires : tie.Need-put-next-requires
-put-next-requires c κs = search needs
+put-place-requires : tie.Need-put-place-requires
+put-place-requires c κs = search needs
 
 put-byte-requires-2 : tie.Need-put-byte-requires-2
 put-byte-requires-2 c κs = search needs
@@ -46,19 +40,17 @@ same-length c = search needs
 returns : tie.Need-returns
 unfolding servedLine wordLine
 returns c =
-    let s6 = c .before .before in
-    let s5 = s6 .before .before .before .before in
+    let s5 = c .before .before in
     let s4 = s5 .before .before .before .before in
-    let s3 = s4 .before .before .before .before .before in
+    let s3 = s4 .before .before .before .before in
     let s2 = s3 .before .before .before .before .before .before in
     let s1 = s2 .before .before .before .before in
     let p = s1 .before .before .before .before .before .pre in
     let t2 = wrote-both (omega (arith, p)) (s1 .put-numbered .ensures .0) (s2 .put-byte .ensures) in
     let t3 = wrote-both (omega (arith, p)) t2 (s3 .put-numbered2 .ensures .0) in
-    let t4 = wrote-both (omega (arith, p)) t3 (s4 .put-word .ensures) in
-    let t5 = wrote-both (omega (arith, p)) t4 (s5 .put-next .ensures .0) in (
+    let t4 = wrote-both (omega (arith, p)) t3 (s4 .put-place .ensures .0) in (
       rw (← (s1 .before .size16 .ensures .0), ← (s3 .before .size32 .ensures .0))
-          (wrote-both (omega (arith, p)) t5 (s6 .put-byte2 .ensures)),
+          (wrote-both (omega (arith, p)) t4 (s5 .put-byte2 .ensures)),
       search needs,
     )
 
@@ -73,9 +65,7 @@ put-served-spec =
     slice-aggregate-put-numbered-2
     size32-requires
     put-numbered-requires-2
-    slice-aggregate-put-word
-    put-word-requires
-    put-next-requires
+    put-place-requires
     put-byte-requires-2
     same-length
     returns)

@@ -9,7 +9,7 @@ slice-aggregate-bytes-line : tie.Need-slice-aggregate-bytes-line
 slice-aggregate-bytes-line c = search (needs, taken-below)
 
 bytes-line-requires : tie.Need-bytes-line-requires
-bytes-line-requires c κs = (search (needs, front-room), search needs)
+bytes-line-requires c κs = (search (needs, front-room), search needs, search needs)
 
 same-length : tie.Need-same-length
 same-length c = search needs

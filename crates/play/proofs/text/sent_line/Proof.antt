@@ -19,6 +19,9 @@ enum-known-answer c = search needs
 slice-aggregate-front-line : tie.Need-slice-aggregate-front-line
 slice-aggregate-front-line c = search needs
 
+slice-aggregate-front-line-2 : tie.Need-slice-aggregate-front-line-2
+slice-aggregate-front-line-2 c = search needs
+
 front-line-requires : tie.Need-front-line-requires
 front-line-requires c κs = search needs
 
@@ -55,6 +58,7 @@ sent-line-spec =
     word-line-requires
     enum-known-answer
     slice-aggregate-front-line
+    slice-aggregate-front-line-2
     front-line-requires
     enum-known-answer-2
     refused-line-requires

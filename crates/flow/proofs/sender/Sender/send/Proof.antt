@@ -1,34 +1,76 @@
 -- `sender::Sender::send` meets its contract. Assumes nothing.
+use native.Mathlib.Omega.{arith}
+use mathlib.Core.Path.{refl}
+use Rattle.flow.specs.Answers.{sentSaid}
+use Rattle.flow.proofs.sender.Sends.{found-none, found-refused, entry-inside, entry-lent, entry-comes, comes-to}
 use borrow.Author.Needs.{needs}
-use Rattle.flow.proofs.sender.Sends.{send-unknown}
 use Rattle.flow.proofs.sender.Sender.send.Statement.{statement}
 use Rattle.flow.proofs.sender.Sender.send.Tie as tie
 
-find-requires : tie.Need-find-requires
-find-requires c κs = search needs
+find-next-requires : tie.Need-find-next-requires
+find-next-requires c κs = search needs
 
 enum-told : tie.Need-enum-told
 enum-told c = search needs
 
-enum-known-i : tie.Need-enum-known-i
-enum-known-i c = search needs
+enum-known-r : tie.Need-enum-known-r
+enum-known-r c = search needs
 
-send-at-requires : tie.Need-send-at-requires
-send-at-requires c κs = rw (c .before .before .i .given .1) at (c .before .before .before .before .find .ensures)
+enum-known-place : tie.Need-enum-known-place
+enum-known-place c = search needs
+
+add-send-entry : tie.Need-add-send-entry
+add-send-entry c =
+    let h =
+    entry-inside _ _ _ _ (c .before .before .before .find-next .ensures) _ _ _ _ (c .before .place .given .1) in
+    omega (arith, c .before .before .before .before .before)
+
+sub-send-entry : tie.Need-sub-send-entry
+sub-send-entry c = search needs
+
+part-send-entry-start : tie.Need-part-send-entry-start
+part-send-entry-start c = search needs
+
+part-send-entry-end : tie.Need-part-send-entry-end
+part-send-entry-end c = search (needs, entry-inside)
+
+send-entry-requires : tie.Need-send-entry-requires
+send-entry-requires c κs = search (needs, entry-lent)
 
 returns : tie.Need-returns
 returns c =
-    let a = c .before .before .before .before .before .args in
-    send-unknown (a .self) (a .series) (a .log .now) (a .out .now)
-    (rw (c .enum-told .given .1) at (c .before .before .find .ensures))
+    let h = found-none _ _ _ _ (c .before .before .find-next .ensures) (c .enum-told .given .1) in
+    comes-to sentSaid _ _ _ _ _ (h _ .0) (refl, refl, refl)
+
+returns-2 : tie.Need-returns-2
+returns-2 c =
+    let h = found-refused _ _ _ _ (c .before .before .before .find-next .ensures) _ (c .before .r .given .1) in
+    comes-to sentSaid _ _ _ _ _ (h _ .0) (refl, refl, refl)
 
 same-length : tie.Need-same-length
 same-length c = search needs
 
-returns-2 : tie.Need-returns-2
-returns-2 c = search needs
+returns-3 : tie.Need-returns-3
+returns-3 c =
+    let h =
+    entry-comes _ _ _ _ (c .before .before .before .before .before .before .before .before .find-next .ensures) _ _ _ _
+    (c .before .before .before .before .before .before .place .given .1) in
+    comes-to sentSaid _ _ _ _ _ (h _ .0) (c .before .before .send-entry .ensures)
 
 pub send-spec : {M : Type 1} → statement M
 send-spec =
     tie.close
-    (tie.spec find-requires enum-told enum-known-i send-at-requires returns same-length returns-2)
+    (tie.spec
+    find-next-requires
+    enum-told
+    enum-known-r
+    enum-known-place
+    add-send-entry
+    sub-send-entry
+    part-send-entry-start
+    part-send-entry-end
+    send-entry-requires
+    returns
+    returns-2
+    same-length
+    returns-3)
