@@ -1,10 +1,13 @@
-/* An example driver: a serving and a receiving end, each in a process of its own, over a line that breaks.
+/* An example driver: a serving and a receiving end, each in a process of its own, over lines that break and lose
+ * packets.
  *
  * The serving process publishes messages of two series, answers logins and sends: the private series packet by packet,
  * as a slow line takes them, the broadcast one in whole messages. The first line breaks within a message of five
- * packets; both sides go on with the second line, and the message is sent anew. The receiving process reads what is
- * there, wherever that cuts a packet, hands it over and keeps the rest; it prints what it is handed.
- * Where there are two socket pairs here a driver has its sockets; the rest can be taken over.
+ * packets; on the second, single packets are lost, repeated and late, as where packets go their own ways: by their
+ * places, which both ends write and compare, that is noticed, and nothing wrong is handed on. On each line both sides
+ * go on where the one before it left them, and the message is sent anew; the third brings all. The receiving process
+ * reads what is there, wherever that cuts a packet, hands it over and keeps the rest; it prints what it is handed.
+ * Where there are three socket pairs here a driver has its sockets; the rest can be taken over.
  *
  *     make example && target/example/driver
  */
@@ -24,7 +27,7 @@ enum {
     PRIVATE = 1, /* the series that the two sides have agreed on */
     BROADCAST = 2,
     SERIES = 2,
-    LINES = 2,
+    LINES = 3,
     TRADE_DATE = 20041231,
     LOGIN = 0x0016,    /* TID of login packets and their answers */
     BULLETIN = 0x2003, /* TID and FID of a message of the standard: MarketBulletin, BulletinField */
@@ -67,6 +70,10 @@ struct line {
     int socket;
     size_t left;  /* so many bytes can still be written until it breaks; only here to show a break */
     size_t piece; /* so many bytes are read at most; only here to show packets cut anywhere */
+    int loose;    /* it may lose, repeat and reorder single packets */
+    int packets;  /* how many were to be written to a loose line; only here to show its faults */
+    size_t late;  /* bytes of a packet that is held back; likewise */
+    int refused;  /* how many packets a loose line has brought that had to be passed over */
 };
 
 /* Reads so many bytes; 0: the line is broken. */
@@ -167,6 +174,37 @@ static size_t write_some(struct line *line, const uint8_t *bytes, size_t count) 
         return 0;
     line->left -= (size_t)n;
     return (size_t)n;
+}
+
+/* Writes so many bytes as the line takes them; 0: the line is broken. */
+static int write_slowly(struct line *line, const uint8_t *bytes, size_t count) {
+    while (count > 0) {
+        size_t n = write_some(line, bytes, count);
+
+        if (n == 0)
+            return 0;
+        bytes += n;
+        count -= n;
+    }
+    return 1;
+}
+
+/* Writes a packet to a loose line, which loses the second and the fourth, brings the sixth twice and the seventh behind
+ * the eighth; 0: the line is broken. */
+static int write_loose(struct line *line, const uint8_t *packet, size_t count) {
+    static uint8_t late[FTD_MOST_PACKET];
+    int n = ++line->packets;
+
+    if (n == 2 || n == 4)
+        return 1;
+    if (n == 7) {
+        memcpy(late, packet, count);
+        line->late = count;
+        return 1;
+    }
+    if (!write_bytes(line, packet, count))
+        return 0;
+    return n == 6 ? write_bytes(line, packet, count) : n != 8 || write_bytes(line, late, line->late);
 }
 
 /* ---- Contents: data fields, and fields of items ---- */
@@ -379,19 +417,13 @@ static int serve_packets(struct ftd_sender *end, struct line *line, uint16_t ser
     for (;;) {
         struct ftd_sent_packet sent =
             ftd_send_packet(*end, series, day_log, sizeof day_log, output, FTD_MOST_PACKET);
-        size_t taken = 0;
 
         must("ftd_send_packet", sent.refusal);
         *end = sent.end;
         if (sent.answer == FTD_SEND_NONE)
             return 1;
-        while (taken < sent.bytes) {
-            size_t n = write_some(line, output + taken, sent.bytes - taken);
-
-            if (n == 0)
-                return 0;
-            taken += n;
-        }
+        if (line->loose ? !write_loose(line, output, sent.bytes) : !write_slowly(line, output, sent.bytes))
+            return 0;
         if (!sent.last)
             work_between(end);
     }
@@ -401,13 +433,22 @@ static int serve_packets(struct ftd_sender *end, struct line *line, uint16_t ser
 static int serve_messages(struct ftd_sender *end, struct line *line, uint16_t series) {
     for (;;) {
         struct ftd_sent sent = ftd_send(*end, series, day_log, sizeof day_log, output, sizeof output);
+        size_t at, n;
 
         must("ftd_send", sent.refusal);
         *end = sent.end;
         if (sent.answer == FTD_SEND_NONE)
             return 1;
-        if (!write_bytes(line, output, sent.bytes))
-            return 0;
+        if (!line->loose) {
+            if (!write_bytes(line, output, sent.bytes))
+                return 0;
+            continue;
+        }
+        for (at = 0; at < sent.bytes; at += n) { /* packet by packet, each on its own way */
+            n = ftd_said_length(output + at, sent.bytes - at);
+            if (!write_loose(line, output + at, n))
+                return 0;
+        }
     }
 }
 
@@ -437,7 +478,7 @@ static void serve_line(struct ftd_sender *end, struct line *line) {
 static void serve(struct line lines[LINES]) {
     struct ftd_sender_opened opened = ftd_sender_open(ftd_sender_fresh(), TRADE_DATE, open_series, SERIES);
     struct ftd_sender end = opened.end;
-    size_t used = 0;
+    size_t used = 0, i;
 
     must("ftd_sender_open", opened.refusal);
     other_content(&content, 1, 20); /* one packet */
@@ -454,8 +495,10 @@ static void serve(struct line lines[LINES]) {
     other_content(&content, 0, 0); /* published while there is no line; a message may have no field */
     publish(&end, PRIVATE, OTHER);
 
-    serve_line(&end, &lines[1]);
-    close(lines[1].socket);
+    for (i = 1; i < LINES; i++) {
+        serve_line(&end, &lines[i]);
+        close(lines[i].socket);
+    }
 }
 
 /* ---- The receiving side ---- */
@@ -499,9 +542,19 @@ static unsigned series_of(const struct ftd_receiver *before, const struct ftd_re
     return after->series[i].series;
 }
 
+/* On a loose line a packet that doesn't fit is passed over: what is lacking is sent anew after the next login. On any
+ * other it means that something is wrong with the line. */
+static int passed_over(struct line *line, const struct ftd_received_several *received) {
+    int passed = received->answer == FTD_SEVERAL_REFUSED && line->loose &&
+                 (received->refusal == FTD_OUT_OF_LINE || received->refusal == FTD_BROKEN_CHAIN);
+
+    line->refused += passed;
+    return passed;
+}
+
 /* Hands the first `count` bytes that are kept over until they are through, and drops what was taken: all packets that
  * are whole. 0: the line is to be closed. */
-static int take_packets(struct ftd_receiver *end, size_t count) {
+static int take_packets(struct ftd_receiver *end, struct line *line, size_t count) {
     struct ftd_received_several received;
     size_t at = 0;
 
@@ -515,7 +568,7 @@ static int take_packets(struct ftd_receiver *end, size_t count) {
                     received.content.len);
         *end = received.end; /* also where a packet is refused */
         at += received.taken;
-    } while (received.answer == FTD_SEVERAL_MESSAGE);
+    } while (received.answer == FTD_SEVERAL_MESSAGE || passed_over(line, &received));
     drop(&kept, at);
     if (received.answer == FTD_SEVERAL_REFUSED)
         report("ftd_receive_several", received.refusal);
@@ -543,7 +596,7 @@ static int log_in(struct ftd_receiver *end, struct line *line, uint16_t series) 
             return 0;
         } else if (read.tid == LOGIN) {
             break;
-        } else if (!take_packets(end, read.size)) {
+        } else if (!take_packets(end, line, read.size)) {
             return 0;
         }
     }
@@ -567,7 +620,7 @@ static void receive_line(struct ftd_receiver *end, struct line *line) {
     for (i = 0; i < SERIES; i++)
         if (!log_in(end, line, open_series[i]))
             return;
-    while (take_packets(end, kept.used) && read_more(line, &kept))
+    while (take_packets(end, line, kept.used) && read_more(line, &kept))
         ;
 }
 
@@ -581,14 +634,15 @@ static void receive(struct line lines[LINES]) {
         printf("line %zu\n", i + 1);
         receive_line(&end, &lines[i]);
         close(lines[i].socket);
-        printf("line %zu is closed, %zu bytes of a packet left\n", i + 1, kept.used);
+        printf("line %zu is closed, %zu bytes of a packet left, %d packets passed over\n", i + 1, kept.used,
+               lines[i].refused);
     }
 }
 
 /* ---- Both ---- */
 
 int main(void) {
-    static const size_t breaks_after[LINES] = {10000, SIZE_MAX}; /* bytes that the serving side can write */
+    static const size_t breaks_after[LINES] = {10000, SIZE_MAX, SIZE_MAX}; /* bytes that the serving side can write */
     struct line serving[LINES], receiving[LINES];
     int sockets[2], status;
     pid_t server;
@@ -599,12 +653,13 @@ int main(void) {
             perror("socketpair");
             return 1;
         }
+        memset(&serving[i], 0, sizeof serving[i]);
+        memset(&receiving[i], 0, sizeof receiving[i]);
         serving[i].socket = sockets[0];
         serving[i].left = breaks_after[i];
-        serving[i].piece = 0;
         receiving[i].socket = sockets[1];
         receiving[i].left = SIZE_MAX;
-        receiving[i].piece = 0;
+        serving[i].loose = receiving[i].loose = i == 1;
     }
     server = fork();
     if (server < 0) {

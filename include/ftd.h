@@ -17,13 +17,18 @@
  * of fixed widths. All numbers on the line have their high byte first.
  * On the line there are packets: type (1 byte), length of the extension (1), length of the body (2), then extension and
  * body. A message is one packet (chain letter S) or a chain of them (F, C as often as needed, L), all with one number.
+ * The extension is a run of tags, each with kind (1 byte), length (1) and that many bytes. Tag 5 is the day's trade
+ * date, tag 0x70 the packet's place in its message, from 0 (2 bytes).
  * Up is from member to exchange, down from exchange to member; the messages of flows and login answers are down, login
  * packets are up.
  *
  * THE TWO ENDS
  * The serving end keeps what is published in a log and sends it; it serves one receiving end. The receiving end hands
- * each message on once and in order, wherever lines break and whatever they bring again, as long as a line brings the
- * packets of a message in their order and none without those before it, as TCP does. On each new line:
+ * each message on once, in order and whole, wherever lines break and whatever they lose or bring again: any single
+ * packet may be lost, repeated or late, and nothing wrong is handed on, as both ends write and compare the packets'
+ * places. (From a serving side that writes no places, a line has to bring the packets of a message in their order and
+ * none without those before it.) That everything arrives is owed where the packets of a message come in a run: all of
+ * them, in their order, with no other call of the receiving end within, as TCP brings them. On each new line:
  *
  *     receiving end                                    serving end
  *     ftd_connect
@@ -64,7 +69,8 @@
 /* The refusal table. */
 enum ftd_refusal {
     FTD_LONG_EXTENSION = 1,  /* a packet's extension has more than 127 bytes */
-    FTD_BROKEN_TAG = 2,      /* tags don't end with the extension, a known tag has a wrong length, tag 5 stands twice */
+    FTD_BROKEN_TAG = 2,      /* tags don't end with the extension, a known tag has a wrong length, tag 0x05 or 0x70
+                                stands twice */
     FTD_BODY_LENGTH = 3,     /* a packet of type 1 has a body of 1 to 15 or of more than 4096 bytes */
     FTD_VERSION = 4,         /* a message packet's version isn't 1 */
     FTD_CHAIN_LETTER = 5,    /* a message packet's chain letter isn't S, F, C or L */
@@ -85,7 +91,7 @@ enum ftd_refusal {
                                 ftd_login: a higher one */
     FTD_OUT_OF_LINE = 16,    /* ftd_receive: number 0, above last + 1 or above 1000000; in a login: series and number of
                                 the packet aren't 0 */
-    FTD_BROKEN_CHAIN = 17,   /* C or L without its chain */
+    FTD_BROKEN_CHAIN = 17,   /* C or L without its chain; a place (tag 0x70) that isn't the count of the packets held */
     FTD_TOO_SMALL = 18,      /* the output, the log or the reassembly buffer has too few bytes, or a chain too many */
     FTD_WRONG_START = 19,    /* the login wants number 0, or one above those published and the next */
     FTD_DAMAGED_LOG = 20,    /* the log isn't as the last call left it */
@@ -119,8 +125,9 @@ enum ftd_limit {
     FTD_REQUEST_CONTENT = 4068,  /* content bytes given to ftd_request_login, which puts 12 behind them */
     FTD_MOST_CONTENT = 32768,    /* content bytes of a message; bytes of the reassembly buffer for each series */
     FTD_MOST_PACKETS = 17,       /* packets of a message */
-    FTD_MOST_PACKET = 4106,      /* bytes of one of them, as ftd_send and ftd_send_packet write it */
-    FTD_MOST_OUTPUT = 33210,     /* bytes of all packets of a message: an output that is always large enough */
+    FTD_MOST_PACKET = 4110,      /* bytes of one of them, as ftd_send and ftd_send_packet write it */
+    FTD_MOST_OUTPUT = 33278,     /* bytes of all packets of a message: an output that is always large enough */
+    FTD_MOST_PIECES = 65536,     /* packets of a chain that are counted */
     FTD_MOST_BYTES = 65794,      /* bytes that a packet can take on the line: room for a bufferful of packets */
     FTD_LOG_HEAD = 16,           /* bytes that a message takes in the log besides its content */
     FTD_RECORD_HEAD = 10,        /* bytes of a record (ftd_publish_several) besides its content */
@@ -173,11 +180,13 @@ struct ftd_packet {
     uint32_t date;             /* link, message: the trade date (tag 5 of the extension), where dated is 1 */
     uint16_t series;           /* message: series; 0 in a login */
     uint16_t fields;           /* message: how many data fields the packet has */
+    uint16_t place;            /* link, message: the place in its message (tag 0x70), where placed is 1 */
     uint8_t answer;            /* enum ftd_answer */
     uint8_t refusal;           /* refused: 1 to 7 */
     uint8_t kind;              /* link, skipped, message: the type */
     uint8_t chain;             /* message: the letter 'S', 'F', 'C' or 'L' */
     uint8_t dated;             /* link, message: 1 where there is a trade date */
+    uint8_t placed;            /* link, message: 1 where there is a place */
 };
 
 /* A trade date. */
@@ -348,10 +357,11 @@ struct ftd_sent_packet {
 
 /* What is kept of a series. Trade date and last number outlast the line; the rest is of this line. */
 struct ftd_kept {
-    size_t held;   /* content bytes of the open chain that the reassembly buffer holds */
-    uint32_t date; /* the day's trade date, unless dated is 0: no login was confirmed yet */
-    uint32_t last; /* the number of the last message that was handed on in the day, 0 at first */
-    uint32_t tid;  /* of the open chain */
+    size_t held;     /* content bytes of the open chain that the reassembly buffer holds */
+    uint32_t date;   /* the day's trade date, unless dated is 0: no login was confirmed yet */
+    uint32_t last;   /* the number of the last message that was handed on in the day, 0 at first */
+    uint32_t tid;    /* of the open chain */
+    uint32_t pieces; /* packets of the open chain, counted up to 65536; 0 where none is open */
     uint16_t series;
     uint8_t dated;
     uint8_t login; /* not 0: logged in */
@@ -549,7 +559,8 @@ uint8_t ftd_keep_alive(const uint8_t *extension, size_t count);
  * at most 4074 bytes, or more than FTD_MOST_CONTENT in all). */
 struct ftd_size ftd_message_size(struct ftd_message message, const uint8_t *content, size_t count);
 
-/* Writes all packets of the message, one behind the other, to the start of the output. Refusals: 7 (as above), 18. */
+/* Writes all packets of the message, one behind the other, to the start of the output, without places: for other
+ * programs, ftd_send writes its own. Refusals: 7 (as above), 18. */
 struct ftd_written ftd_write_message(struct ftd_message message, const uint8_t *content, size_t count,
                                      uint8_t *output, size_t room);
 
@@ -646,9 +657,10 @@ struct ftd_published_several ftd_publish_several(struct ftd_sender end, const ui
 struct ftd_logged_in ftd_login(struct ftd_sender end, uint16_t series, const uint8_t *packet, size_t packet_len,
                                const uint8_t *content, size_t count, uint8_t *output, size_t room);
 
-/* Send: writes all packets of the series' next message to the output, one behind the other, and steps on. An output of
- * FTD_MOST_OUTPUT bytes is always enough. The log is read from its start up to the message, so that one far behind
- * takes longer.
+/* Send: writes all packets of the series' next message to the output, one behind the other, and steps on. Each has the
+ * day's trade date (tag 5) and behind it its place in the message (tag 0x70), and takes 30 bytes more than its content.
+ * An output of FTD_MOST_OUTPUT bytes is always enough. The log is read from its start up to the message, so that one
+ * far behind takes longer.
  * Refusals: 13, 14, then FTD_SEND_NONE where nothing is left, 20, 18. */
 struct ftd_sent ftd_send(struct ftd_sender end, uint16_t series, const uint8_t *log, size_t log_len,
                          uint8_t *output, size_t room);
@@ -703,6 +715,10 @@ struct ftd_confirmed ftd_confirm_login(struct ftd_receiver end, uint16_t series,
  * bytes for each series, in the opening's order; every call is lent the same one, as the last call left it.
  * A message that is handed on has its number in `last`; its series is that of the packet (ftd_read). Its content stays
  * where it is until the caller overwrites the packet, or until the next call with the buffer.
+ * Of a packet with the number wanted next its place, if it bears one, is compared with the packets held: 0 for S and F,
+ * those of the open chain for C and L. So the first packet behind a lost one is refused with 17, as is one that comes
+ * again or late; the chain is gone then, and the message has to come anew from its first packet on. A packet without a
+ * place is compared with nothing, and counts. The count stops at FTD_MOST_PIECES, with which no place agrees.
  * Refusals: 12, 1, 3, 2, 4, 5, 6, 7, 13, 14, 15, 16, 17, 18. From 15 on the series' open chain is dropped, in `end`. */
 struct ftd_received ftd_receive(struct ftd_receiver end, const uint8_t *packet, size_t packet_len,
                                 uint8_t *buffer, size_t buffer_len);

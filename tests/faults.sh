@@ -85,6 +85,9 @@ expect "a resend request for all that follow is refused" "$root/target/lib"
 fresh_reader
 change "$work/tests/reader/src/fix.rs" '} else if yes(43) {' '} else if pairs.iter().any(|field| field.0 == 43) {'
 expect "a lower number with 43=N is again" "$root/target/lib"
+fresh_reader
+change "$work/tests/reader/src/packet.rs" 'PLACE => place.replace(u16_at(data, 0)).is_some(),' 'PLACE => place.replace(u16_at(data, 0)).is_some() && false,'
+expect "tag 0x70 may stand twice" "$root/target/lib"
 
 echo "- the models of the ends"
 fresh_reader
@@ -114,6 +117,15 @@ expect "a refused packet of a bufferful isn't taken" "$root/target/lib" calls
 fresh_reader
 change "$work/tests/reader/src/several.rs" '(false, bytes.as_ptr() as usize)' '(false, bytes.as_ptr() as usize + taken - length)'
 expect "a content's place in a bufferful counts from its packet" "$root/target/lib" calls
+fresh_reader
+change "$work/tests/reader/src/receiving.rs" 'if piece.place.is_some_and(|place|' "if piece.chain != b'C' && piece.place.is_some_and(|place|"
+expect "the place of a C isn't compared" "$root/target/lib" calls
+fresh_reader
+change "$work/tests/reader/src/receiving.rs" 'pieces.saturating_add(1).min(MOST_PIECES)' 'pieces.wrapping_add(1) % MOST_PIECES'
+expect "the count of a chain's packets wraps" "$root/target/lib" calls
+fresh_reader
+change "$work/tests/reader/src/serving.rs" 'write_sent_packet(out, &header, &parts, i);' 'write_packet(out, &header, crate::cut::chain_letter(i, parts.len()), parts[i]);'
+expect "the form of Send that writes one packet writes no place" "$root/target/lib" calls
 
 # A copy of the repository's library with one thing changed in code and definition, proved and built.
 fresh_library() {
@@ -156,12 +168,13 @@ if [ "${1:-}" = --long ]; then
     prove
     expect "Receive only raises its number, and hands nothing on" "$work/library/target/lib" calls
     fresh_library
-    change "$work/library/crates/exports/src/serving.rt" 'answer: 1,' 'answer: 0,'
-    change "$work/library/crates/exports/specs/Serving.antt" 'number = k; answer = 1;' 'number = k; answer = 0;'
+    # Of the whole Send; the form that writes one packet has `last` behind it.
+    change "$work/library/crates/exports/src/serving.rt" $'answer: 1,\n            refusal: 0,\n        },' $'answer: 0,\n            refusal: 0,\n        },'
+    change "$work/library/crates/exports/specs/Serving.antt" 'number = k; answer = 1; refusal = 0 }' 'number = k; answer = 0; refusal = 0 }'
     prove
     expect "Send answers none with one left" "$work/library/target/lib" calls
     fresh_library
-    change "$work/library/crates/ftd/src/tags.rt" '= [0, 4, 1, 1, 0, 4, 2];' '= [0, 4, 1, 1, 0, 4, 3];'
+    change "$work/library/crates/ftd/src/tags.rt" '= [0, 4, 1, 1, 0, 4, 2, 2];' '= [0, 4, 1, 1, 0, 4, 3, 2];'
     change "$work/library/crates/ftd/specs/Tags.antt" 'knownTag 0x06 2' 'knownTag 0x06 3'
     prove
     expect "tag 0x06 has three bytes, and so says its definition" "$work/library/target/lib"

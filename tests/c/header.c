@@ -44,7 +44,10 @@ static void sizes(void) {
     EXPECT(sizeof(struct ftd_sent) == 232);
     EXPECT(sizeof(struct ftd_sent_packet) == 232 && offsetof(struct ftd_sent_packet, number) == 224);
     EXPECT(offsetof(struct ftd_sent_packet, answer) == 228 && offsetof(struct ftd_sent_packet, last) == 230);
-    EXPECT(sizeof(struct ftd_kept) == 32);
+    EXPECT(offsetof(struct ftd_packet, place) == 64 && offsetof(struct ftd_packet, answer) == 66);
+    EXPECT(offsetof(struct ftd_packet, dated) == 70 && offsetof(struct ftd_packet, placed) == 71);
+    EXPECT(sizeof(struct ftd_kept) == 32 && offsetof(struct ftd_kept, pieces) == 20);
+    EXPECT(offsetof(struct ftd_kept, series) == 24 && offsetof(struct ftd_kept, chain) == 28);
     EXPECT(sizeof(struct ftd_receiver) == 264);
     EXPECT(sizeof(struct ftd_receiver_opened) == 272);
     EXPECT(sizeof(struct ftd_confirmed) == 272);
@@ -75,8 +78,9 @@ static void packets_read(void) {
     EXPECT(p.answer == FTD_MESSAGE && p.refusal == 0 && p.kind == 1 && p.size == sizeof dated);
     EXPECT(p.extension.start == 4 && p.extension.len == 6 && p.content.start == 26 && p.content.len == 8);
     EXPECT(p.tid == 0x2004 && p.chain == 'S' && p.series == 1 && p.number == 2 && p.fields == 1);
-    EXPECT(p.dated == 1 && p.date == 9);
+    EXPECT(p.dated == 1 && p.date == 9 && p.placed == 0 && p.place == 0);
     EXPECT(link.answer == FTD_LINK && link.kind == 0 && link.size == 6 && link.extension.len == 2 && link.dated == 0);
+    EXPECT(link.placed == 0 && link.place == 0);
     EXPECT(other.answer == FTD_SKIPPED && other.kind == 7 && other.size == 7 && other.content.start == 5 &&
            other.content.len == 2);
     EXPECT(ftd_read(dated, 33).answer == FTD_SHORT && ftd_read(dated, 33).size == 0);
@@ -278,7 +282,7 @@ static void log_in(struct ftd_sender *sender, struct ftd_receiver *receiver) {
     *receiver = confirmed.end;
 }
 
-enum { PACKET = 26 + 4006 }; /* bytes of a packet with one of the fields */
+enum { AROUND = 30, PACKET = AROUND + 4006 }; /* bytes of a packet around its content; with one of the fields */
 
 /* The first message, in one packet. */
 static void first_message(struct ftd_sender *sender, struct ftd_receiver *receiver) {
@@ -287,7 +291,7 @@ static void first_message(struct ftd_sender *sender, struct ftd_receiver *receiv
 
     EXPECT(sent.answer == FTD_SEND_MESSAGE && sent.number == 1 && sent.bytes == PACKET);
     EXPECT(got.answer == FTD_RECEIVE_MESSAGE && got.origin == FTD_IN_PACKET && got.last == 1 && got.tid == 0x7777);
-    EXPECT(got.content.start == 26 && got.content.len == 4006 && memcmp(output + 26, large, 4006) == 0);
+    EXPECT(got.content.start == AROUND && got.content.len == 4006 && memcmp(output + AROUND, large, 4006) == 0);
     EXPECT(ftd_receive(got.end, output, sent.bytes, buffer, sizeof buffer).answer == FTD_RECEIVE_AGAIN);
     EXPECT(ftd_receive(got.end, heart, sizeof heart, buffer, sizeof buffer).answer == FTD_RECEIVE_IDLE);
     *sender = sent.end;
@@ -321,8 +325,10 @@ static void flow(void) {
     first_message(&sender, &receiver);
     second_message(&sender, &receiver, 2);
     EXPECT(receiver.series[1].chain == 1 && receiver.series[1].held == 2 * 4006 && receiver.series[1].tid == 0x7778);
+    EXPECT(receiver.series[1].pieces == 2);
     receiver = ftd_connect(receiver);
     EXPECT(receiver.series[1].chain == 0 && receiver.series[1].login == 0 && receiver.series[1].last == 1);
+    EXPECT(receiver.series[1].pieces == 0 && receiver.series[1].held == 0);
     log_in(&sender, &receiver);
     got = second_message(&sender, &receiver, 3);
     EXPECT(got.answer == FTD_RECEIVE_MESSAGE && got.origin == FTD_IN_BUFFER && got.last == 2 && got.tid == 0x7778);
@@ -342,7 +348,7 @@ static void refusals_of_serving(void) {
     EXPECT(sent.answer == FTD_SEND_REFUSED && sent.refusal == FTD_NOT_LOGGED_IN && sent.bytes == 0);
     EXPECT(ftd_send(sender, 9, day_log, sizeof day_log, output, sizeof output).refusal == FTD_UNKNOWN_SERIES);
     log_in(&sender, &receiver);
-    EXPECT(ftd_send(sender, 3, day_log, sizeof day_log, output, 26 + 4005).refusal == FTD_TOO_SMALL);
+    EXPECT(ftd_send(sender, 3, day_log, sizeof day_log, output, AROUND + 4005).refusal == FTD_TOO_SMALL);
     EXPECT(ftd_send(sender, 3, day_log, sender.used - 1, output, sizeof output).refusal == FTD_DAMAGED_LOG);
     EXPECT(ftd_publish(sender, 3, 0x7777, large, 4006, day_log, sender.used).refusal == FTD_TOO_SMALL);
     EXPECT(ftd_publish(sender, 3, 0x7777, large, 4005, day_log, sizeof day_log).refusal == FTD_FIELD_RUN);
@@ -509,7 +515,114 @@ static void packets_turned_down(void) {
     EXPECT(sent.refusal == FTD_DAMAGED_LOG && sent.end.series[1].piece == UINT64_MAX);
     any.series[1].piece = 0;
     sent = packet_of(any, PACKET);
-    EXPECT(sent.answer == FTD_SEND_MESSAGE && sent.last == 1 && output[15] == 'S');
+    EXPECT(sent.answer == FTD_SEND_MESSAGE && sent.last == 1 && output[19] == 'S');
+}
+
+/* ---- Every piece counted ---- */
+
+/* Packet i of the second message. */
+static uint8_t received_piece(struct ftd_receiver *end, size_t i) {
+    struct ftd_received got = ftd_receive(*end, whole + i * PACKET, PACKET, buffer, sizeof buffer);
+
+    EXPECT(got.refusal == 0 || (got.end.series[1].chain == 0 && got.end.series[1].pieces == 0));
+    EXPECT(got.answer != FTD_RECEIVE_HELD || got.end.series[1].pieces == i + 1);
+    *end = got.end;
+    return got.answer == FTD_RECEIVE_REFUSED ? got.refusal : got.answer == FTD_RECEIVE_MESSAGE ? 100 : 0;
+}
+
+/* A packet of the second message without content, with this place; without any where it is above 65535. */
+static uint8_t received_place(struct ftd_receiver *end, char chain, unsigned long place) {
+    static const uint8_t tag[] = {0x70, 2}, head[] = {1, 0, 0, 0x77, 0x78, 0, 0, 3, 0, 0, 0, 2, 0, 0, 0, 0};
+    uint8_t bytes[24] = {1, 0, 0, sizeof head};
+    size_t at = 4;
+    struct ftd_received got;
+
+    if (place <= 65535) {
+        bytes[1] = 4;
+        memcpy(bytes + at, tag, sizeof tag);
+        bytes[6] = (uint8_t)(place >> 8);
+        bytes[7] = (uint8_t)place;
+        at += 4;
+    }
+    memcpy(bytes + at, head, sizeof head);
+    bytes[at + 5] = (uint8_t)chain;
+    got = ftd_receive(*end, bytes, at + sizeof head, buffer, sizeof buffer);
+    *end = got.end;
+    return got.refusal;
+}
+
+/* Both Sends write the place behind the trade date; packets lost, repeated and late are 17, until the first one comes
+ * again. */
+static void places_compared(void) {
+    struct ftd_receiver start, end;
+    struct ftd_sender sender = at_the_second(&start);
+    struct ftd_sent_packet sent;
+    struct ftd_packet read;
+    size_t i;
+
+    for (i = 0; i < 3; i++) {
+        static const uint8_t tags[] = {5, 4, 0, 0, 0, 100, 0x70, 2, 0};
+
+        sent = packet_of(sender, PACKET);
+        is_piece(&sent, i);
+        sender = sent.end;
+        EXPECT(output[1] == 10 && memcmp(output + 4, tags, sizeof tags) == 0 && output[13] == i);
+        read = ftd_read(output, sent.bytes);
+        EXPECT(read.placed == 1 && read.place == i && read.dated == 1 && read.date == 100);
+    }
+    end = start;
+    EXPECT(received_piece(&end, 0) == 0 && received_piece(&end, 2) == FTD_BROKEN_CHAIN); /* the middle one is lost */
+    EXPECT(received_piece(&end, 1) == FTD_BROKEN_CHAIN && received_piece(&end, 2) == FTD_BROKEN_CHAIN);
+    EXPECT(received_piece(&end, 0) == 0 && received_piece(&end, 1) == 0);
+    EXPECT(received_piece(&end, 1) == FTD_BROKEN_CHAIN); /* again */
+    EXPECT(received_piece(&end, 0) == 0 && received_piece(&end, 1) == 0 && received_piece(&end, 0) == 0);
+    EXPECT(end.series[1].pieces == 1 && end.series[1].held == 4006); /* the first one replaces what is held */
+    EXPECT(received_piece(&end, 1) == 0 && received_piece(&end, 2) == 100);
+    EXPECT(memcmp(buffer + FTD_MOST_CONTENT, large, sizeof large) == 0 && end.series[1].pieces == 0);
+    EXPECT(received_piece(&end, 2) == 0 && end.series[1].last == 2); /* again, whatever the place */
+    end = start;
+    EXPECT(received_place(&end, 'S', 1) == FTD_BROKEN_CHAIN && received_place(&end, 'F', 1) == FTD_BROKEN_CHAIN);
+    EXPECT(received_place(&end, 'F', 0) == 0 && received_place(&end, 'C', 65536) == 0 && end.series[1].pieces == 2);
+    EXPECT(received_place(&end, 'L', 2) == 0 && end.series[1].last == 2);
+}
+
+/* The count stops at 65536, with which no place agrees; a count above it is one that no call made. */
+static void places_counted(void) {
+    struct ftd_receiver start, end;
+
+    at_the_second(&start);
+    EXPECT(received_place(&start, 'F', 0) == 0);
+    start.series[1].pieces = FTD_MOST_PIECES - 1;
+    end = start;
+    EXPECT(received_place(&end, 'C', 65534) == FTD_BROKEN_CHAIN);
+    end = start;
+    EXPECT(received_place(&end, 'C', 65535) == 0 && end.series[1].pieces == FTD_MOST_PIECES);
+    EXPECT(received_place(&end, 'C', 65536) == 0 && end.series[1].pieces == FTD_MOST_PIECES);
+    start = end;
+    EXPECT(received_place(&end, 'C', 0) == FTD_BROKEN_CHAIN);
+    end = start;
+    EXPECT(received_place(&end, 'L', 65535) == FTD_BROKEN_CHAIN && end.series[1].last == 1);
+    start.series[1].pieces = UINT32_MAX;
+    end = start;
+    EXPECT(received_place(&end, 'C', 65535) == FTD_BROKEN_CHAIN);
+    end = start;
+    EXPECT(received_place(&end, 'C', 65536) == 0 && end.series[1].pieces == FTD_MOST_PIECES);
+    EXPECT(received_place(&end, 'L', 65536) == 0 && end.series[1].last == 2);
+}
+
+/* Another length, or two of them, is 2, in link packets too; skipped ones are kept unread. */
+static void places_refused(void) {
+    static const uint8_t right[] = {1, 4, 0, 0, 0x70, 2, 1, 2}, longer[] = {0, 5, 0, 0, 0x70, 3, 0, 0, 0};
+    static const uint8_t twice[] = {1, 8, 0, 0, 0x70, 2, 0, 0, 0x70, 2, 0, 0}, unread[] = {2, 2, 0, 0, 0x70, 0};
+    struct ftd_packet read = ftd_read(right, sizeof right);
+
+    EXPECT(read.answer == FTD_LINK && read.placed == 1 && read.place == 0x0102 && read.dated == 0);
+    read = ftd_read(twice, sizeof twice);
+    EXPECT(read.refusal == FTD_BROKEN_TAG && read.placed == 0 && read.place == 0);
+    EXPECT(ftd_read(longer, sizeof longer).refusal == FTD_BROKEN_TAG);
+    EXPECT(ftd_read(unread, sizeof unread).answer == FTD_SKIPPED && ftd_read(unread, sizeof unread).placed == 0);
+    EXPECT(ftd_write_plain(1, twice + 4, 8, NULL, 0, output, sizeof output).refusal == FTD_BROKEN_TAG);
+    EXPECT(ftd_write_plain(1, twice + 4, 4, NULL, 0, output, sizeof output).bytes == 8);
 }
 
 static size_t buffer_len = sizeof buffer; /* as it is lent in what follows */
@@ -604,11 +717,12 @@ static void several_received(void) {
     make_stream(&sender);
     got = taken_of(receiver, stream, sizeof stream);
     EXPECT(got.answer == FTD_SEVERAL_MESSAGE && got.taken == FIRST && got.last == 1 && got.tid == 0x7777);
-    EXPECT(got.origin == FTD_IN_PACKET && got.content.start == 6 + 26 && got.content.len == 4006);
+    EXPECT(got.origin == FTD_IN_PACKET && got.content.start == 6 + AROUND && got.content.len == 4006);
     EXPECT(got.end.series[1].last == 1 && memcmp(stream + got.content.start, large, 4006) == 0);
     got = taken_of(got.end, stream + FIRST, SECOND - 1);
     EXPECT(got.answer == FTD_SEVERAL_SHORT && got.taken == 7 + 2 * PACKET && got.missing == 1);
     EXPECT(got.end.series[1].chain == 1 && got.end.series[1].held == 2 * 4006 && got.end.series[1].last == 1);
+    EXPECT(got.end.series[1].pieces == 2);
     got = taken_of(got.end, stream + FIRST + got.taken, PACKET);
     EXPECT(got.answer == FTD_SEVERAL_MESSAGE && got.taken == PACKET && got.last == 2 && got.tid == 0x7778);
     EXPECT(got.origin == FTD_IN_BUFFER && got.content.start == FTD_MOST_CONTENT && got.content.len == sizeof large);
@@ -1456,6 +1570,9 @@ int main(void) {
     packet_by_packet();
     packets_ended();
     packets_turned_down();
+    places_compared();
+    places_counted();
+    places_refused();
     refusals_of_receiving();
     several_received();
     several_refused();

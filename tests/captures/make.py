@@ -13,7 +13,8 @@ import sys
 
 ROOT = os.path.dirname(os.path.dirname(os.path.dirname(os.path.abspath(__file__))))
 MOST = 65536  # bytes that the lister reads
-KNOWN = {0x00: 0, 0x01: 4, 0x02: 1, 0x03: 1, 0x04: 0, 0x05: 4, 0x06: 2}  # tags and the lengths of their data
+KNOWN = {0x00: 0, 0x01: 4, 0x02: 1, 0x03: 1, 0x04: 0, 0x05: 4, 0x06: 2, 0x70: 2}  # tags and the lengths of their data
+ONCE = (0x05, 0x70)  # tags that stand at most once: the trade date, the packet's place
 
 
 # ─── The reader ───
@@ -41,7 +42,7 @@ def broken(tags):
         return True
     if any(kind in KNOWN and KNOWN[kind] != len(data) for kind, data in tags):
         return True
-    return [kind for kind, _ in tags].count(0x05) > 1
+    return any([kind for kind, _ in tags].count(one) > 1 for one in ONCE)
 
 
 def fields_of(content):
@@ -138,6 +139,12 @@ ALIVE = bytes([0x04, 0])
 DATE = bytes([0x05, 4]) + (20040315).to_bytes(4, "big")
 UNKNOWN = bytes([0x77, 3, 1, 2, 3])
 
+
+def place(at, length=2):
+    """A packet's place in its message, tag 0x70; of another length it is wrong."""
+    return bytes([0x70, length]) + at.to_bytes(length, "big")
+
+
 # Each kind of line that one run can show.
 SAMPLE = b"".join(
     [
@@ -150,8 +157,8 @@ SAMPLE = b"".join(
         packet(2, b"\x00\x01", b"other type"),
         packet(255),
         message(0x2004, "S", 1, 1),
-        message(0x1001, "F", 2, 7, [field(0x0001, b"first"), field(0x0002, b"")], DATE),
-        message(0x1001, "C", 2, 7, [field(0x0003, b"middle" * 40)], DATE),
+        message(0x1001, "F", 2, 7, [field(0x0001, b"first"), field(0x0002, b"")], DATE + place(0)),
+        message(0x1001, "C", 2, 7, [field(0x0003, b"middle" * 40)], DATE + place(1)),
         message(0x1001, "L", 2, 7, [field(0x0004, b"last")], DATE + UNKNOWN),
         message(0xFEDCBA98, "S", 65535, 4294967295, [field(0xABCDEF01, b"")] * 12, UNKNOWN),
         packet(1, DATE + DATE),
@@ -167,9 +174,9 @@ def some_bytes(rng, most):
 
 
 def some_extension(rng):
-    """Whole tags, of which 0x05 stands at most once."""
+    """Whole tags, of which each kind stands at most once."""
     extension = b""
-    kinds = [0x00, 0x01, 0x02, 0x03, 0x04, 0x05, 0x06, 0x20, 0xFF]
+    kinds = [0x00, 0x01, 0x02, 0x03, 0x04, 0x05, 0x06, 0x20, 0x70, 0xFF]
     for kind in rng.sample(kinds, rng.randrange(4)):
         data = bytes(rng.randrange(256) for _ in range(KNOWN.get(kind, rng.randrange(20))))
         extension += bytes([kind, len(data)]) + data
@@ -194,9 +201,33 @@ def some_packet(rng):
 # ─── The files ───
 
 
+def placed():
+    """A long message, each packet with its place, and what else may stand in packets with one."""
+    parts = [message(0x1001, "FCCL"[i], 2, 7, [field(i, b"piece")], DATE + place(i)) for i in range(4)]
+    # Any number, any order of the tags, none at all: the lister compares nothing.
+    parts += [message(0x1001, "C", 2, 7, (), place(65535) + DATE), message(0x1001, "L", 2, 7), message(0x1001, "S", 2, 8, (), place(1))]
+    parts += [packet(0, place(0)), packet(1, ALIVE + place(9)), packet(0, place(3) + ALIVE)]
+    # Its neighbours are unknown tags; in skipped packets it is any bytes.
+    parts += [packet(1, bytes([0x6F, 0, 0x71, 1, 5, 0x71, 0])), packet(2, place(1) * 2), packet(0, place(1, 3), b"body")]
+    return b"".join(parts)
+
+
+def misplaced():
+    """Tag 0x70 with another length, cut off, or twice: behind right packets, in message and in link packets."""
+    wrong = [place(0, n) for n in (0, 1, 3, 4, 8)] + [place(1)[:n] for n in (1, 2, 3)]
+    wrong += [place(1) * 2, place(0) + DATE + place(1), place(2) + UNKNOWN + ALIVE + place(2)]
+    wrong += [DATE + one for one in wrong]
+    captures = []
+    for one in wrong:
+        for last in (message(0x1001, "C", 2, 7, [field(3, b"piece")], one), packet(0, one), packet(1, one)):
+            captures.append(packet(0, ALIVE) + packet(7, one) + last + packet(1))
+    assert all(listing(capture).endswith(b"refused\t2\n") for capture in captures)
+    return captures
+
+
 def valid(rng):
-    """The paper's example, packets of the largest sizes, and captures of many packets."""
-    captures = [PAPER, SAMPLE]
+    """The paper's example, packets of the largest sizes, packets with their place, and captures of many packets."""
+    captures = [PAPER, SAMPLE, placed()]
     captures.append(message(0x2001, "S", 3, 9, [field(1, bytes(4074))]) + packet(0, ALIVE))
     captures.append(message(0x2001, "L", 3, 10, [field(2, b"")] * 680, bytes([0x80, 125]) + bytes(125)))
     captures.append(packet(9, bytes(127), bytes(60000)) + packet(1, DATE))
@@ -208,16 +239,16 @@ def valid(rng):
 def small():
     """A capture of some two hundred bytes with each kind of packet."""
     parts = [packet(0, UNKNOWN + ALIVE), packet(1, DATE), packet(0, b"\x04", b"abc"), packet(7, b"", b"de")]
-    parts += [message(0x2004, "S", 1, 1), message(0x1001, "F", 2, 7, [field(1, b"ab"), field(2, b"")], DATE)]
+    parts += [message(0x2004, "S", 1, 1), message(0x1001, "F", 2, 7, [field(1, b"ab"), field(2, b"")], DATE + place(0))]
     parts += [message(0x1001, "C", 2, 7, [field(3, b"a field of the middle")], bytes([0x06, 2, 0, 1]) + DATE)]
     parts += [message(0x1001, "L", 2, 7, [field(4, b"the last field")], DATE), packet(1, UNKNOWN), packet(0, ALIVE)]
     return b"".join(parts)
 
 
 def damaged(_):
-    """Each byte of the small capture changed, to a few values."""
+    """Wrong places; and each byte of the small capture changed, to a few values."""
     capture = small()
-    captures = []
+    captures = misplaced()
     for i, byte in enumerate(capture):
         values = {0, 4, 255, byte ^ 1, (byte + 1) % 256} - {byte}
         captures += [capture[:i] + bytes([v]) + capture[i + 1 :] for v in sorted(values)]

@@ -11,6 +11,8 @@ use Rattle.ftd.specs.Fields.{field}
 use Rattle.ftd.specs.Packet.{chainLetter}
 use Rattle.ftd.specs.declared.tags.TradeDate.{TradeDate}
 use Rattle.ftd.specs.declared.tags.TradeDate.the-variants.{None, At}
+use Rattle.ftd.specs.declared.tags.PacketPlace.{PacketPlace}
+use Rattle.ftd.specs.declared.tags.PacketPlace.the-variants.{NoPlace, Nth}
 use Rattle.ftd.specs.declared.packet.Span.{Span}
 use Rattle.ftd.specs.declared.packet.Header.{Header}
 use Rattle.ftd.specs.declared.packet.Packet.{Packet}
@@ -65,6 +67,16 @@ tradeDateNumbers d = record { date = dateOf d; dated = datedFlag d }
 unfoldable pub dateFor : ℕ → ℕ → TradeDate
 dateFor dated date = cond (eqb dated 0) None (At date)
 
+-- ─── A packet's place in its message: 1 and its value, or 0 and 0 ───
+
+abbrev pub placedFlag : PacketPlace → ℕ
+placedFlag NoPlace = 0
+placedFlag (Nth j) = 1
+
+abbrev pub placeNumber : PacketPlace → ℕ
+placeNumber NoPlace = 0
+placeNumber (Nth j) = j
+
 -- ─── A part of lent bytes ───
 
 abbrev pub spanNumbers : Span → FtdSpan
@@ -94,15 +106,17 @@ plainNumbers answer missing refusal =
       date = 0;
       series = 0;
       fields = 0;
+      place = 0;
       answer = answer;
       refusal = refusal;
       kind = 0;
       chain = 0;
       dated = 0;
+      placed = 0;
     }
 
-unfoldable pub linkNumbers : ℕ → ℕ → Span → TradeDate → FtdPacket
-linkNumbers n kind e d =
+unfoldable pub linkNumbers : ℕ → ℕ → Span → TradeDate → PacketPlace → FtdPacket
+linkNumbers n kind e d j =
     record {
       size = n;
       missing = 0;
@@ -113,14 +127,16 @@ linkNumbers n kind e d =
       date = dateOf d;
       series = 0;
       fields = 0;
+      place = placeNumber j;
       answer = 1;
       refusal = 0;
       kind = kind;
       chain = 0;
       dated = datedFlag d;
+      placed = placedFlag j;
     }
 
--- The extension of a skipped packet is not read, so it has no trade date.
+-- The extension of a skipped packet is not read, so it has neither trade date nor place.
 unfoldable pub skippedNumbers : ℕ → ℕ → Span → Span → FtdPacket
 skippedNumbers n kind e body =
     record {
@@ -133,15 +149,17 @@ skippedNumbers n kind e body =
       date = 0;
       series = 0;
       fields = 0;
+      place = 0;
       answer = 2;
       refusal = 0;
       kind = kind;
       chain = 0;
       dated = 0;
+      placed = 0;
     }
 
-unfoldable pub messageNumbers : ℕ → Header → Span → Span → TradeDate → FtdPacket
-messageNumbers n h e content d =
+unfoldable pub messageNumbers : ℕ → Header → Span → Span → TradeDate → PacketPlace → FtdPacket
+messageNumbers n h e content d j =
     record {
       size = n;
       missing = 0;
@@ -152,24 +170,26 @@ messageNumbers n h e content d =
       date = dateOf d;
       series = h .series;
       fields = h .fields;
+      place = placeNumber j;
       answer = 3;
       refusal = 0;
       kind = 1;
       chain = chainLetter (h .chain);
       dated = datedFlag d;
+      placed = placedFlag j;
     }
 
 -- A link, skipped or message packet of n bytes.
-abbrev pub packetNumbers : ℕ → Packet → TradeDate → FtdPacket
-packetNumbers n (Short k) d = plainNumbers 0 k 0
-packetNumbers n (Link kind e) d = linkNumbers n kind e d
-packetNumbers n (Skipped kind e body) d = skippedNumbers n kind e body
-packetNumbers n (Message h e content) d = messageNumbers n h e content d
-packetNumbers n (Refused r) d = plainNumbers 4 0 (numberOf r)
+abbrev pub packetNumbers : ℕ → Packet → TradeDate → PacketPlace → FtdPacket
+packetNumbers n (Short k) d j = plainNumbers 0 k 0
+packetNumbers n (Link kind e) d j = linkNumbers n kind e d j
+packetNumbers n (Skipped kind e body) d j = skippedNumbers n kind e body
+packetNumbers n (Message h e content) d j = messageNumbers n h e content d j
+packetNumbers n (Refused r) d j = plainNumbers 4 0 (numberOf r)
 
--- A packet with the trade date that it bears.
+-- A packet with the trade date and the place that it bears.
 abbrev pub datedNumbers : ℕ → Dated → FtdPacket
-datedNumbers n x = packetNumbers n (x .packet) (x .date)
+datedNumbers n x = packetNumbers n (x .packet) (x .date) (x .place)
 
 -- ─── A field: 1, its FID and its place, or all 0 ───
 
@@ -193,10 +213,17 @@ abbrev pub verdictNumber : Checked → ℕ
 verdictNumber Passed = 0
 verdictNumber (Against r) = numberOf r
 
--- ─── A message written ───
+-- ─── A message written: its packets bear no place, which the ends' Sends alone write (02, No. 10) ───
 
 unfoldable pub messageFor : FtdMessage → Outgoing
-messageFor m = record { date = dateFor (m .dated) (m .date); tid = m .tid; series = m .series; number = m .number }
+messageFor m =
+    record {
+      date = dateFor (m .dated) (m .date);
+      tid = m .tid;
+      series = m .series;
+      number = m .number;
+      counted = false;
+    }
 
 abbrev pub sizeNumbers : ChainSize → FtdSize
 sizeNumbers (Takes s) = record { packets = s .packets; bytes = s .bytes; refusal = 0 }

@@ -38,7 +38,13 @@ keptFor x = record { series = x .series; date = dateFor (x .dated) (x .date); la
 
 abbrev pub liveFor : FtdKept → LiveSeries
 liveFor x =
-    record { login = not (eqb (x .login) 0); chain = not (eqb (x .chain) 0); tid = x .tid; held = x .held }
+    record {
+      login = not (eqb (x .login) 0);
+      chain = not (eqb (x .chain) 0);
+      tid = x .tid;
+      held = x .held;
+      pieces = x .pieces;
+    }
 
 unfoldable pub receiverFor : FtdReceiver → Receiver
 receiverFor s = receiver (s .count) (map keptFor (s .series)) (map liveFor (s .series))
@@ -52,6 +58,7 @@ keptNumbers k l =
       date = dateOf (k .date);
       last = k .last;
       tid = l .tid;
+      pieces = l .pieces;
       series = k .series;
       dated = datedFlag (k .date);
       login = flag (l .login);

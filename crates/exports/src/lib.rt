@@ -15,6 +15,8 @@ ghost use Rattle.exports.specs.Numbers.{spanNumbers, messageFor, sizeNum
 use crate::tags::date;
 use crate::tags::date_for;
 use crate::tags::dated;
+use crate::tags::place;
+use crate::tags::placed;
 use crate::written::FtdWritten;
 use crate::written::written;
 use ftd::bytes::be32;
@@ -36,6 +38,7 @@ use ftd::packet::letter;
 use ftd::packet::read_dated;
 use ftd::packet::said_length;
 use ftd::refusal::number;
+use ftd::tags::PacketPlace;
 use ftd::tags::TradeDate;
 use ftd::write::write_plain;
 
@@ -57,8 +60,8 @@ pub struct FtdSpan {
     pub len: usize,
 }
 
-// What some bytes are: the packet's length, places, header values, the trade date, which answer it is, and the number
-// of the refusal.
+// What some bytes are: the packet's length, places of its parts, header values, the trade date, its place in its message,
+// which answer it is, and the number of the refusal.
 #[repr(C)]
 pub struct FtdPacket {
     pub size: usize,
@@ -70,11 +73,13 @@ pub struct FtdPacket {
     pub date: u32,
     pub series: u16,
     pub fields: u16,
+    pub place: u16,
     pub answer: u8,
     pub refusal: u8,
     pub kind: u8,
     pub chain: u8,
     pub dated: u8,
+    pub placed: u8,
 }
 
 // A field: where its bytes lie, and its FID.
@@ -136,17 +141,19 @@ fn plain(answer: u8, missing: usize, refusal: u8) -> FtdPacket
         date: 0,
         series: 0,
         fields: 0,
+        place: 0,
         answer: answer,
         refusal: refusal,
         kind: 0,
         chain: 0,
         dated: 0,
+        placed: 0,
     }
 }
 
 // A link packet of n bytes.
-fn link(n: usize, kind: u8, e: Span, d: TradeDate) -> FtdPacket
-    ensures { λ r. ⌜ r ≡ linkNumbers n kind e d ⌝ }
+fn link(n: usize, kind: u8, e: Span, d: TradeDate, j: PacketPlace) -> FtdPacket
+    ensures { λ r. ⌜ r ≡ linkNumbers n kind e d j ⌝ }
 {
     FtdPacket {
         size: n,
@@ -158,11 +165,13 @@ fn link(n: usize, kind: u8, e: Span, d: TradeDate) -> FtdPacket
         date: date(d),
         series: 0,
         fields: 0,
+        place: place(j),
         answer: 1,
         refusal: 0,
         kind: kind,
         chain: 0,
         dated: dated(d),
+        placed: placed(j),
     }
 }
 
@@ -180,17 +189,19 @@ fn skipped(n: usize, kind: u8, e: Span, body: Span) -> FtdPacket
         date: 0,
         series: 0,
         fields: 0,
+        place: 0,
         answer: 2,
         refusal: 0,
         kind: kind,
         chain: 0,
         dated: 0,
+        placed: 0,
     }
 }
 
 // A message packet of n bytes.
-fn message(n: usize, h: Header, e: Span, content: Span, d: TradeDate) -> FtdPacket
-    ensures { λ r. ⌜ r ≡ messageNumbers n h e content d ⌝ }
+fn message(n: usize, h: Header, e: Span, content: Span, d: TradeDate, j: PacketPlace) -> FtdPacket
+    ensures { λ r. ⌜ r ≡ messageNumbers n h e content d j ⌝ }
 {
     let c = h.chain;
     FtdPacket {
@@ -203,21 +214,23 @@ fn message(n: usize, h: Header, e: Span, content: Span, d: TradeDate) -> FtdPack
         date: date(d),
         series: h.series,
         fields: h.fields,
+        place: place(j),
         answer: 3,
         refusal: 0,
         kind: 1,
         chain: letter(c),
         dated: dated(d),
+        placed: placed(j),
     }
 }
 
 // What was read, as numbers, with as many bytes as the first four say.
-fn numbers(n: usize, found: Packet, d: TradeDate) -> FtdPacket
-    ensures { λ r. ⌜ r ≡ packetNumbers n found d ⌝ }
+fn numbers(n: usize, found: Packet, d: TradeDate, j: PacketPlace) -> FtdPacket
+    ensures { λ r. ⌜ r ≡ packetNumbers n found d j ⌝ }
 {
     match found {
         Packet::Short(missing) => plain(0, missing, 0),
-        Packet::Link { kind, extension } => link(n, kind, extension, d),
+        Packet::Link { kind, extension } => link(n, kind, extension, d, j),
         Packet::Skipped {
             kind,
             extension,
@@ -227,7 +240,7 @@ fn numbers(n: usize, found: Packet, d: TradeDate) -> FtdPacket
             header,
             extension,
             content,
-        } => message(n, header, extension, content, d),
+        } => message(n, header, extension, content, d, j),
         Packet::Refused(r) => plain(4, 0, number(r)),
     }
 }
@@ -240,7 +253,8 @@ pub extern "C" fn ftd_read(p: &[u8]) -> FtdPacket
     let d = read_dated(p);
     let found = d.packet;
     let date = d.date;
-    numbers(said_length(p), found, date)
+    let place = d.place;
+    numbers(said_length(p), found, date, place)
 }
 
 // As many bytes as the first four say; 0 where they are not there.
@@ -333,6 +347,7 @@ fn message_for(m: FtdMessage) -> Message
         tid: m.tid,
         series: m.series,
         number: m.number,
+        counted: false,
     }
 }
 

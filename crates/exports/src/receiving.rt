@@ -34,6 +34,7 @@ pub struct FtdKept {
     pub date: u32,
     pub last: u32,
     pub tid: u32,
+    pub pieces: u32,
     pub series: u16,
     pub dated: u8,
     pub login: u8,
@@ -86,6 +87,7 @@ pub(crate) fn receiver_for(s: FtdReceiver) -> Receiver
         chain: false,
         tid: 0,
         held: 0,
+        pieces: 0,
     }; 8];
     let mut i: usize = 0;
     while i < 8 {
@@ -100,6 +102,7 @@ pub(crate) fn receiver_for(s: FtdReceiver) -> Receiver
             chain: one.chain != 0,
             tid: one.tid,
             held: one.held,
+            pieces: one.pieces,
         };
         i += 1;
     }
@@ -122,6 +125,7 @@ fn numbers(k: KeptSeries, l: LiveSeries) -> FtdKept
         date: date(own),
         last: k.last,
         tid: l.tid,
+        pieces: l.pieces,
         series: k.series,
         dated: dated(own),
         login: flag_of(l.login),
@@ -140,6 +144,7 @@ pub(crate) fn receiver_numbers(e: Receiver) -> FtdReceiver
         date: 0,
         last: 0,
         tid: 0,
+        pieces: 0,
         series: 0,
         dated: 0,
         login: 0,

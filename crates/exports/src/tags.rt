@@ -1,7 +1,8 @@
-// What the tags of an extension say, as numbers; trade dates and Bools as numbers.
+// What the tags of an extension say, as numbers; trade dates, places and Bools as numbers.
 ghost use mathlib.Core.Path.{_≡_};
 ghost use Rattle.ftd.specs.Tags.{tradeDateOf, keepAliveOf};
-ghost use Rattle.exports.specs.Numbers.{datedFlag, dateOf, dateFor, tradeDateNumbers, flag};
+ghost use Rattle.exports.specs.Numbers.{datedFlag, dateOf, dateFor, placedFlag, placeNumber, tradeDateNumbers, flag};
+use ftd::tags::PacketPlace;
 use ftd::tags::TradeDate;
 use ftd::tags::keep_alive;
 use ftd::tags::trade_date;
@@ -41,6 +42,26 @@ pub(crate) fn date_for(dated: u8, date: u32) -> TradeDate
         return TradeDate::None;
     }
     TradeDate::At(date)
+}
+
+// 1 where a packet bears its place in its message.
+pub(crate) fn placed(j: PacketPlace) -> u8
+    ensures { λ r. ⌜ r ≡ placedFlag j ⌝ }
+{
+    match j {
+        PacketPlace::NoPlace => 0,
+        PacketPlace::Nth(_) => 1,
+    }
+}
+
+// The place; 0 where it bears none.
+pub(crate) fn place(j: PacketPlace) -> u16
+    ensures { λ r. ⌜ r ≡ placeNumber j ⌝ }
+{
+    match j {
+        PacketPlace::NoPlace => 0,
+        PacketPlace::Nth(x) => x,
+    }
 }
 
 // 1 for true.

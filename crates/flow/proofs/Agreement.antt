@@ -27,8 +27,8 @@ has-packets log buffer es i m q =
 pub agreement : Agreement
 agreement =
     record {
-      safe = λ log buffer es s d l. safe-agreed (run (start log buffer) es) s d (safe-run log buffer es l);
-      dated = λ log buffer es l. safe-run log buffer es l .dated;
+      safe = λ log buffer es s d. safe-agreed (run (start log buffer) es) s d (safe-run log buffer es);
+      dated = λ log buffer es. safe-run log buffer es .dated;
       sent = has-packets;
       complete = complete;
     }

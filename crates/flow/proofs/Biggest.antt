@@ -2,13 +2,14 @@
 use Prim.Native.Nat.{ℕ, _+_, _*_, _≤_, _<_}
 use native.Mathlib.Omega.{arith}
 use mathlib.Core.Path.{_≡_, refl}
-use mathlib.Core.List.{List, [], _∷_}
-use mathlib.Core.Bool.{Bool, true, false}
+use mathlib.Core.List.{List, [], _∷_, _++_}
+use mathlib.Core.Bool.{Bool, true, false, cond}
 use mathlib.Core.Option.{Option, none, some}
 use borrow.Author.Tests.{not-false}
 use lib.ListN.{length, getD}
 use lib.Dec.{T, eqb}
 use Rattle.ftd.specs.Bytes.{joined}
+use Rattle.ftd.specs.Tags.{tagsFor, placeTag, extensionBytes}
 use Rattle.ftd.specs.Fields.{shaped, mostContent}
 use Rattle.ftd.specs.Chain.{packetsOf, piecesOf, overheadOf, overhead, mostPackets, mostPacket, mostOutput}
 use Rattle.ftd.specs.Chain.Laws.{pieceAtPlace}
@@ -57,20 +58,24 @@ module _ (m : Message) (content : List ℕ) (s : shaped content mostContent ≡ 
       omega (
         arith,
         chain-laws .packet-takes m content i h,
-        chain-laws .around (m .date),
+        chain-laws .around m,
         chain-laws .piece-whole content mostContent i s k
             .0,
       )
 
   all-fit : length (joined (packetsOf m content)) ≤ mostOutput
   unfolding overheadOf overhead
-  all-fit = go (m .date) (chain-laws .takes m content mostContent s)
+  all-fit = go (m .date) (m .counted) (chain-laws .takes m content mostContent s)
     where
-      go : (d : TradeDate)
-          → length (joined (packetsOf m content)) ≡ length content + length (packetsOf m content) * overheadOf d
+      go : (d : TradeDate) (b : Bool)
+          → length (joined (packetsOf m content))
+          ≡ length content + length (packetsOf m content)
+          * (4 + length (extensionBytes (tagsFor d ++ cond b (placeTag 0 ∷ []) [])) + 16)
           → length (joined (packetsOf m content)) ≤ mostOutput
-      go None h = omega (arith, h, few, short)
-      go (At d) h = omega (arith, h, few, short)
+      go None true h = omega (arith, h, few, short)
+      go None false h = omega (arith, h, few, short)
+      go (At d) true h = omega (arith, h, few, short)
+      go (At d) false h = omega (arith, h, few, short)
 
 -- ─── Content that Publish takes ───
 
@@ -161,11 +166,11 @@ module _ (e : Sender) (s : ℕ) (log out : List ℕ) (room : mostPacket ≤ leng
 
 -- ─── All of it ───
 
-reached : T (reaches 17 33210)
+reached : T (reaches 17 33278)
 unfolding opened biggestContent
 reached = tt
 
-in-numbers : (mostPackets ≡ 17) × (mostPacket ≡ 4106) × (mostOutput ≡ 33210)
+in-numbers : (mostPackets ≡ 17) × (mostPacket ≡ 4110) × (mostOutput ≡ 33278)
 unfolding overhead overheadOf
 in-numbers = (refl, refl, refl)
 

@@ -7,7 +7,7 @@ use lib.ListN.{length, take, drop, length-take}
 use lib.Dec.{T}
 use Rattle.ftd.specs.Bytes.{be16Of, be32Of}
 use Rattle.ftd.specs.Runs.{front, runOf}
-use Rattle.ftd.specs.Packet.{missingOf, saidLength, notOnePacket, readOf, withDate, datedOf, wrongBody}
+use Rattle.ftd.specs.Packet.{missingOf, saidLength, notOnePacket, readOf, withTags, datedOf, wrongBody}
 use Rattle.ftd.specs.Chain.Laws.{packetForm}
 use Rattle.ftd.proofs.Lists.{part-part}
 use Rattle.ftd.specs.declared.packet.Span.{Span}
@@ -24,10 +24,9 @@ use Rattle.flow.specs.Receiving.{receiveOf}
 use Rattle.flow.specs.Several.{stopped, placedFrom, receivedStops, receiving, recordForm, recordMissing}
 use Rattle.flow.specs.Several.{publishRecord, publishedStops, publishing, severalOf}
 use Rattle.flow.specs.SeveralHelpers.{LiesIn, AnswerIn}
-use Rattle.flow.specs.World.{Event, start, run, inRuns}
+use Rattle.flow.specs.World.{Event, start, run}
 use Rattle.flow.specs.Agreement.{of, latest, reported}
 use Rattle.flow.specs.Bufferful.{heard, Bufferful}
-use Rattle.ftd.proofs.table.Rule.{is-true}
 use Rattle.flow.proofs.first.Half.{start-safe}
 use Rattle.flow.proofs.source.Sources.{start-source}
 use Rattle.flow.proofs.several.OneByOne.{StopFits, Fits, one-by-one}
@@ -96,15 +95,15 @@ heads : (receiving .form .head ≡ 4) × (publishing .form .head ≡ 10)
 unfolding packetForm recordForm
 heads = (refl, refl)
 
-same-n : (log buffer : List ℕ) (es : List Event) (s d : ℕ) → T (inRuns (start log buffer) es)
+same-n : (log buffer : List ℕ) (es : List Event) (s d : ℕ)
     → latest 0 (of s d (heard (start log buffer) es)) ≡ reported (run (start log buffer) es) s d
 unfolding start
-same-n log buffer es s d t =
-    heard-run s d (start log buffer) (start-source log buffer) (start-safe log buffer) [] refl es (is-true _ t)
+same-n log buffer es s d =
+    heard-run s d (start log buffer) (start-source log buffer) (start-safe log buffer) [] refl es
 
 pub bufferful : Bufferful
 unfolding severalOf runOf front packetForm recordForm missingOf recordMissing
-    saidLength be16Of be32Of receiveOf notOnePacket datedOf withDate readOf wrongBody
+    saidLength be16Of be32Of receiveOf notOnePacket datedOf withTags readOf wrongBody
 bufferful =
     record {
       packets = one-by-one receiving packets-fit;

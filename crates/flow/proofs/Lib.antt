@@ -14,6 +14,7 @@ pub mod second
 pub mod numbers
 pub mod Agreement
 pub mod PacketByPacket
+pub mod EveryPiece
 pub mod Follows
 pub mod bench
 pub mod Biggest

@@ -11,7 +11,7 @@ use mathlib.Core.Bool.{true}
 use lib.ListN.{length}
 use Rattle.ftd.specs.Chain.{packetsOf}
 use Rattle.ftd.specs.Fields.{shaped}
-use Rattle.ftd.specs.Chain.Laws.{pieceAtPlace, packetAtPlace}
+use Rattle.ftd.specs.Chain.Laws.{pieceAtPlace, packetAtPlace, placeFor}
 use Rattle.ftd.specs.Login.{loginBytes}
 use Rattle.ftd.specs.declared.tags.TradeDate.{TradeDate}
 use Rattle.ftd.specs.declared.chain.Message.{Message as Headed}
@@ -33,11 +33,11 @@ pub record PacketLaws : Type 0 where
   pub answer : (date : TradeDate) (content : List ℕ) → Answering content → (r : Receiver) (s : ℕ)
       → confirmLoginOf r s (loginBytes date content) ≡ confirmByLogin r s date
   -- Packet j of a message, read by Receive at any receiving end: series, number and TID of the message, the letter of
-  -- its place, its piece.
+  -- its place, the place itself where the packets are counted, its piece.
   pub message : (m : Headed) (c : List ℕ) (j : ℕ) (inside : j < length (packetsOf m c)) (limit : ℕ)
       → shaped c limit ≡ true → (e : Receiver) (buffer : List ℕ)
-      → receiveOf e (packetAtPlace m c j) buffer ≡ receiveWith e (headerAt m c j inside) (m .date) (spanAt m c j inside)
-      (pieceAtPlace c j .bytes) buffer
+      → receiveOf e (packetAtPlace m c j) buffer ≡ receiveWith e (headerAt m c j inside) (m .date) (placeFor m j)
+      (spanAt m c j inside) (pieceAtPlace c j .bytes) buffer
 
 pub packet-laws : PacketLaws
 packet-laws = record { request = login-by-ask; answer = confirm-by-login; message = packet-received }

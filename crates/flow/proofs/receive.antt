@@ -2,4 +2,5 @@
 pub mod Checks
 pub mod Pieces
 pub mod Rows
+pub mod Back
 pub mod Whole

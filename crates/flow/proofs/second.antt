@@ -4,6 +4,7 @@ pub mod SentFrom
 pub mod SentSince
 pub mod Sending
 pub mod Ready
+pub mod Followed
 pub mod Taking
 pub mod Due
 pub mod Half

@@ -6,14 +6,14 @@ use mathlib.Core.List.{List, [], _∷_, _++_, map}
 use mathlib.Core.Bool.{cond, _&&_}
 use mathlib.Core.Option.{some}
 use lib.ListN.{length, take, drop, getElem?}
-use lib.Dec.{T, eqb}
+use lib.Dec.{eqb}
 use Rattle.ftd.specs.declared.tags.TradeDate.the-variants.{At}
 use Rattle.flow.specs.declared.sender.Sent.the-variants.{Drained}
 use Rattle.flow.specs.Ends.{isDay, allParts}
 use Rattle.flow.specs.Serving.{sendOf}
 use Rattle.flow.specs.Answers.{Message}
 use Rattle.flow.specs.World.{InSeries, inSeries, Dated, Event, answer, message, whole, transmission, World, start}
-use Rattle.flow.specs.World.{step, run, inRuns}
+use Rattle.flow.specs.World.{step, run}
 
 -- ─── "For every series and day" ───
 
@@ -90,10 +90,10 @@ pub record CaughtUp (u v w : World) (s d : ℕ) (a out : List ℕ) : Type 0 wher
 -- "after every list of openings, publications, connections, login requests, logins, sends and deliveries, refused ones
 -- included"; "the ends start fresh, log and chain buffer with any length and content".
 pub record Agreement : Type 0 where
-  pub safe : (log buffer : List ℕ) (es : List Event) (s d : ℕ) → T (inRuns (start log buffer) es)
-      → Agreed (run (start log buffer) es) s d
+  -- To Receive may come any single packet of any transmission, in any order and number (02, No. 10).
+  pub safe : (log buffer : List ℕ) (es : List Event) (s d : ℕ) → Agreed (run (start log buffer) es) s d
   -- No message is handed on and nothing is reported that is of no day.
-  pub dated : (log buffer : List ℕ) (es : List Event) → T (inRuns (start log buffer) es) →
+  pub dated : (log buffer : List ℕ) (es : List Event) →
       let w = run (start log buffer) es in
       EachDated (w .receiving .handed) × EachDated (w .receiving .reports)
   -- Each message sent is on the line, whole, and has a packet: whatever was sent can be delivered.
@@ -102,10 +102,10 @@ pub record Agreement : Type 0 where
       getElem? (v .messages) i ≡ some m
       → (0 < length (m .what))
       × ((place : ℕ) × (getElem? (v .transmissions) place ≡ some (transmission (m .series) (m .what) whole)))
-  -- "And n is the published count whenever .."
+  -- "And n is the published count whenever ..", for messages delivered as runs with no other call of the receiving end
+  -- within them; single packets may come between the runs.
   pub complete : (log buffer : List ℕ) (es fs : List Event) (e : Event) (s d : ℕ) (a out : List ℕ) →
       let u = run (start log buffer) es in
       let v = step u e in
       let w = run v fs in
-      T (inRuns (start log buffer) (es ++ (e ∷ fs))) → CaughtUp u v w s d a out
-      → reported w s d ≡ length (publishedOn w s d)
+      CaughtUp u v w s d a out → reported w s d ≡ length (publishedOn w s d)

@@ -2,7 +2,7 @@
 -- the ends.
 use Prim.Native.Nat.{ℕ}
 use mathlib.Core.List.{List, [], _∷_, _++_}
-use mathlib.Core.Bool.{cond}
+use mathlib.Core.Bool.{true, cond}
 use lib.ListN.{replicate}
 use lib.Dec.{T}
 use Rattle.ftd.specs.Bytes.{joined}
@@ -73,7 +73,7 @@ atLast last = withSeries (openEndOf freshReceiver (1 ∷ []) .end) 1 (At 7) last
 -- S with a number.
 abbrev pub receivesRow : ℕ → Said
 receivesRow k =
-    let p = joined (packetsOf (record { date = At 7; tid = tid; series = 1; number = k }) (note 1 3)) in
+    let p = joined (packetsOf (record { date = At 7; tid = tid; series = 1; number = k; counted = true }) (note 1 3)) in
     let r = receiveOf (atLast 5) p [] in
     receivedSaid p (r .bytes) (r .answer)
 

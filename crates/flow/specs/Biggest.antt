@@ -1,9 +1,9 @@
--- The biggest message there is (02, No. 5): what the packets of a message take at most, one message that takes as much,
+-- The biggest message there is (02, No. 5, with the tags of No. 10): what the packets of a message take at most, one message that takes as much,
 -- and an output that is never too small for Send.
 use Prim.Native.Nat.{ℕ, _≤_, _<_}
 use mathlib.Core.Path.{_≡_}
 use mathlib.Core.List.{List, [], _∷_, _++_}
-use mathlib.Core.Bool.{Bool, _&&_}
+use mathlib.Core.Bool.{Bool, true, _&&_}
 use lib.ListN.{length, getD, replicate}
 use lib.Dec.{T, eqb}
 use Rattle.ftd.specs.Bytes.{joined}
@@ -34,7 +34,7 @@ unfoldable pub biggestContent : List ℕ
 biggestContent = joined (replicate 8 (note 0 0 ++ note 0 4069)) ++ note 0 114
 
 abbrev pub biggestMessage : Message
-biggestMessage = record { date = At 7; tid = tid; series = 1; number = 1 }
+biggestMessage = record { date = At 7; tid = tid; series = 1; number = 1; counted = true }
 
 -- Publish takes it, as number 1 of series 1, and it needs so many packets and bytes.
 abbrev pub reaches : ℕ → ℕ → Bool
@@ -50,7 +50,7 @@ reaches packets bytes =
 
 pub record Biggest : Type 0 where
   -- In numbers.
-  pub in-numbers : (mostPackets ≡ 17) × (mostPacket ≡ 4106) × (mostOutput ≡ 33210)
+  pub in-numbers : (mostPackets ≡ 17) × (mostPacket ≡ 4110) × (mostOutput ≡ 33278)
   -- Content that Publish takes needs at most so many packets, each of at most so many bytes, and so many bytes in all,
   -- whatever the packets bear.
   pub packets : (e : Sender) (s t : ℕ) (content log : List ℕ) (k : ℕ) → publishOf e s t content log .answer ≡ Number k
@@ -60,7 +60,7 @@ pub record Biggest : Type 0 where
   pub bytes : (e : Sender) (s t : ℕ) (content log : List ℕ) (k : ℕ) → publishOf e s t content log .answer ≡ Number k
       → (m : Message) → length (joined (packetsOf m content)) ≤ mostOutput
   -- One message takes as many.
-  pub reached : T (reaches 17 33210)
+  pub reached : T (reaches 17 33278)
   -- An output of as many bytes is never too small for Send, whatever the log holds.
   pub enough : (e : Sender) (s : ℕ) (log out : List ℕ) → mostOutput ≤ length out
       → sendOf e s log out .answer ≡ Refused TooSmall → ⊥

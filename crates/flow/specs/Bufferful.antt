@@ -5,7 +5,7 @@ use mathlib.Core.Path.{_≡_}
 use mathlib.Core.List.{List, [], _∷_, _++_, map}
 use mathlib.Core.Bool.{Bool, true, false, cond}
 use lib.ListN.{length, drop, replicate}
-use lib.Dec.{T, eqb}
+use lib.Dec.{eqb}
 use Rattle.ftd.specs.Runs.{runOf}
 use Rattle.ftd.specs.declared.refusal.Refusal.the-variants.{LongExtension, BodyLength}
 use Rattle.flow.specs.declared.sender.Sender.{Sender}
@@ -15,7 +15,7 @@ use Rattle.flow.specs.declared.several.PublishedSeveral.the-variants.{En
 use Rattle.flow.specs.Answers.{Said, refused, opened, published, answered, sent, none, asked, confirmed, idle}
 use Rattle.flow.specs.Answers.{again, held, handedOn, sentPacket}
 use Rattle.flow.specs.World.{Dated, Event, openSender, publish, login, send, openReceiver, connect, requestLogin}
-use Rattle.flow.specs.World.{sendPacket, confirmLogin, receive, World, start, step, run, inRuns}
+use Rattle.flow.specs.World.{sendPacket, confirmLogin, receive, World, start, step, run}
 use Rattle.flow.specs.Agreement.{of, latest, reported, since}
 use Rattle.flow.specs.Several.{Told, end, short, stopped, Repeated, Took, took, severalOf, receiving, publishing}
 use Rattle.flow.specs.Several.{receiveSeveralOf, publishSeveralOf}
@@ -152,5 +152,5 @@ pub record Bufferful : Type 0 where
   pub no-record : (e : Sender) (l : List ℕ) → publishSeveralOf e [] l ≡ took e AllIn l 0
   pub nine-bytes : (e : Sender) (l : List ℕ) → publishSeveralOf e (replicate 9 255) l ≡ took e (Cut 1) l 0
   -- Demand 3's n, the last number reported of a series and a day, is the last one heard.
-  pub same-n : (log buffer : List ℕ) (es : List Event) (s d : ℕ) → T (inRuns (start log buffer) es)
+  pub same-n : (log buffer : List ℕ) (es : List Event) (s d : ℕ)
       → latest 0 (of s d (heard (start log buffer) es)) ≡ reported (run (start log buffer) es) s d

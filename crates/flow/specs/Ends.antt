@@ -62,6 +62,11 @@ requestContent = 4068
 abbrev pub mostMessages : ℕ
 mostMessages = 1000000
 
+-- Pieces of a chain are counted so far and no further (02, No. 10): one more than a packet's place can be, so that from
+-- there on no place agrees.
+abbrev pub mostPieces : ℕ
+mostPieces = 65536
+
 -- The limits of each end, for the constants of its type.
 abbrev pub senderLimits : Limits
 senderLimits = record { series = mostSeries; messages = mostMessages; content = mostContent; login = packetContent }
@@ -166,7 +171,7 @@ abbrev pub newKept : ℕ → KeptSeries
 newKept s = record { series = s; date = None; last = 0 }
 
 abbrev pub noLive : LiveSeries
-noLive = record { login = false; chain = false; tid = 0; held = 0 }
+noLive = record { login = false; chain = false; tid = 0; held = 0; pieces = 0 }
 
 abbrev pub receiver : ℕ → List KeptSeries → List LiveSeries → Receiver
 receiver count kept live = record { kept = record { count = count; series = kept }; live = record { series = live } }
@@ -193,12 +198,12 @@ dayOf e s = cond (isOpen e s) (keptOf e s .date) None
 abbrev pub lastOf : Receiver → ℕ → ℕ
 lastOf e s = cond (isOpen e s) (keptOf e s .last) 0
 
--- Logged in, with no chain or with a chain of a TID and so many bytes held.
+-- Logged in, with no chain or with a chain of a TID and so many bytes and pieces held.
 abbrev pub loggedIn : LiveSeries
-loggedIn = record { login = true; chain = false; tid = 0; held = 0 }
+loggedIn = record { login = true; chain = false; tid = 0; held = 0; pieces = 0 }
 
-abbrev pub holding : ℕ → ℕ → LiveSeries
-holding tid held = record { login = true; chain = true; tid = tid; held = held }
+abbrev pub holding : ℕ → ℕ → ℕ → LiveSeries
+holding tid held pieces = record { login = true; chain = true; tid = tid; held = held; pieces = pieces }
 
 -- A series with what is now kept of it and what it now has on this connection.
 unfoldable pub withSeries : Receiver → ℕ → TradeDate → ℕ → LiveSeries → Receiver

@@ -149,7 +149,8 @@ pub record FromOne (s d : ℕ) (buffer : List ℕ) (cs : List Call) : Type 0 whe
 abbrev pub sample : Chain → ℕ → ℕ → Call
 sample c d k =
     receive
-    (packetFor (record { date = At d; tid = tid; series = 1; number = k }) c (record { bytes = note 1 3; count = 1 }))
+    (packetFor (record { date = At d; tid = tid; series = 1; number = k; counted = true }) 0 c
+    (record { bytes = note 1 3; count = 1 }))
 
 -- From last 5 on day 7: 6 is taken and comes again, 7 is taken, 9 is a gap; an Answer of the same day changes nothing,
 -- and 8 is taken. An Answer of day 8 starts anew, and only a packet of that day is taken as 1; one of day 7 is refused,

@@ -7,6 +7,7 @@ pub mod Promises
 pub mod World
 pub mod Agreement
 pub mod PacketByPacket
+pub mod EveryPiece
 pub mod Bench
 pub mod Follows
 pub mod Biggest

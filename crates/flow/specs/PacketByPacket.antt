@@ -39,7 +39,7 @@ use Rattle.flow.specs.Bench.{tid, note, space, reqLogin, rspLogin}
 
 -- Message x of series s, published at a place of day d, from 0: its number is one more.
 abbrev pub headedAt : ℕ → ℕ → ℕ → Message → Headed
-headedAt s d place x = record { date = At d; tid = x .tid; series = s; number = suc place }
+headedAt s d place x = record { date = At d; tid = x .tid; series = s; number = suc place; counted = true }
 
 -- A transmission is the first packets of a message that was published, in order; a whole one all of them, any other one
 -- not all.
@@ -98,7 +98,8 @@ pub record SamePublished (a b : Wrote Sender Published) : Type 0 where
 -- Entry x of a series, with number k, as packets of an end's day.
 abbrev pub allPackets : Sender → ℕ → ℕ → List ℕ → List (List ℕ)
 allPackets e s k x =
-    packetsOf (record { date = e .day .date; tid = entryTid x; series = s; number = k }) (entryContent x)
+    packetsOf (record { date = e .day .date; tid = entryTid x; series = s; number = k; counted = true })
+    (entryContent x)
 
 -- A Send of the whole message with number k in a series put all its packets on the line, as one transmission more.
 pub record AllSent (w v : World) (s k : ℕ) : Type 0 where
@@ -142,7 +143,7 @@ begins2 =
     ∷ requestLogin 1 reqLogin (space 200)
     ∷ login 1 0 rspLogin (space 200)
     ∷ confirmLogin 0
-    ∷ sendPacket 1 (space 4106)
+    ∷ sendPacket 1 (space 4110)
     ∷ receive 0 0
     ∷ []
 
@@ -159,18 +160,18 @@ exampleRows =
     (from
     (begins2
     ++ (sendPacket 1 (space 10)
-    ∷ sendPacket 1 (space 4106)
+    ∷ sendPacket 1 (space 4110)
     ∷ receive 0 1
-    ∷ sendPacket 1 (space 4106)
+    ∷ sendPacket 1 (space 4110)
     ∷ receive 1 0
-    ∷ sendPacket 1 (space 4106)
+    ∷ sendPacket 1 (space 4110)
     ∷ [])))) (1 ∷ 2 ∷ 1 ∷ 1 ∷ 2 ∷ 3 ∷ 2 ∷ 3 ∷ 0 ∷ [])
     -- broken off by a whole Send: both packets of number 1 again, and it is delivered with them
-    ∷ benchRow 3 (shown (from (begins2 ++ (send 1 (space 8300) ∷ receive 1 0 ∷ receive 1 1 ∷ []))))
+    ∷ benchRow 3 (shown (from (begins2 ++ (send 1 (space 8400) ∷ receive 1 0 ∷ receive 1 1 ∷ []))))
     (2 ∷ 1 ∷ 1 ∷ 2 ∷ 1 ∷ 2 ∷ 1 ∷ 2 ∷ 0 ∷ [])
     -- broken off by a login, which starts at 1 again: the next packet is the first
     ∷ benchRow 4
-    (shown (from (begins2 ++ (login 1 0 rspLogin (space 200) ∷ sendPacket 1 (space 4106) ∷ []))))
+    (shown (from (begins2 ++ (login 1 0 rspLogin (space 200) ∷ sendPacket 1 (space 4110) ∷ []))))
     (2 ∷ 1 ∷ 0 ∷ 1 ∷ 0 ∷ 1 ∷ 0 ∷ 1 ∷ 1 ∷ [])
     ∷ []
 

@@ -3,7 +3,7 @@
 -- call may write.
 use Prim.Native.Nat.{ℕ, _+_}
 use mathlib.Core.List.{List, _++_, map}
-use mathlib.Core.Bool.{Bool, true, not, _&&_, _||_}
+use mathlib.Core.Bool.{Bool, true, false, not, _&&_, _||_}
 use lib.ListN.{length, replicate}
 use lib.Dec.{ltb, leb, eqb}
 use Rattle.ftd.specs.Login.{loginTid, loginBytes}
@@ -20,6 +20,8 @@ use Rattle.ftd.specs.declared.refusal.Refusal.the-variants.{OutOfLine, BrokenCh
 use Rattle.ftd.specs.declared.composition.Direction.the-variants.{Up, Down}
 use Rattle.ftd.specs.declared.tags.TradeDate.{TradeDate}
 use Rattle.ftd.specs.declared.tags.TradeDate.the-variants.{None, At}
+use Rattle.ftd.specs.declared.tags.PacketPlace.{PacketPlace}
+use Rattle.ftd.specs.declared.tags.PacketPlace.the-variants.{NoPlace, Nth}
 use Rattle.ftd.specs.declared.packet.Span.{Span}
 use Rattle.ftd.specs.declared.packet.Chain.{Chain}
 use Rattle.ftd.specs.declared.packet.Chain.the-variants.{Single, First, Middle, Last}
@@ -42,7 +44,7 @@ use Rattle.flow.specs.declared.receiver.Origin.the-variants.{Packet as F
 use Rattle.flow.specs.declared.receiver.Received.{Received}
 use Rattle.flow.specs.declared.receiver.Received.the-variants.{Idle, Duplicate, Partial, Complete}
 use Rattle.flow.specs.declared.receiver.Received.the-variants.{Refused as NotTaken}
-use Rattle.flow.specs.Ends.{_when_else_, Left, Wrote, left, wrote, over, mostMessages, mostSeries, requestContent}
+use Rattle.flow.specs.Ends.{_when_else_, Left, Wrote, left, wrote, over, mostMessages, mostSeries, requestContent, mostPieces}
 use Rattle.flow.specs.Ends.{wrongSeries, filled, before, differs, newKept, noLive, loggedIn, holding, receiver}
 use Rattle.flow.specs.Ends.{isOpen, keptOf, liveOf, withSeries, partStart, allParts}
 use Rattle.flow.specs.Serving.{wrongRun, noLogin, notZero}
@@ -139,9 +141,18 @@ confirmLoginOf e s p =
 abbrev pub outOfLine : ℕ → ℕ → Bool
 outOfLine last k = eqb k 0 || ltb (last + 1) k || ltb mostMessages k
 
--- 17: C or L without an open chain of the same TID.
+-- 17: C or L without an open chain of the same TID; and, whatever the letter, a place that is not the count of the pieces
+-- held, S and F counting as 0 (02, No. 10). A packet without a place is not compared.
 abbrev pub brokenChain : LiveSeries → Header → Bool
 brokenChain live h = not (live .chain && eqb (live .tid) (h .tid))
+
+abbrev pub misplaced : PacketPlace → ℕ → Bool
+misplaced NoPlace pieces = false
+misplaced (Nth j) pieces = not (eqb j pieces)
+
+-- One piece more is held; the count stops at 65,536.
+abbrev pub oneMore : ℕ → ℕ
+oneMore pieces = pieces + 1 when ltb pieces mostPieces else mostPieces
 
 -- 18: the buffer is shorter than all its parts, or the chain passes 32,768.
 abbrev pub bufferShort : Receiver → List ℕ → Bool
@@ -158,13 +169,13 @@ advance e s last live = withSeries e s (keptOf e s .date) last live
 abbrev pub dropped : Receiver → ℕ → Receiver
 dropped e s = advance e s (keptOf e s .last) loggedIn
 
--- A piece behind `held` bytes of its chain.
-abbrev pub holds : Receiver → Header → ℕ → List ℕ → List ℕ → Wrote Receiver Received
-holds e h held content buffer =
+-- A piece behind `held` bytes of its chain, so many pieces.
+abbrev pub holds : Receiver → Header → ℕ → ℕ → List ℕ → List ℕ → Wrote Receiver Received
+holds e h held pieces content buffer =
     let s = h .series in
     wrote (dropped e s) (NotTaken TooSmall) buffer when bufferShort e buffer || chainLong held content else
-    wrote (advance e s (keptOf e s .last) (holding (h .tid) (held + length content))) (Partial (keptOf e s .last))
-    (put buffer (partStart e s + held) content)
+    wrote (advance e s (keptOf e s .last) (holding (h .tid) (held + length content) (oneMore pieces)))
+    (Partial (keptOf e s .last)) (put buffer (partStart e s + held) content)
 
 abbrev pub handsOn : Receiver → Header → ℕ → List ℕ → List ℕ → Wrote Receiver Received
 handsOn e h held content buffer =
@@ -175,20 +186,26 @@ handsOn e h held content buffer =
     (put buffer (partStart e s + held) content)
 
 -- The next number's packet, by its chain letter. F starts a chain, replacing any.
-abbrev pub nextPiece : Receiver → Header → Span → List ℕ → List ℕ → Chain → Wrote Receiver Received
-nextPiece e h at content buffer Single =
+abbrev pub nextPiece : Receiver → Header → PacketPlace → Span → List ℕ → List ℕ → Chain → Wrote Receiver Received
+nextPiece e h place at content buffer Single =
+    wrote (dropped e (h .series)) (NotTaken BrokenChain) buffer when misplaced place 0 else
     wrote (advance e (h .series) (h .number) loggedIn) (Complete (h .number) (h .tid) FromPacket at) buffer
-nextPiece e h at content buffer First = holds e h 0 content buffer
-nextPiece e h at content buffer Middle =
-    wrote (dropped e (h .series)) (NotTaken BrokenChain) buffer when brokenChain (liveOf e (h .series)) h else
-    holds e h (liveOf e (h .series) .held) content buffer
-nextPiece e h at content buffer Last =
-    wrote (dropped e (h .series)) (NotTaken BrokenChain) buffer when brokenChain (liveOf e (h .series)) h else
+nextPiece e h place at content buffer First =
+    wrote (dropped e (h .series)) (NotTaken BrokenChain) buffer when misplaced place 0 else
+    holds e h 0 0 content buffer
+nextPiece e h place at content buffer Middle =
+    wrote (dropped e (h .series)) (NotTaken BrokenChain) buffer when brokenChain (liveOf e (h .series)) h || misplaced
+    place (liveOf e (h .series) .pieces) else
+    holds e h (liveOf e (h .series) .held) (liveOf e (h .series) .pieces) content buffer
+nextPiece e h place at content buffer Last =
+    wrote (dropped e (h .series)) (NotTaken BrokenChain) buffer when brokenChain (liveOf e (h .series)) h || misplaced
+    place (liveOf e (h .series) .pieces) else
     handsOn e h (liveOf e (h .series) .held) content buffer
 
--- A message packet, as header, trade date, and place and bytes of its content: rows 13 to 18.
-unfoldable pub receiveWith : Receiver → Header → TradeDate → Span → List ℕ → List ℕ → Wrote Receiver Received
-receiveWith e h date at content buffer =
+-- A message packet, as header, trade date, place in its message, and place and bytes of its content: rows 13 to 18.
+unfoldable pub receiveWith : Receiver → Header → TradeDate → PacketPlace → Span → List ℕ → List ℕ
+    → Wrote Receiver Received
+receiveWith e h date place at content buffer =
     wrote e (NotTaken UnknownSeries) buffer when not (isOpen e (h .series)) else
     wrote e (NotTaken NotLoggedIn) buffer when not (liveOf e (h .series) .login) else
     wrote (dropped e (h .series)) (NotTaken OtherDay) buffer when differs date (keptOf e (h .series) .date) else
@@ -196,17 +213,18 @@ receiveWith e h date at content buffer =
     else
     wrote (dropped e (h .series)) (Duplicate (keptOf e (h .series) .last)) buffer when leb (h .number)
     (keptOf e (h .series) .last) else
-    nextPiece e h at content buffer (h .chain)
+    nextPiece e h place at content buffer (h .chain)
 
 -- What the reader makes of the packet: refusals 1 to 7; link and skipped packets are idle; short is 12 before.
-abbrev pub receiveRead : Receiver → List ℕ → List ℕ → TradeDate → Packet → Wrote Receiver Received
-receiveRead e p buffer date (Short n) = wrote e (NotTaken NotOnePacket) buffer
-receiveRead e p buffer date (Link kind extension) = wrote e Idle buffer
-receiveRead e p buffer date (Skipped kind extension body) = wrote e Idle buffer
-receiveRead e p buffer date (Message h extension c) = receiveWith e h date c (part p (c .start) (c .len)) buffer
-receiveRead e p buffer date (Unread r) = wrote e (NotTaken r) buffer
+abbrev pub receiveRead : Receiver → List ℕ → List ℕ → TradeDate → PacketPlace → Packet → Wrote Receiver Received
+receiveRead e p buffer date place (Short n) = wrote e (NotTaken NotOnePacket) buffer
+receiveRead e p buffer date place (Link kind extension) = wrote e Idle buffer
+receiveRead e p buffer date place (Skipped kind extension body) = wrote e Idle buffer
+receiveRead e p buffer date place (Message h extension c) =
+    receiveWith e h date place c (part p (c .start) (c .len)) buffer
+receiveRead e p buffer date place (Unread r) = wrote e (NotTaken r) buffer
 
 unfoldable pub receiveOf : Receiver → List ℕ → List ℕ → Wrote Receiver Received
 receiveOf e p buffer =
     wrote e (NotTaken NotOnePacket) buffer when notOnePacket p else
-    receiveRead e p buffer (datedOf p .date) (datedOf p .packet)
+    receiveRead e p buffer (datedOf p .date) (datedOf p .place) (datedOf p .packet)

@@ -49,7 +49,8 @@ FindsNext e s log (Entry i number start size) =
 
 -- What all packets of an entry bear.
 abbrev pub headed : Sender → ℕ → ℕ → List ℕ → Message
-headed e s number x = record { date = e .day .date; tid = entryTid x; series = s; number = number }
+headed e s number x =
+    record { date = e .day .date; tid = entryTid x; series = s; number = number; counted = true }
 
 -- Behind a packet of the message that is next in the series at place i.
 abbrev pub steppedAt : Sender → ℕ → ℕ → ℕ → Bool → Sender

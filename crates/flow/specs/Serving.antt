@@ -177,10 +177,11 @@ loginOf e s p content out =
 unfoldable pub noneLeft : Sender → ℕ → Bool
 noneLeft e s = ltb (publishedOf e s) (placeOf e s .next)
 
--- An entry as packets, each with the trade date as only tag; and as bytes.
+-- An entry as packets, each with the trade date and its place as only tags; and as bytes.
 abbrev pub sendPackets : Sender → ℕ → List ℕ → List (List ℕ)
 sendPackets e s x =
-    packetsOf (record { date = e .day .date; tid = entryTid x; series = s; number = placeOf e s .next })
+    packetsOf
+    (record { date = e .day .date; tid = entryTid x; series = s; number = placeOf e s .next; counted = true })
     (entryContent x)
 
 unfoldable pub sendBytes : Sender → ℕ → List ℕ → List ℕ

@@ -1,4 +1,4 @@
--- Both ends with a line between them (01, the paragraph "The line hands over .."): what is there after a list of calls,
+-- Both ends with a line between them (01, the paragraph "The line hands over .."; 02, No. 4 and 10): what is there after a list of calls,
 -- what the line was given, and what was published, handed on, reported and delivered. Numbers are not bounded here:
 -- what the parameters of the calls can hold is a part of it.
 use Prim.Native.Nat.{ℕ, zero, suc}
@@ -430,21 +430,3 @@ step w (receive i j) = with w (getElem? (w .serving .transmissions) i) λ t. wit
 abbrev pub run : World → List Event → World
 run w [] = w
 run w (e ∷ es) = run (step w e) es
-
--- ─── The line: "all its packets or the first few, as a run with no other call of the receiving end within it" ───
-
-abbrev pub inRun : World → Event → Bool
-inRun w (openSender date ss) = true
-inRun w (publish s tid content) = true
-inRun w (login s i content out) = true
-inRun w (send s out) = true
-inRun w (sendPacket s out) = true
-inRun w (openReceiver ss) = true
-inRun w connect = true
-inRun w (requestLogin s content out) = true
-inRun w (confirmLogin i) = true
-inRun w (receive i j) = continues (w .receiving .previous) i j
-
-abbrev pub inRuns : World → List Event → Bool
-inRuns w [] = true
-inRuns w (e ∷ es) = inRun w e && inRuns (step w e) es

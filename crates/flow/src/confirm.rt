@@ -93,6 +93,7 @@ fn confirm_at(e: Receiver, i: usize, series: u16, h: Header, date: TradeDate) ->
         chain: false,
         tid: 0,
         held: 0,
+        pieces: 0,
     };
     ConfirmStep {
         end: e.with_at(i, now, line),

@@ -5,6 +5,7 @@ ghost use Rattle.flow.specs.Biggest.{Biggest};
 ghost use Rattle.flow.specs.Bufferful.{Bufferful};
 ghost use Rattle.flow.specs.Follows.{NumbersFollow};
 ghost use Rattle.flow.specs.PacketByPacket.{PacketByPacket};
+ghost use Rattle.flow.specs.EveryPiece.{EveryPiece};
 
 pub mod limits; // the limits of both
 pub mod series; // series in a list
@@ -26,6 +27,11 @@ pub fn keeps_agreement()
 // One packet a call, as a promise.
 pub fn keeps_packet_by_packet()
     ensures { λ _. ⌜ PacketByPacket ⌝ }
+{}
+
+// Every piece counted, as a promise.
+pub fn keeps_every_piece()
+    ensures { λ _. ⌜ EveryPiece ⌝ }
 {}
 
 // The bench examples P1 to P12, as a promise: the definitions answer what the paper says.

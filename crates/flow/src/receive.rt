@@ -1,14 +1,14 @@
-// Receive at the receiving end (01, "The receiving end"): its tests in the refusal table's order, and its answer.
+// Receive at the receiving end (01, "The receiving end"): its tests in the refusal table's order, and its answer. The
+// packet's series is taken out of the end, decided on, and put back once.
 ghost use mathlib.Core.Path.{_≡_};
 ghost use Prim.Native.Nat.{_+_, _≤_};
 ghost use lib.ListN.{length};
 ghost use Rattle.ftd.specs.Bytes.{put};
 ghost use Rattle.ftd.specs.Fields.{mostContent};
-ghost use Rattle.flow.specs.declared.series.SeriesPlace.the-variants.{At};
-ghost use Rattle.flow.specs.Ends.{wrote, loggedIn, allParts};
-ghost use Rattle.flow.specs.Receiving.{outOfLine, brokenChain, advance, holds, handsOn, nextPiece, receiveWith};
-ghost use Rattle.flow.specs.Helpers.{FindsKept};
-ghost use Rattle.flow.specs.ReceiveHelpers.{noRoom, dropping, completing};
+ghost use Rattle.flow.specs.Ends.{wrote};
+ghost use Rattle.flow.specs.Receiving.{outOfLine, brokenChain, misplaced, oneMore, receiveWith};
+ghost use Rattle.flow.specs.ReceiveHelpers.{partsOf, noRoom, InParts, outOfChain, wrongPiece, leaves};
+ghost use Rattle.flow.specs.ReceiveHelpers.{oneDropping, oneCompleting, oneKeeping, oneHolds, onePiece, takesOne};
 use crate::days::differs;
 use crate::receiver::KeptSeries;
 use crate::receiver::LiveSeries;
@@ -18,11 +18,20 @@ use crate::receiver::Received;
 use crate::receiver::Receiver;
 use crate::series::SeriesPlace;
 use ftd::bytes::copy_at;
+use ftd::bytes::number16;
 use ftd::packet::Chain;
 use ftd::packet::Header;
 use ftd::packet::Span;
 use ftd::refusal::Refusal;
+use ftd::tags::PacketPlace;
 use ftd::tags::TradeDate;
+
+// What a packet leaves of its series, and the answer.
+pub(crate) struct OneStep {
+    pub kept: KeptSeries,
+    pub live: LiveSeries,
+    pub answer: Received,
+}
 
 // Refusal 16: number 0, above last + 1 or above 1,000,000.
 fn out_of_line(last: u32, number: u32) -> bool
@@ -47,22 +56,64 @@ fn broken_chain(live: LiveSeries, h: Header) -> bool
     true
 }
 
-// The bytes that all parts of the buffer take.
-fn all_parts(e: Receiver) -> usize
-    ensures { λ r. ⌜ r ≡ allParts e ⌝ }
+// Refusal 17: a place that is not the count of the pieces held (02, No. 10). Without a place nothing is compared.
+fn misplaced(place: PacketPlace, pieces: u32) -> bool
+    ensures { λ r. ⌜ r ≡ misplaced place pieces ⌝ }
 {
-    let kept = e.kept;
-    if kept.count < Receiver::MOST_SERIES {
-        return Receiver::PART * kept.count;
+    match place {
+        PacketPlace::NoPlace => false,
+        PacketPlace::Nth(j) => number16(j) != pieces,
+    }
+}
+
+// Refusal 17 of C and L: no open chain of the same TID, or the place is not the next.
+fn out_of_chain(live: LiveSeries, h: Header, place: PacketPlace) -> bool
+    ensures { λ r. ⌜ r ≡ outOfChain live h place ⌝ }
+{
+    if broken_chain(live, h) {
+        return true;
+    }
+    misplaced(place, live.pieces)
+}
+
+// Refusal 17, by the chain letter: S and F are piece 0.
+fn wrong_piece(live: LiveSeries, h: Header, place: PacketPlace) -> bool
+    ensures { λ r. ⌜ r ≡ wrongPiece live h place (h .chain) ⌝ }
+{
+    let chain = h.chain;
+    match chain {
+        Chain::Single => misplaced(place, 0),
+        Chain::First => misplaced(place, 0),
+        Chain::Middle => out_of_chain(live, h, place),
+        Chain::Last => out_of_chain(live, h, place),
+    }
+}
+
+// One piece more is held; the count stops at 65,536 (02, No. 10).
+fn one_more(pieces: u32) -> u32
+    ensures { λ r. ⌜ r ≡ oneMore pieces ⌝ }
+{
+    if pieces < Receiver::MOST_PIECES {
+        return pieces + 1;
+    }
+    Receiver::MOST_PIECES
+}
+
+// The bytes that all parts of the buffer take, by the count of the open series.
+fn all_parts(count: usize) -> usize
+    ensures { λ r. ⌜ r ≡ partsOf count ⌝ }
+{
+    if count < Receiver::MOST_SERIES {
+        return Receiver::PART * count;
     }
     Receiver::PART * Receiver::MOST_SERIES
 }
 
 // Refusal 18: the buffer is shorter than all its parts, or the chain passes 32,768.
-fn no_room(e: Receiver, size: usize, held: usize, more: usize) -> bool
-    ensures { λ r. ⌜ r ≡ noRoom e size held more ⌝ }
+fn no_room(count: usize, size: usize, held: usize, more: usize) -> bool
+    ensures { λ r. ⌜ r ≡ noRoom count size held more ⌝ }
 {
-    if size < all_parts(e) {
+    if size < all_parts(count) {
         return true;
     }
     if Receiver::PART < more {
@@ -80,215 +131,193 @@ fn put_piece(buffer: &mut [u8], start: usize, held: usize, content: &[u8])
     copy_at(&mut buffer[start..end], held, content);
 }
 
-// The series at a place keeps its trade date; its last number and what it has on this connection change.
-fn advance(e: Receiver, i: usize, series: u16, last: u32, live: LiveSeries) -> Receiver
-    requires { ⌜ FindsKept e series (At i) ⌝ }
-    ensures { λ r. ⌜ r ≡ advance e series last live ⌝ }
+// A way out that drops the chain: logged in, and last stays.
+fn drop_chain(kept: KeptSeries, answer: Received) -> OneStep
+    ensures { λ r. ⌜ r ≡ oneDropping kept answer ⌝ }
 {
-    let kept = e.kept;
-    let one = kept.series[i];
-    let date = one.date;
-    e.with_at(
-        i,
-        KeptSeries {
-            series: series,
-            date: date,
-            last: last,
+    OneStep {
+        kept: kept,
+        live: LiveSeries {
+            login: true,
+            chain: false,
+            tid: 0,
+            held: 0,
+            pieces: 0,
         },
-        live,
-    )
-}
-
-// The series at a place with a last number and no chain, logged in.
-fn without_chain(e: Receiver, i: usize, series: u16, last: u32) -> Receiver
-    requires { ⌜ FindsKept e series (At i) ⌝ }
-    ensures { λ r. ⌜ r ≡ advance e series last loggedIn ⌝ }
-{
-    let live = LiveSeries {
-        login: true,
-        chain: false,
-        tid: 0,
-        held: 0,
-    };
-    advance(e, i, series, last, live)
-}
-
-// A way out that drops the chain: last stays.
-fn drop_chain(e: Receiver, i: usize, series: u16, answer: Received) -> ReceiveStep
-    requires { ⌜ FindsKept e series (At i) ⌝ }
-    ensures { λ r. ⌜ r ≡ dropping e series answer ⌝ }
-{
-    let kept = e.kept;
-    let one = kept.series[i];
-    ReceiveStep {
-        end: without_chain(e, i, series, one.last),
         answer: answer,
     }
 }
 
 // A message is handed on: its number is the last one, and no chain is open.
-fn complete(e: Receiver, i: usize, h: Header, origin: Origin, content: Span) -> ReceiveStep
-    requires { ⌜ FindsKept e (h .series) (At i) ⌝ }
-    ensures { λ r. ⌜ r ≡ completing e h origin content ⌝ }
+fn complete(kept: KeptSeries, h: Header, origin: Origin, content: Span) -> OneStep
+    ensures { λ r. ⌜ r ≡ oneCompleting kept h origin content ⌝ }
 {
-    ReceiveStep {
-        end: without_chain(e, i, h.series, h.number),
-        answer: Received::Complete {
+    let date = kept.date;
+    drop_chain(
+        KeptSeries {
+            series: kept.series,
+            date: date,
+            last: h.number,
+        },
+        Received::Complete {
             last: h.number,
             tid: h.tid,
             origin: origin,
             content: content,
         },
+    )
+}
+
+// The next piece is held: its chain is open with so many bytes, and one piece more.
+fn keep_chain(kept: KeptSeries, tid: u32, held: usize, pieces: u32) -> OneStep
+    ensures { λ r. ⌜ r ≡ oneKeeping kept tid held pieces ⌝ }
+{
+    OneStep {
+        kept: kept,
+        live: LiveSeries {
+            login: true,
+            chain: true,
+            tid: tid,
+            held: held,
+            pieces: one_more(pieces),
+        },
+        answer: Received::Partial(kept.last),
     }
 }
 
-// A piece, F or C, behind the bytes held of its chain; 18.
+// A piece behind the bytes held of its chain, so many pieces; 18. The last one hands the message on.
 fn hold(
-    e: Receiver,
+    kept: KeptSeries,
     i: usize,
+    count: usize,
     h: Header,
     held: usize,
+    pieces: u32,
+    whole: bool,
     content: &[u8],
     buffer: &mut [u8],
-) -> ReceiveStep
-    requires { ⌜ FindsKept e (h .series) (At i) ⌝ }
-    ensures { λ r. ⌜ wrote (r .end) (r .answer) (now (buffer .exit)) ≡ holds e h held (now (content .entry))
+) -> OneStep
+    requires { ⌜ InParts i count ⌝ }
+    ensures { λ r. ⌜ leaves r (now (buffer .exit)) ≡ oneHolds kept i count h held pieces whole (now (content .entry))
         (now (buffer .entry)) ⌝ }
 {
-    if no_room(e, buffer.len(), held, content.len()) {
-        return drop_chain(e, i, h.series, Received::Refused(Refusal::TooSmall));
+    if no_room(count, buffer.len(), held, content.len()) {
+        return drop_chain(kept, Received::Refused(Refusal::TooSmall));
     }
-    put_piece(buffer, Receiver::PART * i, held, content);
-    let kept = e.kept;
-    let one = kept.series[i];
-    let live = LiveSeries {
-        login: true,
-        chain: true,
-        tid: h.tid,
-        held: held + content.len(),
-    };
-    ReceiveStep {
-        end: advance(e, i, h.series, one.last, live),
-        answer: Received::Partial(one.last),
+    let start = Receiver::PART * i;
+    let len = held + content.len();
+    put_piece(buffer, start, held, content);
+    if whole {
+        let all = Span {
+            start: start,
+            len: len,
+        };
+        return complete(kept, h, Origin::Buffer, all);
     }
-}
-
-// The last piece behind the bytes held of its chain, and the message is handed on; 18.
-fn hand_on(
-    e: Receiver,
-    i: usize,
-    h: Header,
-    held: usize,
-    content: &[u8],
-    buffer: &mut [u8],
-) -> ReceiveStep
-    requires { ⌜ FindsKept e (h .series) (At i) ⌝ }
-    ensures { λ r. ⌜ wrote (r .end) (r .answer) (now (buffer .exit)) ≡ handsOn e h held (now (content .entry))
-        (now (buffer .entry)) ⌝ }
-{
-    if no_room(e, buffer.len(), held, content.len()) {
-        return drop_chain(e, i, h.series, Received::Refused(Refusal::TooSmall));
-    }
-    put_piece(buffer, Receiver::PART * i, held, content);
-    let whole = Span {
-        start: Receiver::PART * i,
-        len: held + content.len(),
-    };
-    complete(e, i, h, Origin::Buffer, whole)
+    keep_chain(kept, h.tid, len, pieces)
 }
 
 // The next number's packet, by its chain letter; 17 and 18. F starts a chain, replacing any.
 fn take_piece(
-    e: Receiver,
+    kept: KeptSeries,
+    live: LiveSeries,
     i: usize,
+    count: usize,
     h: Header,
+    place: PacketPlace,
     at: Span,
     content: &[u8],
     buffer: &mut [u8],
-) -> ReceiveStep
-    requires { ⌜ FindsKept e (h .series) (At i) ⌝ }
-    ensures { λ r. ⌜ wrote (r .end) (r .answer) (now (buffer .exit)) ≡ nextPiece e h at (now (content .entry))
+) -> OneStep
+    requires { ⌜ InParts i count ⌝ }
+    ensures { λ r. ⌜ leaves r (now (buffer .exit)) ≡ onePiece kept live i count h place at (now (content .entry))
         (now (buffer .entry)) (h .chain) ⌝ }
 {
-    let all = e.live;
-    let live = all.series[i];
+    if wrong_piece(live, h, place) {
+        return drop_chain(kept, Received::Refused(Refusal::BrokenChain));
+    }
+    let held = live.held;
+    let pieces = live.pieces;
     let chain = h.chain;
     match chain {
-        Chain::Single => {
-            return complete(e, i, h, Origin::Packet, at);
-        }
-        Chain::First => {
-            return hold(e, i, h, 0, content, buffer);
-        }
-        Chain::Middle => {
-            if broken_chain(live, h) {
-                return drop_chain(e, i, h.series, Received::Refused(Refusal::BrokenChain));
-            }
-            return hold(e, i, h, live.held, content, buffer);
-        }
-        Chain::Last => {
-            if broken_chain(live, h) {
-                return drop_chain(e, i, h.series, Received::Refused(Refusal::BrokenChain));
-            }
-            return hand_on(e, i, h, live.held, content, buffer);
-        }
+        Chain::Single => complete(kept, h, Origin::Packet, at),
+        Chain::First => hold(kept, i, count, h, 0, 0, false, content, buffer),
+        Chain::Middle => hold(kept, i, count, h, held, pieces, false, content, buffer),
+        Chain::Last => hold(kept, i, count, h, held, pieces, true, content, buffer),
     }
 }
 
-// A message packet of an open series: 14, 15, 16, again, and then its piece.
-fn take_at(
-    e: Receiver,
+// A message packet of an open series, by what is kept of it, what it has on this connection, its place and the count of
+// the open ones: 14, 15, 16, again, and then its piece.
+fn take_one(
+    kept: KeptSeries,
+    live: LiveSeries,
     i: usize,
+    count: usize,
     h: Header,
     date: TradeDate,
+    place: PacketPlace,
     at: Span,
     content: &[u8],
     buffer: &mut [u8],
-) -> ReceiveStep
-    requires { ⌜ FindsKept e (h .series) (At i) ⌝ }
-    ensures { λ r. ⌜ wrote (r .end) (r .answer) (now (buffer .exit)) ≡ receiveWith e h date at (now (content .entry))
+) -> OneStep
+    requires { ⌜ InParts i count ⌝ }
+    ensures { λ r. ⌜ leaves r (now (buffer .exit)) ≡ takesOne kept live i count h date place at (now (content .entry))
         (now (buffer .entry)) ⌝ }
 {
-    let kept = e.kept;
-    let one = kept.series[i];
-    let all = e.live;
-    let live = all.series[i];
     if live.login {
-        let own = one.date;
+        let own = kept.date;
         if differs(date, own) {
-            return drop_chain(e, i, h.series, Received::Refused(Refusal::OtherDay));
+            return drop_chain(kept, Received::Refused(Refusal::OtherDay));
         }
-        if out_of_line(one.last, h.number) {
-            return drop_chain(e, i, h.series, Received::Refused(Refusal::OutOfLine));
+        if out_of_line(kept.last, h.number) {
+            return drop_chain(kept, Received::Refused(Refusal::OutOfLine));
         }
-        if h.number <= one.last {
-            return drop_chain(e, i, h.series, Received::Duplicate(one.last));
+        if h.number <= kept.last {
+            return drop_chain(kept, Received::Duplicate(kept.last));
         }
-        return take_piece(e, i, h, at, content, buffer);
+        return take_piece(kept, live, i, count, h, place, at, content, buffer);
     }
-    ReceiveStep {
-        end: e,
+    OneStep {
+        kept: kept,
+        live: live,
         answer: Received::Refused(Refusal::NotLoggedIn),
     }
 }
 
-// A message packet, as header, trade date, and place and bytes of its content: 13 to 18, again, or a piece.
+// A message packet, as header, trade date, place in its message, and place and bytes of its content: 13 to 18, again,
+// or a piece. Its series is taken out of the end and put back once.
 pub(crate) fn take_packet(
     e: Receiver,
     h: Header,
     date: TradeDate,
+    place: PacketPlace,
     at: Span,
     content: &[u8],
     buffer: &mut [u8],
 ) -> ReceiveStep
-    ensures { λ r. ⌜ wrote (r .end) (r .answer) (now (buffer .exit)) ≡ receiveWith e h date at (now (content .entry))
-        (now (buffer .entry)) ⌝ }
+    ensures { λ r. ⌜ wrote (r .end) (r .answer) (now (buffer .exit)) ≡ receiveWith e h date place at
+        (now (content .entry)) (now (buffer .entry)) ⌝ }
 {
     match e.find(h.series) {
         SeriesPlace::Unknown => ReceiveStep {
             end: e,
             answer: Received::Refused(Refusal::UnknownSeries),
         },
-        SeriesPlace::At(i) => take_at(e, i, h, date, at, content, buffer),
+        SeriesPlace::At(i) => {
+            let all = e.kept;
+            let count = all.count;
+            let kept = all.series[i];
+            let line = e.live;
+            let live = line.series[i];
+            let step = take_one(kept, live, i, count, h, date, place, at, content, buffer);
+            let left = step.kept;
+            let now = step.live;
+            let answer = step.answer;
+            ReceiveStep {
+                end: e.with_at(i, left, now),
+                answer: answer,
+            }
+        }
     }
 }

@@ -46,12 +46,14 @@ pub struct Kept {
     pub series: [KeptSeries; 8],
 }
 
-// What a series has on this connection: logged in, and an open chain with its TID and how many bytes of it are held.
+// What a series has on this connection: logged in, and an open chain with its TID, how many bytes of it are held, and
+// how many pieces, counted up to 65,536 (02, No. 10).
 pub struct LiveSeries {
     pub login: bool,
     pub chain: bool,
     pub tid: u32,
     pub held: usize,
+    pub pieces: u32,
 }
 
 pub struct Live {
@@ -145,6 +147,7 @@ fn no_line() -> Live
             chain: false,
             tid: 0,
             held: 0,
+            pieces: 0,
         }; 8],
     }
 }
@@ -166,6 +169,8 @@ impl Receiver {
     pub const MOST_MESSAGES: u32 = 1000000;
     // The reassembly buffer has so many bytes for each series: a message's content.
     pub const PART: usize = ftd::fields::MOST_CONTENT;
+    // Pieces of a chain are counted so far and no further (02, No. 10).
+    pub const MOST_PIECES: u32 = 65536;
     // At most so many bytes of the request's content: with the start field behind it, one packet holds it.
     pub const REQUEST_CONTENT: usize = 4068;
 
@@ -358,15 +363,16 @@ impl Receiver {
         let d = read_dated(packet);
         let read = d.packet;
         let date = d.date;
+        let place = d.place;
         match read {
             Packet::Message {
                 header,
                 extension: _,
-                content,
+                content: span,
             } => {
-                let at = content.start;
-                let n = content.len;
-                take_packet(self, header, date, content, &packet[at..at + n], buffer)
+                let at = span.start;
+                let n = span.len;
+                take_packet(self, header, date, place, span, &packet[at..at + n], buffer)
             }
             Packet::Refused(r) => ReceiveStep {
                 end: self,

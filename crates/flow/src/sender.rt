@@ -457,7 +457,7 @@ impl Sender {
         }
     }
 
-    // What all packets of an entry bear.
+    // What all packets of an entry bear; each bears its place too (02, No. 10).
     fn message_of(self, series: u16, number: u32, x: &[u8]) -> Message
         requires { ⌜ 16 ≤ length (now x) ⌝ }
         ensures { λ r. ⌜ r ≡ headed self series number (now (x .entry)) ⌝ }
@@ -469,6 +469,7 @@ impl Sender {
             tid: be32(x, 4),
             series: series,
             number: number,
+            counted: true,
         }
     }
 

@@ -1,11 +1,12 @@
 -- All that a computed example goes through: `unfolding opened` opens the whole list.
 use Rattle.ftd.specs.Bytes.{be16Of, be32Of, put}
 use Rattle.ftd.specs.Runs.{front, runOf}
-use Rattle.ftd.specs.Tags.{tag, lengthRight, knownTags, countDate, goodTags, tagPlace, tradeDateOf}
+use Rattle.ftd.specs.Tags.{tag, lengthRight, knownTags, countKind, goodTags, tagPlace, tradeDateOf}
+use Rattle.ftd.specs.Tags.{packetPlaceOf}
 use Rattle.ftd.specs.Fields.{field, exactRun, shaped, oneIf, countOf, firstOf}
 use Rattle.ftd.specs.Packet.{saidLength, extensionOf, versionOf, tidOf, letterOf, seriesOf, messageNumberOf}
 use Rattle.ftd.specs.Packet.{fieldCountOf, contentLengthOf, contentOf, restMissing, missingOf, wrongBody, isSkipped}
-use Rattle.ftd.specs.Packet.{isLetter, chainOf, headerOf, acceptedOf, messageOf, wholeOf, readOf, withDate}
+use Rattle.ftd.specs.Packet.{isLetter, chainOf, headerOf, acceptedOf, messageOf, wholeOf, readOf, withTags}
 use Rattle.ftd.specs.Packet.{datedOf, notOnePacket, noMessagePacket}
 use Rattle.ftd.specs.Write.{packetBytes, headerBytes, messageBytes}
 use Rattle.ftd.specs.Chain.{piecesOf, headerFor, packetFor, packetsOf}
@@ -22,9 +23,9 @@ use Rattle.ftd.specs.Login.{loginHeader, loginBytes}
 use Rattle.ftd.specs.Bench.{upToNine, twelfth, missingRows, bench}
 
 unfoldable pub opened : Unit {0}
-unfolding be16Of be32Of put front runOf tag lengthRight knownTags countDate goodTags tagPlace tradeDateOf field exactRun
+unfolding be16Of be32Of put front runOf tag lengthRight knownTags countKind goodTags tagPlace tradeDateOf packetPlaceOf field exactRun
     saidLength extensionOf versionOf tidOf letterOf seriesOf messageNumberOf fieldCountOf contentLengthOf contentOf
-    restMissing missingOf wrongBody isSkipped isLetter chainOf headerOf acceptedOf messageOf wholeOf readOf withDate datedOf
+    restMissing missingOf wrongBody isSkipped isLetter chainOf headerOf acceptedOf messageOf wholeOf readOf withTags datedOf
     notOnePacket noMessagePacket packetBytes headerBytes messageBytes shaped piecesOf headerFor packetFor packetsOf
     packetForm enumerations table rowsOf leapYear months monthDays realDate
     isListed isNumber withoutPoint isFloat isDate isValue wrongWidth walkOf

@@ -6,3 +6,4 @@ pub mod Singles
 pub mod Rest
 pub mod Sizes
 pub mod Laws
+pub mod Tagging

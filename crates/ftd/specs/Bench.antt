@@ -75,7 +75,7 @@ dataField n = bytes32 1 ++ (bytes16 n ++ replicate n 32)
 
 abbrev pub lettersOf : List ℕ → List ℕ
 lettersOf content =
-    map (λ (p : List ℕ). letterOf p) (packetsOf (record { date = None; tid = 8196; series = 1; number = 1 }) content)
+    map (λ (p : List ℕ). letterOf p) (packetsOf (record { date = None; tid = 8196; series = 1; number = 1; counted = false }) content)
 
 -- A row whose bytes stand as the price, item 3 of a MarketMatchIncDataField (FID 0x000A, 29 bytes): the field is
 -- checked, and the price read as Float 12,4.

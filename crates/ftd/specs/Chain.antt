@@ -2,7 +2,7 @@
 -- order.
 pub mod Helpers
 pub mod Laws
-use Prim.Native.Nat.{ℕ, _+_, _-_, _*_}
+use Prim.Native.Nat.{ℕ, suc, _+_, _-_, _*_}
 use mathlib.Core.List.{List, [], _∷_, _++_}
 use mathlib.Core.Bool.{Bool, true, false, cond}
 use lib.ListN.{length, getD, drop}
@@ -10,8 +10,7 @@ use lib.Dec.{ltb, leb, eqb}
 use Rattle.ftd.specs.Bytes.{joined}
 use Rattle.ftd.specs.Fields.{fieldsOf, shaped, mostContent, packetContent}
 use Rattle.ftd.specs.Write.{messageBytes, Verdict, fine, refuse}
-use Rattle.ftd.specs.Tags.{extensionBytes, tagsFor}
-use Rattle.ftd.specs.declared.tags.TradeDate.{TradeDate}
+use Rattle.ftd.specs.Tags.{Tag, extensionBytes, tagsFor, placeTag}
 use Rattle.ftd.specs.declared.tags.TradeDate.the-variants.{At}
 use Rattle.ftd.specs.declared.refusal.Refusal.the-variants.{FieldRun, TooSmall}
 use Rattle.ftd.specs.declared.packet.Chain.{Chain}
@@ -62,20 +61,25 @@ chainAt false false = Middle
 unfoldable pub headerFor : Message → Chain → ℕ → Header
 headerFor m c count = record { tid = m .tid; chain = c; series = m .series; number = m .number; fields = count }
 
-unfoldable pub packetFor : Message → Chain → Piece → List ℕ
-packetFor m c p = messageBytes (headerFor m c (p .count)) (extensionBytes (tagsFor (m .date))) (p .bytes)
+-- The tags of packet j: the trade date, if any, and behind it, where the packets are counted, its place.
+abbrev pub tagsAt : Message → ℕ → List Tag
+tagsAt m j = tagsFor (m .date) ++ cond (m .counted) (placeTag j ∷ []) []
+
+unfoldable pub packetFor : Message → ℕ → Chain → Piece → List ℕ
+packetFor m j c p = messageBytes (headerFor m c (p .count)) (extensionBytes (tagsAt m j)) (p .bytes)
 
 abbrev pub isNil : List Piece → Bool
 isNil [] = true
 isNil (p ∷ ps) = false
 
-abbrev pub framed : Message → Bool → List Piece → List (List ℕ)
-framed m first [] = []
-framed m first (p ∷ ps) = packetFor m (chainAt first (isNil ps)) p ∷ framed m false ps
+-- From place j on.
+abbrev pub framed : Message → ℕ → List Piece → List (List ℕ)
+framed m j [] = []
+framed m j (p ∷ ps) = packetFor m j (chainAt (eqb j 0) (isNil ps)) p ∷ framed m (suc j) ps
 
 -- The packets of a message, by place.
 unfoldable pub packetsOf : Message → List ℕ → List (List ℕ)
-packetsOf m content = framed m true (piecesOf content)
+packetsOf m content = framed m 0 (piecesOf content)
 
 -- ─── What the writers refuse ───
 
@@ -116,13 +120,14 @@ sizeAnswer m content =
 
 -- ─── The most that a message takes (02, No. 5) ───
 
--- A packet's bytes besides its content: the first four, the tags that an end writes, the message's header.
-unfoldable pub overheadOf : TradeDate → ℕ
-overheadOf d = 4 + length (extensionBytes (tagsFor d)) + 16
+-- A packet's bytes besides its content: the first four, the tags that an end writes, the message's header. Every place
+-- takes as many.
+unfoldable pub overheadOf : Message → ℕ
+overheadOf m = 4 + length (extensionBytes (tagsAt m 0)) + 16
 
--- With a trade date; every trade date takes as many.
+-- With a trade date, and counted; every trade date takes as many.
 unfoldable pub overhead : ℕ
-overhead = overheadOf (At 0)
+overhead = overheadOf (record { date = At 0; tid = 0; series = 0; number = 0; counted = true })
 
 -- Packets of a message (`ChainLaws.few`); bytes of one of them, and of all.
 abbrev pub mostPackets : ℕ

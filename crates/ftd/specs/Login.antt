@@ -14,6 +14,7 @@ use Rattle.ftd.specs.Tags.{tagsFor, extensionBytes}
 use Rattle.ftd.specs.Resume.{resumeBytes}
 use Rattle.ftd.specs.declared.refusal.Refusal.the-variants.{FieldRun}
 use Rattle.ftd.specs.declared.tags.TradeDate.{TradeDate}
+use Rattle.ftd.specs.declared.tags.PacketPlace.the-variants.{NoPlace}
 use Rattle.ftd.specs.declared.packet.Chain.the-variants.{Single}
 use Rattle.ftd.specs.declared.packet.Header.{Header}
 use Rattle.ftd.specs.declared.packet.Packet.the-variants.{Message}
@@ -52,6 +53,7 @@ pub record LoginLaws : Type 0 where
         Message (loginHeader c) (span 4 (length (extensionBytes (tagsFor d))))
         (span (4 + length (extensionBytes (tagsFor d)) + 16) (length c));
     date = d;
+    place = NoPlace;
   }
   pub content-back : (d : TradeDate) (c : List ℕ)
       → part (loginBytes d c) (4 + length (extensionBytes (tagsFor d)) + 16) (length c) ≡ c

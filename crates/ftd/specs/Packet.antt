@@ -7,7 +7,7 @@ use mathlib.Core.Bool.{Bool, true, false, cond, not, _&&_, _||_}
 use lib.ListN.{length, getD}
 use lib.Dec.{ltb, leb, eqb}
 use Rattle.ftd.specs.Bytes.{be16Of, be32Of, part}
-use Rattle.ftd.specs.Tags.{goodTags, tradeDateOf}
+use Rattle.ftd.specs.Tags.{goodTags, tradeDateOf, packetPlaceOf}
 use Rattle.ftd.specs.Fields.{exactRun, fieldsOf, fieldPlaceOf}
 use Rattle.ftd.specs.declared.fields.FieldPlace.{FieldPlace}
 use Rattle.ftd.specs.declared.fields.FieldPlace.the-variants.{NoField, Field}
@@ -19,6 +19,8 @@ use Rattle.ftd.specs.declared.packet.Chain.the-variants.{Single, First, 
 use Rattle.ftd.specs.declared.packet.Header.{Header}
 use Rattle.ftd.specs.declared.tags.TradeDate.{TradeDate}
 use Rattle.ftd.specs.declared.tags.TradeDate.the-variants.{None}
+use Rattle.ftd.specs.declared.tags.PacketPlace.{PacketPlace}
+use Rattle.ftd.specs.declared.tags.PacketPlace.the-variants.{NoPlace}
 use Rattle.ftd.specs.declared.packet.Dated.{Dated}
 use Rattle.ftd.specs.declared.packet.Packet.{Packet}
 use Rattle.ftd.specs.declared.packet.Packet.the-variants.{Short, Link, Skipped, Message, Refused}
@@ -127,7 +129,7 @@ wrongBody kind body = eqb kind 0x01 && (not (eqb body 0) && (ltb body leastBody 
 unfoldable pub isSkipped : ℕ → ℕ → Bool
 isSkipped kind body = ltb 0x01 kind || (eqb kind 0x00 && ltb 0 body)
 
--- 2: the tags don't end with the extension, a known tag has a wrong length, or 0x05 stands twice.
+-- 2: the tags don't end with the extension, a known tag has a wrong length, or 0x05 or 0x70 stands twice.
 abbrev pub brokenTag : List ℕ → Bool
 brokenTag p = not (goodTags (extensionOf p))
 
@@ -218,19 +220,24 @@ readOf p =
     (cond (restMissing p) (Short (missingOf p))
     (wholeOf p))))
 
--- A link packet and a message packet bear the trade date of their extension; nothing else bears one.
-abbrev pub bearsDate : Packet → Bool
-bearsDate (Short n) = false
-bearsDate (Link kind extension) = true
-bearsDate (Skipped kind extension body) = false
-bearsDate (Message h extension content) = true
-bearsDate (Refused r) = false
+-- A link packet and a message packet bear the trade date and the place of their extension; nothing else bears any.
+abbrev pub bearsTags : Packet → Bool
+bearsTags (Short n) = false
+bearsTags (Link kind extension) = true
+bearsTags (Skipped kind extension body) = false
+bearsTags (Message h extension content) = true
+bearsTags (Refused r) = false
 
-unfoldable pub withDate : Packet → TradeDate → Dated
-withDate packet d = record { packet = packet; date = cond (bearsDate packet) d None }
+unfoldable pub withTags : Packet → TradeDate → PacketPlace → Dated
+withTags packet d j =
+    record {
+      packet = packet;
+      date = cond (bearsTags packet) d None;
+      place = cond (bearsTags packet) j NoPlace;
+    }
 
 unfoldable pub datedOf : List ℕ → Dated
-datedOf p = withDate (readOf p) (tradeDateOf (extensionOf p))
+datedOf p = withTags (readOf p) (tradeDateOf (extensionOf p)) (packetPlaceOf (extensionOf p))
 
 -- Bytes are missing.
 abbrev pub isShort : Packet → Bool

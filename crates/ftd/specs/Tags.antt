@@ -6,7 +6,7 @@ use mathlib.Core.List.{List, [], _∷_, map}
 use mathlib.Core.Bool.{Bool, true, false, cond, _&&_}
 use lib.ListN.{length, getD}
 use lib.Dec.{leb, eqb}
-use Rattle.ftd.specs.Bytes.{be32Of, bytes32, joined}
+use Rattle.ftd.specs.Bytes.{be16Of, be32Of, bytes16, bytes32, joined}
 use Rattle.ftd.specs.Runs.{Form, Run, runOf, ended}
 use Rattle.ftd.specs.declared.tags.TagPlace.{TagPlace}
 use Rattle.ftd.specs.declared.tags.TagPlace.the-variants.{NoTag, Data}
@@ -14,6 +14,8 @@ use Rattle.ftd.specs.declared.tags.TagRun.{TagRun}
 use Rattle.ftd.specs.declared.tags.TagRun.the-variants.{Broken, Good}
 use Rattle.ftd.specs.declared.tags.TradeDate.{TradeDate}
 use Rattle.ftd.specs.declared.tags.TradeDate.the-variants.{None, At}
+use Rattle.ftd.specs.declared.tags.PacketPlace.{PacketPlace}
+use Rattle.ftd.specs.declared.tags.PacketPlace.the-variants.{NoPlace, Nth}
 
 -- ─── The form of a tag ───
 
@@ -39,7 +41,7 @@ pub record KnownTag : Type 0 where
 abbrev pub knownTag : ℕ → ℕ → KnownTag
 knownTag k n = record { kind = k; size = n }
 
--- Kinds and lengths of their data, as the paper lists them.
+-- Kinds and lengths of their data, as the papers list them (02, No. 10: 0x70).
 unfoldable pub knownTags : List KnownTag
 knownTags =
     knownTag 0x00 0
@@ -49,6 +51,7 @@ knownTags =
     ∷ knownTag 0x04 0
     ∷ knownTag 0x05 4
     ∷ knownTag 0x06 2
+    ∷ knownTag 0x70 2
     ∷ []
 
 -- The length is the one that the list has for the kind; of a kind that it does not have each length is right.
@@ -65,21 +68,23 @@ abbrev pub allRight : List (List ℕ) → Bool
 allRight [] = true
 allRight (t ∷ ts) = lengthRight (tagKind t) (tagLength t) && allRight ts
 
--- One more where the kind is 0x05, the trade date.
-unfoldable pub countDate : ℕ → ℕ → ℕ
-countDate kind n = cond (eqb kind 0x05) (n + 1) n
+-- One more where the kind is the one that is counted.
+unfoldable pub countKind : ℕ → ℕ → ℕ → ℕ
+countKind counted kind n = cond (eqb kind counted) (n + 1) n
 
--- How often 0x05 stands among the tags, counted on from n.
-abbrev pub dates : List (List ℕ) → ℕ → ℕ
-dates [] n = n
-dates (t ∷ ts) n = dates ts (countDate (tagKind t) n)
+-- How often a kind stands among the tags, counted on from n.
+abbrev pub times : ℕ → List (List ℕ) → ℕ → ℕ
+times counted [] n = n
+times counted (t ∷ ts) n = times counted ts (countKind counted (tagKind t) n)
 
--- The tags end with the extension, the known ones have their lengths, and 0x05 does not stand twice.
-abbrev pub goodRun : Run → ℕ → Bool
-goodRun r n = ended r && (allRight (r .entries) && leb (dates (r .entries) n) 1)
+-- The tags end with the extension, the known ones have their lengths, and neither 0x05, the trade date, nor 0x70, the
+-- packet's place, stands twice.
+abbrev pub goodRun : Run → ℕ → ℕ → Bool
+goodRun r n m =
+    ended r && (allRight (r .entries) && (leb (times 0x05 (r .entries) n) 1 && leb (times 0x70 (r .entries) m) 1))
 
 unfoldable pub goodTags : List ℕ → Bool
-goodTags extension = goodRun (runOf tag extension) 0
+goodTags extension = goodRun (runOf tag extension) 0 0
 
 -- ─── The tags that have a meaning here ───
 
@@ -104,9 +109,17 @@ dateAt extension (Data start len) = cond (eqb len 4) (At (be32Of extension start
 unfoldable pub tradeDateOf : List ℕ → TradeDate
 tradeDateOf extension = dateAt extension (tagPlace extension 0x05)
 
--- The extension check and the trade date as one answer.
+-- The packet's place in its message: tag 0x70, as a number of two bytes; none where the extension has no such tag.
+abbrev pub placeAt : List ℕ → TagPlace → PacketPlace
+placeAt extension NoTag = NoPlace
+placeAt extension (Data start len) = cond (eqb len 2) (Nth (be16Of extension start)) NoPlace
+
+unfoldable pub packetPlaceOf : List ℕ → PacketPlace
+packetPlaceOf extension = placeAt extension (tagPlace extension 0x70)
+
+-- The extension check, the trade date and the packet's place as one answer.
 unfoldable pub tagRunOf : List ℕ → TagRun
-tagRunOf extension = cond (goodTags extension) (Good (tradeDateOf extension)) Broken
+tagRunOf extension = cond (goodTags extension) (Good (tradeDateOf extension) (packetPlaceOf extension)) Broken
 
 -- The keep-alive tag 0x04 is there.
 abbrev pub isThere : TagPlace → Bool
@@ -132,3 +145,7 @@ extensionBytes ts = joined (map tagBytes ts)
 abbrev pub tagsFor : TradeDate → List Tag
 tagsFor None = []
 tagsFor (At d) = record { kind = 0x05; value = bytes32 d } ∷ []
+
+-- The packet's place.
+abbrev pub placeTag : ℕ → Tag
+placeTag j = record { kind = 0x70; value = bytes16 j }

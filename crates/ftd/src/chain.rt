@@ -1,17 +1,18 @@
 // A message cut into packets of whole fields, and written straight into the output.
 ghost use mathlib.Core.Bool.{true};
 ghost use mathlib.Core.Path.{_≡_};
-ghost use Prim.Native.Nat.{_+_, _-_, _*_, _≤_};
+ghost use Prim.Native.Nat.{_+_, _-_, _*_, _<_, _≤_};
 ghost use lib.ListN.{length};
+ghost use lib.Dec.{eqb};
 ghost use Rattle.ftd.specs.Bytes.{put, joined};
 ghost use Rattle.ftd.specs.Runs.{runOf};
 ghost use Rattle.ftd.specs.Fields.{field, shapely, mostContent, packetContent};
 ghost use Rattle.ftd.specs.Write.{messageBytes, writtenAnswer, writtenOutput};
 ghost use Rattle.ftd.specs.Chain.Laws.{ChainLaws};
 ghost use Rattle.ftd.specs.Chain.{chainAt, packetFor, packetsOf, sizeAnswer, chainVerdict};
-ghost use Rattle.ftd.specs.Chain.{packetAnswer, packetOutput};
+ghost use Rattle.ftd.specs.Chain.{tagsAt, packetAnswer, packetOutput};
 ghost use Rattle.ftd.specs.Chain.Helpers.{NextPiece, FoundPiece, pieceAt, PutRest, measureOf};
-ghost use Rattle.ftd.specs.Tags.{tagsFor, extensionBytes};
+ghost use Rattle.ftd.specs.Tags.{extensionBytes};
 use crate::bytes::copy_at;
 use crate::fields::MOST_CONTENT;
 use crate::fields::PACKET_CONTENT;
@@ -21,22 +22,26 @@ use crate::packet::Chain;
 use crate::packet::Header;
 use crate::refusal::Refusal;
 use crate::tags::TradeDate;
+use crate::tags::put_place;
 use crate::tags::put_tags;
 use crate::tags::tags_len;
 use crate::write::Written;
 use crate::write::put_head;
 
-// A packet's bytes besides its content, with a trade date: the first four, tag 0x05 with its data, the message's header.
-pub const OVERHEAD: usize = 4 + 6 + 16;
+// A packet's bytes besides its content, with a trade date and its place: the first four, tags 0x05 and 0x70 with their
+// data, the message's header.
+pub const OVERHEAD: usize = 4 + 10 + 16;
 // At most so many packets a message.
 pub const MOST_PACKETS: usize = 17;
 
-// What all packets of a message bear: the trade date, if any, TID, series and number.
+// What all packets of a message bear: the trade date, if any, TID, series and number; and whether each bears its place
+// (02, No. 10).
 pub struct Message {
     pub date: TradeDate,
     pub tid: u32,
     pub series: u16,
     pub number: u32,
+    pub counted: bool,
 }
 
 // How many packets a message takes, and how many bytes.
@@ -71,16 +76,40 @@ pub struct Cut {
     pub count: usize,
 }
 
-// A message packet with the tags of an end, at a place of the output.
-fn put_tagged(out: &mut [u8], to: usize, h: Header, date: TradeDate, content: &[u8])
-    requires { ⌜ (to + (4 + length (extensionBytes (tagsFor date)) + (16 + length (now content))) ≤ length (now out))
+// The bytes that the tags of each packet of a message take.
+fn message_tags(m: Message) -> usize
+    ensures { λ r. ⌜ (r ≡ length (extensionBytes (tagsAt m 0))) × (r ≤ 10) ⌝ }
+{
+    let date = m.date;
+    let n = tags_len(date);
+    if m.counted {
+        return n + 4;
+    }
+    n
+}
+
+// The tags of packet j of a message: the trade date, if any, and behind it, where the packets are counted, its place.
+fn put_message_tags(out: &mut [u8], to: usize, m: Message, j: u16)
+    requires { ⌜ to + length (extensionBytes (tagsAt m j)) ≤ length (now out) ⌝ }
+    ensures { λ _. ⌜ now (out .exit) ≡ put (now (out .entry)) to (extensionBytes (tagsAt m j)) ⌝ }
+{
+    let date = m.date;
+    put_tags(out, to, date);
+    if m.counted {
+        put_place(out, to + tags_len(date), j);
+    }
+}
+
+// Packet j of a message, with its header and content, at a place of the output.
+fn put_tagged(out: &mut [u8], to: usize, m: Message, j: u16, h: Header, content: &[u8])
+    requires { ⌜ (to + (4 + length (extensionBytes (tagsAt m j)) + (16 + length (now content))) ≤ length (now out))
         × (length (now content) ≤ packetContent) ⌝ }
     ensures { λ _. ⌜ now (out .exit) ≡ put (now (out .entry)) to
-        (messageBytes h (extensionBytes (tagsFor date)) (now (content .entry))) ⌝ }
+        (messageBytes h (extensionBytes (tagsAt m j)) (now (content .entry))) ⌝ }
 {
-    let n = tags_len(date);
+    let n = message_tags(m);
     put_head(out, to, n, h, content.len());
-    put_tags(out, to + 4, date);
+    put_message_tags(out, to + 4, m, j);
     copy_at(out, to + 4 + n + 16, content);
 }
 
@@ -126,38 +155,37 @@ pub(crate) fn next_piece(content: &[u8], at: usize) -> Cut
     }
 }
 
-// A piece of the content as a packet, at a place of the output.
+// A piece of the content as packet j, at a place of the output.
 fn put_piece(
     out: &mut [u8],
     to: usize,
     m: Message,
-    first: bool,
+    j: usize,
     last: bool,
     content: &[u8],
     at: usize,
     c: Cut,
 )
-    requires { ⌜ NextPiece (now content) at c
-        × (to + (4 + length (extensionBytes (tagsFor (m .date))) + (16 + (c .end - at))) ≤ length (now out)) ⌝ }
+    requires { ⌜ NextPiece (now content) at c × (j < 65536)
+        × (to + (4 + length (extensionBytes (tagsAt m j)) + (16 + (c .end - at))) ≤ length (now out)) ⌝ }
     ensures { λ _. ⌜ now (out .exit) ≡ put (now (out .entry)) to
-        (packetFor m (chainAt first last) (pieceAt (now (content .entry)) at c)) ⌝ }
+        (packetFor m j (chainAt (eqb j 0) last) (pieceAt (now (content .entry)) at c)) ⌝ }
 {
-    let date = m.date;
     let end = c.end;
     let h = Header {
         tid: m.tid,
-        chain: chain_at(first, last),
+        chain: chain_at(j == 0, last),
         series: m.series,
         number: m.number,
         fields: (c.count % 65536) as u16,
     };
-    put_tagged(out, to, h, date, &content[at..end]);
+    put_tagged(out, to, m, (j % 65536) as u16, h, &content[at..end]);
 }
 
 // How many packets a message takes, and how many bytes in all, with tags of so many bytes; refused where its content is
 // not whole fields. One walk: where no field is taken though bytes are left, one is broken or too long.
 fn measure(content: &[u8], tags: usize) -> ChainSize
-    requires { ⌜ (length (now content) ≤ mostContent) × (tags ≤ 6) ⌝ }
+    requires { ⌜ (length (now content) ≤ mostContent) × (tags ≤ 10) ⌝ }
     ensures { λ r. ⌜ r ≡ measureOf tags (now (content .entry)) ⌝ }
 {
     let mut at: usize = 0;
@@ -181,21 +209,21 @@ fn measure(content: &[u8], tags: usize) -> ChainSize
     }
 }
 
-// The packets from a place in the content on, at a place of the output: how far they reach, or 0 where the content is
-// not whole fields. One walk finds the pieces down to the last, at most 17 (ChainLaws, `few`); only then, if all fit,
-// they are put, the last one first.
+// The packets from a place in the content on, packet j first, at a place of the output: how far they reach, or 0 where
+// the content is not whole fields. One walk finds the pieces down to the last, at most 17 (ChainLaws, `few`); only then,
+// if all fit, they are put, the last one first.
 fn put_rest(
     out: &mut [u8],
     to: usize,
     m: Message,
-    first: bool,
+    j: usize,
     content: &[u8],
     at: usize,
     tags: usize,
 ) -> usize
-    requires { ⌜ (length (now content) ≤ mostContent) × (at ≤ length (now content)) × (to ≤ 27 * at)
-        × (tags ≡ length (extensionBytes (tagsFor (m .date)))) × (tags ≤ 6) ⌝ }
-    ensures { λ r. ⌜ PutRest m first (now (content .entry)) at to (now (out .entry)) (now (out .exit)) r ⌝ }
+    requires { ⌜ (length (now content) ≤ mostContent) × (at ≤ length (now content)) × (to ≤ 31 * at) × (j ≤ at)
+        × (tags ≡ length (extensionBytes (tagsAt m 0))) × (tags ≤ 10) ⌝ }
+    ensures { λ r. ⌜ PutRest m j (now (content .entry)) at to (now (out .entry)) (now (out .exit)) r ⌝ }
 {
     let c = next_piece(content, at);
     let end = c.end;
@@ -204,20 +232,20 @@ fn put_rest(
         if out.len() < next {
             return next;
         }
-        put_piece(out, to, m, first, true, content, at, c);
+        put_piece(out, to, m, j, true, content, at, c);
         return next;
     }
     if end == at {
         return 0;
     }
-    let reach = put_rest(out, next, m, false, content, end, tags);
+    let reach = put_rest(out, next, m, j + 1, content, end, tags);
     if reach == 0 {
         return 0;
     }
     if out.len() < reach {
         return reach;
     }
-    put_piece(out, to, m, first, false, content, at, c);
+    put_piece(out, to, m, j, false, content, at, c);
     reach
 }
 
@@ -225,11 +253,10 @@ fn put_rest(
 pub fn chain_size(m: Message, content: &[u8]) -> ChainSize
     ensures { λ r. ⌜ r ≡ sizeAnswer m (now (content .entry)) ⌝ }
 {
-    let date = m.date;
     if MOST_CONTENT < content.len() {
         return ChainSize::Refused(Refusal::FieldRun);
     }
-    measure(content, tags_len(date))
+    measure(content, message_tags(m))
 }
 
 // All packets of a message, one behind the other.
@@ -239,11 +266,10 @@ pub fn write_chain(m: Message, content: &[u8], out: &mut [u8]) -> Written
     ensures output { λ _. ⌜ now (out .exit) ≡ writtenOutput (chainVerdict (now (content .entry)))
         (joined (packetsOf m (now (content .entry)))) (now (out .entry)) ⌝ }
 {
-    let date = m.date;
     if MOST_CONTENT < content.len() {
         return Written::Refused(Refusal::FieldRun);
     }
-    let n = put_rest(out, 0, m, true, content, 0, tags_len(date));
+    let n = put_rest(out, 0, m, 0, content, 0, message_tags(m));
     if n == 0 {
         return Written::Refused(Refusal::FieldRun);
     }
@@ -279,7 +305,6 @@ pub fn write_packet(m: Message, content: &[u8], i: usize, out: &mut [u8]) -> Pac
     ensures answer { λ r. ⌜ r ≡ packetAnswer m (now (content .entry)) i (now (out .entry)) ⌝ }
     ensures output { λ _. ⌜ now (out .exit) ≡ packetOutput m (now (content .entry)) i (now (out .entry)) ⌝ }
 {
-    let date = m.date;
     if is_shaped(content, MOST_CONTENT) {
         match find_piece(content, i) {
             PiecePlace::NoPiece => {
@@ -287,12 +312,12 @@ pub fn write_packet(m: Message, content: &[u8], i: usize, out: &mut [u8]) -> Pac
             }
             PiecePlace::At { at, cut } => {
                 let end = cut.end;
-                let n = 4 + tags_len(date) + (16 + (end - at));
+                let n = 4 + message_tags(m) + (16 + (end - at));
                 if out.len() < n {
                     return PacketWritten::Refused(Refusal::TooSmall);
                 }
                 let last = end == content.len();
-                put_piece(out, 0, m, i == 0, last, content, at, cut);
+                put_piece(out, 0, m, i, last, content, at, cut);
                 return PacketWritten::Bytes { len: n, last: last };
             }
         }

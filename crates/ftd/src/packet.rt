@@ -6,13 +6,14 @@ ghost use lib.ListN.{length, getD};
 ghost use Rattle.ftd.specs.Bench.{Bench};
 ghost use Rattle.ftd.specs.Fields.{FieldInside};
 ghost use Rattle.ftd.specs.Packet.Laws.{ReadLaws};
-ghost use Rattle.ftd.specs.Tags.{tradeDateOf};
+ghost use Rattle.ftd.specs.Tags.{tradeDateOf, packetPlaceOf};
 ghost use Rattle.ftd.specs.Packet.{saidIn, kindOf, extensionLength, bodyLength, notOnePacket, noMessagePacket};
 ghost use Rattle.ftd.specs.Packet.{wrongBody, isSkipped, isLetter, chainOf, chainLetter, headerOf, acceptedOf};
-ghost use Rattle.ftd.specs.Packet.{messageOf, wholeOf, readOf, extensionOf, bearsDate, withDate, datedOf};
+ghost use Rattle.ftd.specs.Packet.{messageOf, wholeOf, readOf, extensionOf, withTags, datedOf};
 ghost use Rattle.ftd.specs.Packet.{missingOf, movedBy, fieldOf, fieldBytes};
-ghost use Rattle.ftd.specs.Packet.Helpers.{SaysLengths, FitsIn};
+ghost use Rattle.ftd.specs.Packet.Helpers.{SaysLengths, FitsIn, untagged};
 ghost use Rattle.ftd.specs.declared.tags.TradeDate.the-variants.{None};
+ghost use Rattle.ftd.specs.declared.tags.PacketPlace.the-variants.{NoPlace};
 ghost use Rattle.ftd.specs.declared.packet.Packet.the-variants.{Short};
 use crate::bytes::be16;
 use crate::bytes::be32;
@@ -22,6 +23,7 @@ use crate::fields::FieldPlace;
 use crate::fields::exact_run;
 use crate::fields::field_place;
 use crate::refusal::Refusal;
+use crate::tags::PacketPlace;
 use crate::tags::TagRun;
 use crate::tags::TradeDate;
 use crate::tags::read_tags;
@@ -77,10 +79,11 @@ pub enum Packet {
     Refused(Refusal),
 }
 
-// What the bytes are, and the trade date that it bears.
+// What the bytes are, and the trade date and the place in a message that it bears.
 pub struct Dated {
     pub packet: Packet,
     pub date: TradeDate,
+    pub place: PacketPlace,
 }
 
 // As many bytes as the first four say; 0 where they are not there.
@@ -237,108 +240,78 @@ fn header_of(p: &[u8], ext: usize) -> Header
     }
 }
 
-// A message packet with nothing wrong: its values and places.
-fn accept(p: &[u8], ext: usize, body: usize) -> Packet
-    requires { ⌜ SaysLengths (now p) ext body × (4 + ext + body ≤ length (now p)) × (16 ≤ body) ⌝ }
-    ensures { λ r. ⌜ r ≡ acceptedOf (now (p .entry)) ⌝ }
+// What bears neither trade date nor place.
+fn untagged(packet: Packet) -> Dated
+    ensures { λ r. ⌜ r ≡ untagged packet ⌝ }
 {
-    Packet::Message {
-        header: header_of(p, ext),
-        extension: Span { start: 4, len: ext },
-        content: Span {
-            start: 4 + ext + 16,
-            len: body - 16,
-        },
-    }
-}
-
-// A message packet that is there whole: refusals 4 to 7, or its values.
-fn read_message(p: &[u8], ext: usize, body: usize) -> Packet
-    requires { ⌜ SaysLengths (now p) ext body × (4 + ext + body ≤ length (now p)) × (16 ≤ body) ⌝ }
-    ensures { λ r. ⌜ r ≡ messageOf (now (p .entry)) ⌝ }
-{
-    let at = 4 + ext;
-    if p[at] != 1 {
-        return Packet::Refused(Refusal::Version);
-    }
-    if is_letter(p[at + 5]) {
-        if size16(be16(p, at + 14)) + 16 != body {
-            return Packet::Refused(Refusal::ContentLength);
-        }
-        if exact_run(&p[at + 16..at + body], be16(p, at + 12)) {
-            return accept(p, ext, body);
-        }
-        return Packet::Refused(Refusal::FieldRun);
-    }
-    Packet::Refused(Refusal::ChainLetter)
-}
-
-// A link packet or a message packet.
-fn bears_date(packet: Packet) -> bool
-    ensures { λ r. ⌜ r ≡ bearsDate packet ⌝ }
-{
-    match packet {
-        Packet::Short(_) => false,
-        Packet::Link {
-            kind: _,
-            extension: _,
-        } => true,
-        Packet::Skipped {
-            kind: _,
-            extension: _,
-            body: _,
-        } => false,
-        Packet::Message {
-            header: _,
-            extension: _,
-            content: _,
-        } => true,
-        Packet::Refused(_) => false,
-    }
-}
-
-// The trade date goes with what bears one.
-fn with_date(packet: Packet, date: TradeDate) -> Dated
-    ensures { λ r. ⌜ r ≡ withDate packet date ⌝ }
-{
-    if bears_date(packet) {
-        return Dated {
-            packet: packet,
-            date: date,
-        };
-    }
     Dated {
         packet: packet,
         date: TradeDate::None,
+        place: PacketPlace::NoPlace,
     }
+}
+
+// A message packet with nothing wrong: its values and places, and what its extension bears.
+fn accept(p: &[u8], ext: usize, body: usize, date: TradeDate, place: PacketPlace) -> Dated
+    requires { ⌜ SaysLengths (now p) ext body × (4 + ext + body ≤ length (now p)) × (16 ≤ body) ⌝ }
+    ensures { λ r. ⌜ r ≡ record { packet = acceptedOf (now (p .entry)); date = date; place = place } ⌝ }
+{
+    Dated {
+        packet: Packet::Message {
+            header: header_of(p, ext),
+            extension: Span { start: 4, len: ext },
+            content: Span {
+                start: 4 + ext + 16,
+                len: body - 16,
+            },
+        },
+        date: date,
+        place: place,
+    }
+}
+
+// A message packet that is there whole: refusals 4 to 7, or its values with what its extension bears.
+fn read_message(p: &[u8], ext: usize, body: usize, date: TradeDate, place: PacketPlace) -> Dated
+    requires { ⌜ SaysLengths (now p) ext body × (4 + ext + body ≤ length (now p)) × (16 ≤ body) ⌝ }
+    ensures { λ r. ⌜ r ≡ withTags (messageOf (now (p .entry))) date place ⌝ }
+{
+    let at = 4 + ext;
+    if p[at] != 1 {
+        return untagged(Packet::Refused(Refusal::Version));
+    }
+    if is_letter(p[at + 5]) {
+        if size16(be16(p, at + 14)) + 16 != body {
+            return untagged(Packet::Refused(Refusal::ContentLength));
+        }
+        if exact_run(&p[at + 16..at + body], be16(p, at + 12)) {
+            return accept(p, ext, body, date, place);
+        }
+        return untagged(Packet::Refused(Refusal::FieldRun));
+    }
+    untagged(Packet::Refused(Refusal::ChainLetter))
 }
 
 // A packet that is there whole: skipped, refused with 2, a link packet or a message packet.
 fn read_whole(p: &[u8], kind: u8, ext: usize, body: usize) -> Dated
     requires { ⌜ SaysLengths (now p) ext body × (kind ≡ kindOf (now p)) × (4 + ext + body ≤ length (now p))
         × (wrongBody kind body ≡ false) ⌝ }
-    ensures { λ r. ⌜ r ≡ withDate (wholeOf (now (p .entry))) (tradeDateOf (extensionOf (now (p .entry)))) ⌝ }
+    ensures { λ r. ⌜ r ≡ withTags (wholeOf (now (p .entry))) (tradeDateOf (extensionOf (now (p .entry))))
+        (packetPlaceOf (extensionOf (now (p .entry)))) ⌝ }
 {
     let at = 4 + ext;
     if is_skipped(kind, body) {
-        return Dated {
-            packet: Packet::Skipped {
-                kind: kind,
-                extension: Span { start: 4, len: ext },
-                body: Span {
-                    start: at,
-                    len: body,
-                },
+        return untagged(Packet::Skipped {
+            kind: kind,
+            extension: Span { start: 4, len: ext },
+            body: Span {
+                start: at,
+                len: body,
             },
-            date: TradeDate::None,
-        };
+        });
     }
     match read_tags(&p[4..at]) {
-        TagRun::Broken => Dated {
-            packet: Packet::Refused(Refusal::BrokenTag),
-            date: TradeDate::None,
-        },
-        TagRun::Good(date) => {
+        TagRun::Broken => untagged(Packet::Refused(Refusal::BrokenTag)),
+        TagRun::Good { date, place } => {
             if body == 0 {
                 return Dated {
                     packet: Packet::Link {
@@ -346,25 +319,23 @@ fn read_whole(p: &[u8], kind: u8, ext: usize, body: usize) -> Dated
                         extension: Span { start: 4, len: ext },
                     },
                     date: date,
+                    place: place,
                 };
             }
-            with_date(read_message(p, ext, body), date)
+            read_message(p, ext, body, date, place)
         }
     }
 }
 
 // Bytes are missing: here alone short is made, with its number.
 fn short(p: &[u8]) -> Dated
-    ensures { λ r. ⌜ r ≡ withDate (Short (missingOf (now (p .entry)))) None ⌝ }
+    ensures { λ r. ⌜ r ≡ withTags (Short (missingOf (now (p .entry)))) None NoPlace ⌝ }
 {
-    Dated {
-        packet: Packet::Short(missing(p)),
-        date: TradeDate::None,
-    }
+    untagged(Packet::Short(missing(p)))
 }
 
-// What the bytes from the front on are, with the trade date of a link packet or a message packet: the tags are walked
-// once.
+// What the bytes from the front on are, with trade date and place of a link packet or a message packet: the tags are
+// walked once.
 pub fn read_dated(p: &[u8]) -> Dated
     ensures { λ r. ⌜ r ≡ datedOf (now (p .entry)) ⌝ }
 {
@@ -375,16 +346,10 @@ pub fn read_dated(p: &[u8]) -> Dated
     let ext = size8(p[1]);
     let body = size16(be16(p, 2));
     if MOST_EXTENSION < ext {
-        return Dated {
-            packet: Packet::Refused(Refusal::LongExtension),
-            date: TradeDate::None,
-        };
+        return untagged(Packet::Refused(Refusal::LongExtension));
     }
     if wrong_body(kind, body) {
-        return Dated {
-            packet: Packet::Refused(Refusal::BodyLength),
-            date: TradeDate::None,
-        };
+        return untagged(Packet::Refused(Refusal::BodyLength));
     }
     if p.len() < 4 + ext + body {
         return short(p);

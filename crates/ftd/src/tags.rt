@@ -3,19 +3,21 @@ ghost use mathlib.Core.Path.{_≡_};
 ghost use Prim.Native.Nat.{_+_, _-_, _≤_};
 ghost use lib.ListN.{length, drop};
 ghost use Rattle.ftd.specs.Runs.{front};
-ghost use Rattle.ftd.specs.Tags.{tag, lengthRight, countDate, goodTags, tagRunOf, tagPlace, TagInside};
-ghost use Rattle.ftd.specs.Tags.{tradeDateOf, keepAliveOf, tagsFor, extensionBytes};
-ghost use Rattle.ftd.specs.Tags.Helpers.{KnownRow, datePlace};
+ghost use Rattle.ftd.specs.Tags.{tag, lengthRight, countKind, goodTags, tagRunOf, tagPlace, TagInside};
+ghost use Rattle.ftd.specs.Tags.{tradeDateOf, packetPlaceOf, keepAliveOf, tagsFor, placeTag, tagBytes, extensionBytes};
+ghost use Rattle.ftd.specs.Tags.Helpers.{rowAt, KnownRow, dataPlace, SeenTag};
 ghost use Rattle.ftd.specs.Bytes.{put};
+use crate::bytes::be16;
 use crate::bytes::be32;
 use crate::bytes::put8;
+use crate::bytes::put16;
 use crate::bytes::put32;
 use crate::bytes::size8;
 
 // The known tags: kinds, and the length of each one's data.
-const KIND: [u8; 7] = [0x00, 0x01, 0x02, 0x03, 0x04, 0x05, 0x06];
+const KIND: [u8; 8] = [0x00, 0x01, 0x02, 0x03, 0x04, 0x05, 0x06, 0x70];
 
-const LENGTH: [u8; 7] = [0, 4, 1, 1, 0, 4, 2];
+const LENGTH: [u8; 8] = [0, 4, 1, 1, 0, 4, 2, 2];
 
 // Where the data of a tag lies in the extension.
 pub enum TagPlace {
@@ -29,10 +31,16 @@ pub enum TradeDate {
     At(u32),
 }
 
-// What the extension check finds: refusal 2, or the trade date.
+// A packet's place in its message, from 0: tag 0x70, as a number of two bytes, or none (02, No. 10).
+pub enum PacketPlace {
+    NoPlace,
+    Nth(u16),
+}
+
+// What the extension check finds: refusal 2, or the trade date and the packet's place.
 pub enum TagRun {
     Broken,
-    Good(TradeDate),
+    Good { date: TradeDate, place: PacketPlace },
 }
 
 // How many bytes the tag at a place takes; 0 where none stands there whole.
@@ -53,18 +61,25 @@ pub fn tag_size(extension: &[u8], at: usize) -> usize
     n
 }
 
-// The row of a kind in the table; 7 where it has none.
+// Where a kind stands in the table if it does: the first seven kinds are their rows.
+fn row_at(kind: u8) -> usize
+    ensures { λ r. ⌜ (r ≡ rowAt kind) × (r ≤ 7) ⌝ }
+{
+    if kind < 7 {
+        return size8(kind);
+    }
+    7
+}
+
+// The row of a kind in the table; 8 where it has none.
 fn row_of(kind: u8) -> usize
     ensures { λ r. ⌜ KnownRow kind r ⌝ }
 {
-    let mut i: usize = 0;
-    while i < 7 {
-        if KIND[i] == kind {
-            return i;
-        }
-        i += 1;
+    let row = row_at(kind);
+    if KIND[row] == kind {
+        return row;
     }
-    7
+    8
 }
 
 // A known kind has the length of the table; of any other kind each length is right.
@@ -72,41 +87,66 @@ pub fn length_right(kind: u8, len: u8) -> bool
     ensures { λ r. ⌜ r ≡ lengthRight kind len ⌝ }
 {
     let row = row_of(kind);
-    if row == 7 {
+    if row == 8 {
         return true;
     }
     LENGTH[row] == len
 }
 
-// One more where the kind is the trade date's.
-fn count_date(kind: u8, dates: usize) -> usize
-    requires { ⌜ dates + 1 ≤ 18446744073709551615 ⌝ }
-    ensures { λ r. ⌜ (r ≡ countDate kind dates) × (r ≤ dates + 1) ⌝ }
+// One more where the kind is the one that is counted.
+fn count_kind(counted: u8, kind: u8, n: usize) -> usize
+    requires { ⌜ n + 1 ≤ 18446744073709551615 ⌝ }
+    ensures { λ r. ⌜ (r ≡ countKind counted kind n) × (r ≤ n + 1) ⌝ }
 {
-    if kind == 0x05 {
-        return dates + 1;
+    if kind == counted {
+        return n + 1;
     }
-    dates
+    n
 }
 
-// The place of a trade date's data, or the one seen before.
-fn date_place(kind: u8, place: usize, at: usize) -> usize
+// Where the data of a tag lies that starts at a place, if its kind is the one that is counted; else where that of the
+// one seen before does.
+fn data_place(counted: u8, kind: u8, place: usize, at: usize) -> usize
     requires { ⌜ at + 2 ≤ 18446744073709551615 ⌝ }
-    ensures { λ r. ⌜ r ≡ datePlace kind place at ⌝ }
+    ensures { λ r. ⌜ r ≡ dataPlace counted kind place at ⌝ }
 {
-    if kind == 0x05 {
+    if kind == counted {
         return at + 2;
     }
     place
 }
 
-// The extension check, and the trade date, in one walk: tags end with the extension, known ones have their lengths,
-// 0x05 stands once at most.
+// The trade date that a walk over the tags has seen: none, or one.
+fn seen_date(extension: &[u8], dates: usize, place: usize) -> TradeDate
+    requires { ⌜ SeenTag (now extension) 0x05 4 dates place × (dates ≤ 1) ⌝ }
+    ensures { λ r. ⌜ r ≡ tradeDateOf (now (extension .entry)) ⌝ }
+{
+    if dates == 0 {
+        return TradeDate::None;
+    }
+    TradeDate::At(be32(extension, place))
+}
+
+// The packet's place that it has seen.
+fn seen_place(extension: &[u8], places: usize, place: usize) -> PacketPlace
+    requires { ⌜ SeenTag (now extension) 0x70 2 places place × (places ≤ 1) ⌝ }
+    ensures { λ r. ⌜ r ≡ packetPlaceOf (now (extension .entry)) ⌝ }
+{
+    if places == 0 {
+        return PacketPlace::NoPlace;
+    }
+    PacketPlace::Nth(be16(extension, place))
+}
+
+// The extension check, the trade date and the packet's place, in one walk: tags end with the extension, known ones have
+// their lengths, 0x05 and 0x70 stand once at most.
 pub fn read_tags(extension: &[u8]) -> TagRun
     ensures { λ r. ⌜ r ≡ tagRunOf (now (extension .entry)) ⌝ }
 {
     let mut at: usize = 0;
     let mut dates: usize = 0;
+    let mut date: usize = 0;
+    let mut places: usize = 0;
     let mut place: usize = 0;
     loop {
         let n = tag_size(extension, at);
@@ -114,17 +154,23 @@ pub fn read_tags(extension: &[u8]) -> TagRun
             if at < extension.len() {
                 return TagRun::Broken;
             }
-            if dates == 0 {
-                return TagRun::Good(TradeDate::None);
+            if 1 < dates {
+                return TagRun::Broken;
             }
-            if dates == 1 {
-                return TagRun::Good(TradeDate::At(be32(extension, place)));
+            if 1 < places {
+                return TagRun::Broken;
             }
-            return TagRun::Broken;
+            return TagRun::Good {
+                date: seen_date(extension, dates, date),
+                place: seen_place(extension, places, place),
+            };
         }
-        if length_right(extension[at], extension[at + 1]) {
-            dates = count_date(extension[at], dates);
-            place = date_place(extension[at], place, at);
+        let kind = extension[at];
+        if length_right(kind, extension[at + 1]) {
+            dates = count_kind(0x05, kind, dates);
+            date = data_place(0x05, kind, date, at);
+            places = count_kind(0x70, kind, places);
+            place = data_place(0x70, kind, place, at);
             at += n;
         } else {
             return TagRun::Broken;
@@ -132,13 +178,32 @@ pub fn read_tags(extension: &[u8]) -> TagRun
     }
 }
 
-// The extension check alone.
+// The extension check alone, for the writers. (The readers' walk above has one caller, and is built into it.)
 pub fn good_tags(extension: &[u8]) -> bool
     ensures { λ r. ⌜ r ≡ goodTags (now (extension .entry)) ⌝ }
 {
-    match read_tags(extension) {
-        TagRun::Broken => false,
-        TagRun::Good(_) => true,
+    let mut at: usize = 0;
+    let mut dates: usize = 0;
+    let mut places: usize = 0;
+    loop {
+        let n = tag_size(extension, at);
+        if n == 0 {
+            if at < extension.len() {
+                return false;
+            }
+            if 1 < dates {
+                return false;
+            }
+            return places <= 1;
+        }
+        let kind = extension[at];
+        if length_right(kind, extension[at + 1]) {
+            dates = count_kind(0x05, kind, dates);
+            places = count_kind(0x70, kind, places);
+            at += n;
+        } else {
+            return false;
+        }
     }
 }
 
@@ -187,7 +252,7 @@ pub fn keep_alive(extension: &[u8]) -> bool
     }
 }
 
-// The tags that an end writes.
+// The trade date as the only tag, or none.
 pub(crate) fn put_tags(out: &mut [u8], to: usize, date: TradeDate)
     requires { ⌜ to + length (extensionBytes (tagsFor date)) ≤ length (now out) ⌝ }
     ensures { λ _. ⌜ now (out .exit) ≡ put (now (out .entry)) to (extensionBytes (tagsFor date)) ⌝ }
@@ -202,7 +267,7 @@ pub(crate) fn put_tags(out: &mut [u8], to: usize, date: TradeDate)
     }
 }
 
-// The bytes that the tags of an end take.
+// The bytes that it takes.
 pub(crate) fn tags_len(date: TradeDate) -> usize
     ensures { λ r. ⌜ (r ≡ length (extensionBytes (tagsFor date))) × (r ≤ 6) ⌝ }
 {
@@ -210,4 +275,14 @@ pub(crate) fn tags_len(date: TradeDate) -> usize
         TradeDate::None => 0,
         TradeDate::At(_) => 6,
     }
+}
+
+// The tag of a packet's place.
+pub(crate) fn put_place(out: &mut [u8], to: usize, place: u16)
+    requires { ⌜ to + 4 ≤ length (now out) ⌝ }
+    ensures { λ _. ⌜ now (out .exit) ≡ put (now (out .entry)) to (tagBytes (placeTag place)) ⌝ }
+{
+    put8(out, to, 0x70);
+    put8(out, to + 1, 2);
+    put16(out, to + 2, place);
 }

@@ -4,7 +4,6 @@ use mathlib.Core.Bool.{Bool}
 use lib.Dec.{T, eqb, eqb→eq}
 use lib.ListN.{length}
 use Rattle.ftd.specs.Bench.{same}
-use Rattle.flow.specs.World.{inRuns}
 use Rattle.flow.specs.Agreement.{publishedOn, reported}
 use Rattle.lists.specs.Examples.{refusals, twoDays, twoDaysStart, twoDaysEnd, twoDaysRefusals, twoDaysShown}
 use Rattle.lists.specs.Examples.{twoLogins, twoLoginsStart, beforeOne, behindOne, beforeThree, behindThree}
@@ -14,10 +13,6 @@ use Rattle.lists.specs.Examples.{onePacketRefusals, onePacketShown, Exam
 use Rattle.lists.proofs.Tests.{holdAll, each, isCaughtUp, caught-up}
 use Rattle.lists.proofs.Opened.{opened}
 
-line-is : T (inRuns twoDaysStart twoDays)
-unfolding opened
-line-is = tt
-
 refused-are : T (same (refusals twoDaysStart twoDays) twoDaysRefusals)
 unfolding opened
 refused-are = tt
@@ -25,10 +20,6 @@ refused-are = tt
 shown-is : T (twoDaysShown twoDaysEnd)
 unfolding opened
 shown-is = tt
-
-line-again-is : T (inRuns twoLoginsStart twoLogins)
-unfolding opened
-line-again-is = tt
 
 refused-again-are : T (same (refusals twoLoginsStart twoLogins) twoLoginsRefusals)
 unfolding opened
@@ -49,10 +40,6 @@ again =
 again-is : T (holdAll again)
 unfolding opened
 again-is = tt
-
-line-singly-is : T (inRuns onePacketStart onePacket)
-unfolding opened
-line-singly-is = tt
 
 refused-singly-are : T (same (refusals onePacketStart onePacket) onePacketRefusals)
 unfolding opened
@@ -79,17 +66,14 @@ examples =
     let h = each again again-is in
     let k = each singly-tests singly-is in
     record {
-      line = line-is;
       refused = refused-are;
       shown = shown-is;
-      line-again = line-again-is;
       refused-again = refused-again-are;
       shown-again = h .0;
       one-caught-up = caught-up _ _ _ _ _ _ _ (h .1 .0);
       three-caught-up = caught-up _ _ _ _ _ _ _ (h .1 .1 .0);
       one-counted = (eqb→eq _ _ (h .1 .1 .1 .0), eqb→eq _ _ (h .1 .1 .1 .1 .0));
       three-counted = (eqb→eq _ _ (h .1 .1 .1 .1 .1 .0), eqb→eq _ _ (h .1 .1 .1 .1 .1 .1 .0));
-      line-singly = line-singly-is;
       refused-singly = refused-singly-are;
       shown-singly = k .0;
       singly-caught-up = caught-up _ _ _ _ _ _ _ (k .1 .0);

@@ -1,4 +1,4 @@
--- Three lists of calls, computed: what the line's rule, the histories and the second half's conditions say of them.
+-- Three lists of calls, computed: what the histories and the second half's conditions say of them.
 -- Login packets, login answers and transmissions are named by their place on the line, from 0: in the first two lists
 -- each is a message sent whole. And three calls that the lists can't have: a buffer too short for one.
 use Prim.Native.Nat.{ℕ}
@@ -20,7 +20,7 @@ use Rattle.flow.specs.Answers.{sentSaid, sentPacketSaid, requestedSaid, confirm
 use Rattle.flow.specs.Serving.{openDayOf, publishOf, loginOf, sendOf, sendPacketOf}
 use Rattle.flow.specs.Receiving.{openEndOf, requestLoginOf, confirmLoginOf, receiveOf}
 use Rattle.flow.specs.World.{InSeries, Event, openSender, publish, login, send, sendPacket, openReceiver, connect}
-use Rattle.flow.specs.World.{requestLogin, confirmLogin, receive, broken, transmission, World, start, step, run, inRuns}
+use Rattle.flow.specs.World.{requestLogin, confirmLogin, receive, broken, transmission, World, start, step, run}
 use Rattle.flow.specs.Agreement.{of, publishedOn, handedOn, reported, CaughtUp}
 use Rattle.flow.specs.PacketByPacket.{shown}
 use Rattle.flow.specs.Bench.{numbers, reqLogin, rspLogin, tid, note, message, space, atLast}
@@ -284,31 +284,31 @@ twoLoginsShown w =
 
 -- ─── The third list: packet by packet (02, No. 4) ───
 
--- c2 and d1 take two packets each, of 2,066 and 2,067 bytes. Up to the last login.
+-- c2 and d1 take two packets each, of 2,070 and 2,071 bytes. Up to the last login.
 unfoldable pub singly : List Event
 singly =
     openSender 7 (1 ∷ [])
     ∷ openReceiver (1 ∷ [])
     ∷ publish 1 tid c2  -- number 1
-    ∷ sendPacket 3 (space 2066)  -- refused 13
-    ∷ sendPacket 1 (space 2066)  -- refused 14
+    ∷ sendPacket 3 (space 2070)  -- refused 13
+    ∷ sendPacket 1 (space 2070)  -- refused 14
     ∷ requestLogin 1 reqLogin (space 200)  -- login packet 0
     ∷ login 1 0 rspLogin (space 200)  -- answer 0
     ∷ confirmLogin 0
-    ∷ sendPacket 1 (space 2066)  -- transmission 0: the first packet of c2
+    ∷ sendPacket 1 (space 2070)  -- transmission 0: the first packet of c2
     ∷ receive 0 0  -- c2, held
     ∷ publish 1 tid a1  -- number 2; what comes next stays
-    ∷ sendPacket 1 (space 2066)  -- refused 18: the second packet has one byte more
-    ∷ send 1 (space 4132)  -- refused 18: the whole message takes 4,133
+    ∷ sendPacket 1 (space 2070)  -- refused 18: the second packet has one byte more
+    ∷ send 1 (space 4140)  -- refused 18: the whole message takes 4,141
     ∷ login 3 0 rspLogin (space 200)  -- refused 13
     ∷ openSender 7 (1 ∷ [])  -- refused 11; none of these ends it
-    ∷ sendPacket 1 (space 2067)  -- its second packet: c2 is sent
+    ∷ sendPacket 1 (space 2071)  -- its second packet: c2 is sent
     ∷ receive 0 1  -- c2
     ∷ sendPacket 1 (space 50)  -- transmission 1: a1, in one packet
     ∷ receive 1 0  -- a1
     ∷ requestLogin 1 reqLogin (space 200)  -- login packet 1: of day 7, next 3
     ∷ publish 1 tid d1  -- number 3
-    ∷ sendPacket 1 (space 2066)  -- transmission 2: the first packet of d1
+    ∷ sendPacket 1 (space 2070)  -- transmission 2: the first packet of d1
     ∷ receive 2 0  -- d1, held
     ∷ []
 
@@ -320,9 +320,9 @@ unfoldable pub anew : List Event
 anew =
     receive 2 1  -- no such packet: no call
     ∷ confirmLogin 1  -- drops the chain of d1
-    ∷ sendPacket 1 (space 2066)  -- transmission 3: the first packet of d1 again
+    ∷ sendPacket 1 (space 2070)  -- transmission 3: the first packet of d1 again
     ∷ receive 3 0  -- d1, held
-    ∷ send 1 (space 4133)  -- transmission 4: d1 whole; 3 is broken off
+    ∷ send 1 (space 4141)  -- transmission 4: d1 whole; 3 is broken off
     ∷ receive 4 0
     ∷ receive 4 1  -- d1
     ∷ publish 1 tid a3  -- number 4
@@ -362,7 +362,7 @@ onePacketShown w =
 
 -- Packet j of a2, as number 1 of series 1.
 abbrev pub pieceOf : ℕ → List ℕ
-pieceOf j = getD (packetsOf (record { date = At 7; tid = tid; series = 1; number = 1 }) a2) j []
+pieceOf j = getD (packetsOf (record { date = At 7; tid = tid; series = 1; number = 1; counted = true }) a2) j []
 
 -- F with the whole buffer; C with none; L with the whole buffer again.
 unfoldable pub behindFirst : Wrote Receiver Received
@@ -386,11 +386,9 @@ chainDropped =
 -- ─── All of them ───
 
 pub record Examples : Type 0 where
-  pub line : T (inRuns twoDaysStart twoDays)
   pub refused : T (same (refusals twoDaysStart twoDays) twoDaysRefusals)
   pub shown : T (twoDaysShown twoDaysEnd)
   -- The second list: the second half's conditions hold of both series, and n is the published count.
-  pub line-again : T (inRuns twoLoginsStart twoLogins)
   pub refused-again : T (same (refusals twoLoginsStart twoLogins) twoLoginsRefusals)
   pub shown-again : T (twoLoginsShown twoLoginsEnd)
   pub one-caught-up : CaughtUp beforeOne behindOne twoLoginsEnd 1 7 lastAnswer []
@@ -398,7 +396,6 @@ pub record Examples : Type 0 where
   pub one-counted : (reported twoLoginsEnd 1 7 ≡ 3) × (length (publishedOn twoLoginsEnd 1 7) ≡ 3)
   pub three-counted : (reported twoLoginsEnd 3 7 ≡ 3) × (length (publishedOn twoLoginsEnd 3 7) ≡ 3)
   -- The third list: the same of its one series, and what the line then has.
-  pub line-singly : T (inRuns onePacketStart onePacket)
   pub refused-singly : T (same (refusals onePacketStart onePacket) onePacketRefusals)
   pub shown-singly : T (onePacketShown onePacketEnd)
   pub singly-caught-up : CaughtUp beforeWithin behindWithin onePacketEnd 1 7 lastAnswer []

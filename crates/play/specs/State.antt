@@ -49,7 +49,7 @@ abbrev pub isOut : List ℕ
 isOut = 32 ∷ 111 ∷ 117 ∷ 116 ∷ []
 
 abbrev pub chainWord : List ℕ
-chainWord = 32 ∷ 99 ∷ 104 ∷ 97 ∷ 105 ∷ 110 ∷ []
+chainWord = 32 ∷ 99 ∷ 104 ∷ 97 ∷ 105 ∷ 110 ∷ 32 ∷ []
 
 abbrev pub noChain : List ℕ
 noChain = 32 ∷ 99 ∷ 104 ∷ 97 ∷ 105 ∷ 110 ∷ 32 ∷ 110 ∷ 111 ∷ 110 ∷ 101 ∷ []
@@ -103,18 +103,21 @@ receivingLine e = wordLine (numbered receiving (e .kept .count))
 unfoldable pub loginText : Bool → List ℕ
 loginText login = cond login isIn isOut
 
--- The content bytes held of an open chain, or `none`.
-unfoldable pub chainText : Bool → ℕ → List ℕ
-chainText chain held = cond chain (numbered chainWord held) noChain
+-- The content bytes held of an open chain and how many pieces they are (02, No. 10), or `none`.
+unfoldable pub heldText : ℕ → ℕ → List ℕ
+heldText held pieces = chainWord ++ decimalOf held ++ gap ++ decimalOf pieces
+
+unfoldable pub chainText : Bool → ℕ → ℕ → List ℕ
+chainText chain held pieces = cond chain (heldText held pieces) noChain
 
 -- `series S DATE last L`.
 unfoldable pub keptText : KeptSeries → List ℕ
 keptText one =
     numbered series (one .series) ++ gap ++ dateText (one .date) ++ gap ++ numbered lastWord (one .last)
 
--- `in chain HELD`.
+-- `in chain HELD PIECES`.
 unfoldable pub liveText : LiveSeries → List ℕ
-liveText line = wordLine (loginText (line .login) ++ chainText (line .chain) (line .held))
+liveText line = wordLine (loginText (line .login) ++ chainText (line .chain) (line .held) (line .pieces))
 
 unfoldable pub keptLine : KeptSeries → LiveSeries → List ℕ
 keptLine one line = keptText one ++ liveText line

@@ -4,7 +4,7 @@ ghost use Prim.Native.Nat.{_+_, _≤_};
 ghost use lib.ListN.{length};
 ghost use Rattle.listing.specs.Text.{WroteText, decimalOf};
 ghost use Rattle.play.specs.State.{dateText, shownPlaces, servingLine, nextText, placeText, servedLine, servedLines};
-ghost use Rattle.play.specs.State.{receivingLine, loginText, chainText, keptText, liveText, keptLine};
+ghost use Rattle.play.specs.State.{receivingLine, loginText, heldText, chainText, keptText, liveText, keptLine};
 ghost use Rattle.play.specs.State.{keptLines, stateLines};
 use crate::text::put_numbered;
 use flow::receiver::KeptSeries;
@@ -128,13 +128,24 @@ fn put_login(out: &mut [u8], at: usize, login: bool) -> usize
     put_word(out, at, b" out")
 }
 
-// The content bytes held of an open chain, or `none`.
-fn put_chain(out: &mut [u8], at: usize, chain: bool, held: usize) -> usize
-    requires { ⌜ at + 40 ≤ length (now out) ⌝ }
-    ensures { λ r. ⌜ WroteText (now (out .entry)) at (chainText chain held) (now (out .exit)) r × (r ≤ at + 40) ⌝ }
+// The content bytes held of an open chain, and how many pieces they are.
+fn put_held(out: &mut [u8], at: usize, held: usize, pieces: usize) -> usize
+    requires { ⌜ at + 48 ≤ length (now out) ⌝ }
+    ensures { λ r. ⌜ WroteText (now (out .entry)) at (heldText held pieces) (now (out .exit)) r × (r ≤ at + 48) ⌝ }
+{
+    let n = put_word(out, at, b" chain ");
+    let n = put_number(out, n, held);
+    let n = put_byte(out, n, 32);
+    put_number(out, n, pieces)
+}
+
+// An open chain, or `none`.
+fn put_chain(out: &mut [u8], at: usize, chain: bool, held: usize, pieces: usize) -> usize
+    requires { ⌜ at + 48 ≤ length (now out) ⌝ }
+    ensures { λ r. ⌜ WroteText (now (out .entry)) at (chainText chain held pieces) (now (out .exit)) r × (r ≤ at + 48) ⌝ }
 {
     if chain {
-        return put_numbered(out, at, b" chain", held);
+        return put_held(out, at, held, pieces);
     }
     put_word(out, at, b" chain none")
 }
@@ -158,7 +169,7 @@ fn put_live_text(out: &mut [u8], at: usize, line: LiveSeries) -> usize
     ensures { λ r. ⌜ WroteText (now (out .entry)) at (liveText line) (now (out .exit)) r × (r ≤ at + 64) ⌝ }
 {
     let n = put_login(out, at, line.login);
-    let n = put_chain(out, n, line.chain, line.held);
+    let n = put_chain(out, n, line.chain, line.held, size32(line.pieces));
     put_byte(out, n, 10)
 }
 

@@ -263,14 +263,14 @@ fn packet(what: &[u8], e: Sender, log: &[u8], out: &mut [u8]) -> Sender {
     end
 }
 
-// The same with an output of 2,067 bytes, of 2,066, and of none.
-fn with_2067(what: &[u8], e: Sender, log: &[u8; 4097]) -> Sender {
-    let mut out = [0u8; 2067];
+// The same with an output of 2,071 bytes, of 2,070, and of none.
+fn with_2071(what: &[u8], e: Sender, log: &[u8; 4097]) -> Sender {
+    let mut out = [0u8; 2071];
     packet(what, e, log, &mut out)
 }
 
-fn with_2066(what: &[u8], e: Sender, log: &[u8; 4097]) -> Sender {
-    let mut out = [0u8; 2066];
+fn with_2070(what: &[u8], e: Sender, log: &[u8; 4097]) -> Sender {
+    let mut out = [0u8; 2070];
     packet(what, e, log, &mut out)
 }
 
@@ -279,9 +279,9 @@ fn with_none(what: &[u8], e: Sender, log: &[u8; 4097]) -> Sender {
     packet(what, e, log, &mut out)
 }
 
-// Send of the whole message in series 1, with an output of 4,133 bytes.
+// Send of the whole message in series 1, with an output of 4,141 bytes.
 fn whole(what: &[u8], e: Sender, log: &[u8; 4097]) {
-    let mut out = [0u8; 4133];
+    let mut out = [0u8; 4141];
     let step = e.send(1, log, &mut out);
     let end = step.end;
     let answer = step.answer;
@@ -293,7 +293,7 @@ fn whole(what: &[u8], e: Sender, log: &[u8; 4097]) {
 }
 
 // A log of one entry: series 1, TID 0x7777, number 1, content of 4,081 bytes: fields of FID 0x7001 with 2,034 and 2,035
-// bytes. They take a packet each, of 2,066 and 2,067 bytes.
+// bytes. They take a packet each, of 2,070 and 2,071 bytes.
 fn two_packets() -> [u8; 4097] {
     let mut log = [0u8; 4097];
     log[1] = 1;
@@ -337,13 +337,13 @@ fn other_bytes() -> [u8; 4097] {
 
 // The two packets of a message, one a call.
 fn both_packets(log: &[u8; 4097]) -> Sender {
-    let e = with_2066(
+    let e = with_2070(
         b"the first of two packets ",
         end_at(1, 4097, true, 1, 0),
         log,
     );
-    with_2066(b"an output too small for the second ", e, log);
-    with_2067(b"the second of two packets ", e, log);
+    with_2070(b"an output too small for the second ", e, log);
+    with_2071(b"the second of two packets ", e, log);
     whole(b"the whole message instead ", e, log);
     e
 }
@@ -351,25 +351,25 @@ fn both_packets(log: &[u8; 4097]) -> Sender {
 // Between them a log damaged or altered: the place stays.
 fn between_packets(e: Sender) {
     let wrong = damaged();
-    with_2067(b"the log damaged between them ", e, &wrong);
+    with_2071(b"the log damaged between them ", e, &wrong);
     let short = cut_off();
-    with_2067(b"the log without the second field ", e, &short);
+    with_2071(b"the log without the second field ", e, &short);
     let other = other_bytes();
-    with_2067(b"other content of whole fields ", e, &other);
+    with_2071(b"other content of whole fields ", e, &other);
 }
 
 // Packets written that no call has written.
 fn strange_pieces(log: &[u8; 4097]) {
     let e = end_at(1, 4097, true, 1, 2);
-    with_2067(b"two packets written of two ", e, log);
+    with_2071(b"two packets written of two ", e, log);
     with_none(b"the same, the output too small ", e, log);
     whole(b"the whole message from there ", e, log);
-    with_2067(
+    with_2071(
         b"as many packets written as can be ",
         end_at(1, 4097, true, 1, 18446744073709551615),
         log,
     );
-    with_2067(
+    with_2071(
         b"the log shorter than its used part ",
         end_at(1, 4098, true, 1, 1),
         log,
@@ -378,12 +378,12 @@ fn strange_pieces(log: &[u8; 4097]) {
 
 // Two things wrong, of which one comes first.
 fn packet_orders(log: &[u8; 4097]) {
-    with_2067(
+    with_2071(
         b"the log damaged, none left ",
         end_at(1, 4097, true, 2, 1),
         log,
     );
-    with_2067(
+    with_2071(
         b"the log damaged, not logged in ",
         end_at(1, 4097, false, 1, 1),
         log,

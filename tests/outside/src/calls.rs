@@ -1,14 +1,14 @@
-//! Random lists of calls on both sides. In an honest list only the line is at fault: packets are copies of what was written, lost,
-//! repeated, late, broken off; demand 3 is checked on it. In a wild one packets are damaged or made up, logs altered, and states
-//! set that no call made. Messages are sent whole and packet by packet.
+//! Random lists of calls on both sides. In an honest list only the line is at fault: packets are copies of what was written, and each
+//! single one may be lost, repeated and late; demand 3 is checked on it. In a wild one packets are damaged or made up, logs altered,
+//! and states set that no call made. Messages are sent whole and packet by packet.
 
 use crate::ends::HANDED_ON;
 use crate::history::{Delivery, History};
 use crate::world::World;
-use reader::cut::{write_packet, Header};
+use reader::cut::{write_placed, Header};
 use reader::generate::{known_field_bytes, packet_input, raw_field, Random, FORMS};
 use reader::items::known_field;
-use reader::packet::{read, said_length, Packet, FIELD_HEADER};
+use reader::packet::{read, said_length, Packet, FIELD_HEADER, PLACE};
 use reader::receiving::Chain;
 use reader::serving::LOGIN;
 use reader::start::start_field_bytes;
@@ -16,9 +16,11 @@ use std::collections::BTreeMap;
 use std::rc::Rc;
 
 mod packets;
+mod pieces;
 mod several;
 
 use packets::any_piece;
+use pieces::any_count;
 
 const REQUEST: u32 = 0x0023;
 const ANSWER: u32 = 0x0027;
@@ -26,6 +28,9 @@ const MATCH: u32 = 0x000A;
 const MATCHES: u32 = 0x2002;
 const STRANGE: u32 = 0x7777;
 const BUFFER: usize = 32_768;
+/// The most bytes of a packet and of a message, as the Sends write them.
+const MOST_PACKET: usize = 4110;
+const MOST_OUTPUT: usize = 33_278;
 
 type Bytes = Rc<[u8]>;
 
@@ -172,6 +177,8 @@ pub struct Lists {
     pub arrived: u64,
     /// What became of messages sent packet by packet.
     pub transmissions: BTreeMap<&'static str, u64>,
+    /// What single packets came to, in honest lists.
+    pub singles: BTreeMap<&'static str, u64>,
     /// The calls of this list, for a difference.
     trace: Vec<String>,
     tracing: bool,
@@ -197,6 +204,28 @@ fn cut_apart(mut bytes: &[u8]) -> Vec<Bytes> {
     packets
 }
 
+/// None mostly, else any.
+fn some_place(r: &mut Random) -> Option<u16> {
+    if r.once_in(4) {
+        return Some(r.pick(&[0, 1, 16, 65_535]));
+    }
+    None
+}
+
+/// A place around what is expected of a packet of that letter; sometimes none.
+fn near_place(r: &mut Random, letter: u8, chain: Option<Chain>) -> Option<u16> {
+    let pieces = if letter == b'C' || letter == b'L' { chain.map_or(0, |chain| chain.pieces) } else { 0 };
+    match r.below(12) {
+        0..=2 => None,
+        3 => Some(pieces.wrapping_add(1) as u16),
+        4 => Some(pieces.wrapping_sub(1) as u16),
+        5 => Some(r.pick(&[0, 1, 2, 255, 256, 65_535])),
+        // The count of a chain that S or F starts anew.
+        6 => Some(chain.map_or(0, |chain| chain.pieces) as u16),
+        _ => Some(pieces as u16),
+    }
+}
+
 /// Room for so many bytes: exactly enough, one byte less, none, more.
 fn room(r: &mut Random, takes: usize) -> usize {
     match r.below(12) {
@@ -207,10 +236,17 @@ fn room(r: &mut Random, takes: usize) -> usize {
     }
 }
 
-/// A packet with something changed: a byte of its head, any byte, its length.
+/// A packet with something changed: a byte of its head, any byte, its length, a place put in.
 fn damaged(r: &mut Random, packet: &[u8]) -> Vec<u8> {
     let mut bytes = packet.to_vec();
-    match r.below(8) {
+    match r.below(9) {
+        // A place more, right or of another length, before all other tags.
+        8 if bytes.len() > 4 && bytes[1] < 100 => {
+            let tag =
+                r.pick(&[&[PLACE, 2, 0, 0][..], &[PLACE, 2, 0, 1], &[PLACE, 0], &[PLACE, 1, 0], &[PLACE, 3, 0, 0, 0]]);
+            bytes[1] += tag.len() as u8;
+            bytes.splice(4..4, tag.iter().copied());
+        }
         0 => bytes.truncate(r.below(bytes.len() + 1)),
         1 => bytes.push(r.byte()),
         2 if !r.once_in(4) => bytes.clear(),
@@ -222,8 +258,11 @@ fn damaged(r: &mut Random, packet: &[u8]) -> Vec<u8> {
         }
         3..=5 if !bytes.is_empty() => {
             let at = r.below(bytes.len().min(30));
-            bytes[at] =
-                if r.once_in(2) { r.byte() } else { r.pick(&[0, 1, 2, 4, 5, 6, 16, 128, b'S', b'F', b'C', b'L']) };
+            bytes[at] = if r.once_in(2) {
+                r.byte()
+            } else {
+                r.pick(&[0, 1, 2, 4, 5, 6, 16, PLACE, 128, b'S', b'F', b'C', b'L'])
+            };
         }
         _ if !bytes.is_empty() => {
             let at = r.below(bytes.len());
@@ -248,6 +287,7 @@ impl Default for Lists {
             demand: 0,
             arrived: 0,
             transmissions: BTreeMap::new(),
+            singles: BTreeMap::new(),
             trace: vec![],
             tracing: false,
         }
@@ -328,6 +368,10 @@ impl Lists {
     }
 
     fn step(&mut self, r: &mut Random) -> Result<(), String> {
+        // Where messages are long, more single packets of them.
+        if self.large() && r.once_in(5) {
+            return self.singles(r);
+        }
         match r.below(100) {
             0 => self.open_day(r),
             1 => self.open_end(r),
@@ -352,14 +396,16 @@ impl Lists {
                 let series = self.under_way(r);
                 self.as_written(r, series)
             }
-            64..=80 => self.run(r),
+            64..=75 => self.run(r),
+            76..=80 => self.singles(r),
             81..=86 => self.receive_several(r),
             87..=94 => {
                 let series = self.series(r);
                 self.whole_login(r, series)
             }
             _ if self.kind == Kind::Honest => self.run(r),
-            95..=97 => self.made_up_chain(r),
+            95..=96 => self.made_up_chain(r),
+            97 if self.kind == Kind::Wild => self.counted_chain(r),
             _ if self.kind == Kind::Wild => {
                 self.alter_any(r);
                 Ok(())
@@ -504,16 +550,18 @@ impl Lists {
             let number = if r.once_in(3) { r.pick(&[0, 1, u32::MAX]) } else { next.saturating_sub(1) as u32 };
             content.extend(start_field_bytes(if r.once_in(8) { self.series(r) } else { series }, number));
         }
-        self.packet(r, LOGIN, (0, 0), b'S', [None, Some(mark), Some(mark), Some(mark)], &content)
+        let place = some_place(r);
+        self.packet(r, LOGIN, (0, 0), (b'S', place), [None, Some(mark), Some(mark), Some(mark)], &content)
     }
 
-    /// A packet of one of these marks, sometimes one more or less. What isn't whole fields is written as none.
+    /// A packet of a chain letter, of a place or none, and of one of these marks, sometimes one more or less. What isn't whole
+    /// fields is written as none.
     fn packet(
         &self,
         r: &mut Random,
         tid: u32,
         (series, number): (u16, u32),
-        chain: u8,
+        (chain, place): (u8, Option<u16>),
         marks: [Option<u32>; 4],
         content: &[u8],
     ) -> Vec<u8> {
@@ -521,7 +569,8 @@ impl Lists {
         let mark = r.pick(&marks).map(|mark| near(r, mark));
         let whole = reader::makeup::shape_right(content, 4080);
         let mut out = vec![];
-        write_packet(&mut out, &Header { tid, series, number, mark }, chain, if whole { content } else { &[] });
+        let header = Header { tid, series, number, mark };
+        write_placed(&mut out, &header, place, chain, if whole { content } else { &[] });
         out
     }
 
@@ -535,9 +584,9 @@ impl Lists {
                 series = self.series(r);
                 let kept = self.world.receiving.open.iter().find(|one| one.series == series);
                 let mark = kept.and_then(|one| one.mark).unwrap_or(r.below(3) as u32);
-                let content = self.contents.answer(r);
-                packet =
-                    self.packet(r, LOGIN, (0, 0), b'S', [None, Some(mark), Some(mark), Some(mark)], content).into();
+                let (content, place) = (self.contents.answer(r), some_place(r));
+                let marks = [None, Some(mark), Some(mark), Some(mark)];
+                packet = self.packet(r, LOGIN, (0, 0), (b'S', place), marks, content).into();
             }
             if r.once_in(4) {
                 packet = damaged(r, &packet).into();
@@ -654,8 +703,8 @@ impl Lists {
             _ => plain(r.below(30)),
         };
         let (letter, tid) = (r.pick(b"SFFCCL"), r.pick(&[STRANGE, STRANGE, STRANGE, MATCHES]));
-        let mark = kept.mark;
-        self.packet(r, tid, (series, number), letter, [None, mark, mark, mark], &content)
+        let (mark, place) = (kept.mark, near_place(r, letter, kept.chain));
+        self.packet(r, tid, (series, number), (letter, place), [None, mark, mark, mark], &content)
     }
 
     /// A chain up to the most bytes that it may have, and around them.
@@ -666,14 +715,15 @@ impl Lists {
         let series = self.series(r);
         let kept = self.world.receiving.open.iter().find(|one| one.series == series).copied().unwrap_or_default();
         let of = (series, kept.last.wrapping_add(1));
+        let places = r.once_in(2);
         for i in 0..8 {
-            let mut packet = vec![];
-            let header = Header { tid: STRANGE, series: of.0, number: of.1, mark: None };
-            write_packet(&mut packet, &header, if i == 0 { b'F' } else { b'C' }, &plain(4074));
+            let letter = (if i == 0 { b'F' } else { b'C' }, places.then_some(i));
+            let packet = self.packet(r, STRANGE, of, letter, [None; 4], &plain(4074));
             self.receive(r, &packet)?;
         }
         let last = plain(r.pick(&[0, 121, 122, 123, 124, 4074]));
-        let letter = r.pick(b"CL");
+        let place = r.pick(&[None, Some(7), Some(8), Some(8), Some(9)]);
+        let letter = (r.pick(b"CL"), place);
         let packet = self.packet(r, STRANGE, of, letter, [None; 4], &last);
         self.receive(r, &packet)
     }
@@ -800,7 +850,7 @@ impl Lists {
                 2 => one.logged_in = r.once_in(2),
                 3 => {
                     let held = r.pick(&[0, 6, 32_640, 32_767, 32_768, 32_769, usize::MAX - 5, usize::MAX]);
-                    one.chain = Some(Chain { tid: STRANGE, held });
+                    one.chain = Some(Chain { tid: STRANGE, held, pieces: any_count(r) });
                 }
                 4 => one.last = r.below(4) as u32,
                 _ => {}

@@ -30,13 +30,15 @@ impl Asked {
 /// The reader's answer in the library's numbers.
 pub fn numbers(bytes: &[u8]) -> Packet {
     let mark = |mark: Option<u32>| (mark.unwrap_or(0), u8::from(mark.is_some()));
+    let at = |place: Option<u16>| (place.unwrap_or(0), u8::from(place.is_some()));
     let behind = |extension: &[u8]| Span { start: 4, len: extension.len() };
     match packet::read(bytes) {
         packet::Packet::Short(missing) => Packet { missing, ..Packet::default() },
         packet::Packet::Refused(refusal) => Packet { answer: REFUSED, refusal, ..Packet::default() },
-        packet::Packet::Link { kind, extension, mark: day, length } => {
-            let (date, dated) = mark(day);
-            Packet { answer: LINK, kind, size: length, extension: behind(extension), date, dated, ..Packet::default() }
+        packet::Packet::Link { kind, extension, mark: day, place, length } => {
+            let ((date, dated), (place, placed)) = (mark(day), at(place));
+            let extension = behind(extension);
+            Packet { answer: LINK, kind, size: length, extension, date, dated, place, placed, ..Packet::default() }
         }
         packet::Packet::Skipped { kind, extension, body, length } => Packet {
             answer: SKIPPED,
@@ -47,7 +49,7 @@ pub fn numbers(bytes: &[u8]) -> Packet {
             ..Packet::default()
         },
         packet::Packet::Message(m) => {
-            let (date, dated) = mark(m.mark);
+            let ((date, dated), (place, placed)) = (mark(m.mark), at(m.place));
             Packet {
                 answer: MESSAGE,
                 kind: 1,
@@ -61,6 +63,8 @@ pub fn numbers(bytes: &[u8]) -> Packet {
                 chain: m.chain,
                 date,
                 dated,
+                place,
+                placed,
                 ..Packet::default()
             }
         }

@@ -83,6 +83,7 @@ pub struct Kept {
     pub date: u32,
     pub last: u32,
     pub tid: u32,
+    pub pieces: u32,
     pub series: u16,
     pub dated: u8,
     pub login: u8,
@@ -292,13 +293,13 @@ impl Sender {
 }
 
 impl Receiver {
-    /// The end with 0 for what it doesn't have: TID and bytes of a series without chain, the places that aren't open.
+    /// The end with 0 for what it doesn't have: TID, bytes and pieces of a series without chain, the places that aren't open.
     pub fn meant(mut self) -> Self {
         for (i, one) in self.series.iter_mut().enumerate() {
             if i >= self.count {
                 *one = Kept::default();
             } else if one.chain == 0 {
-                (one.tid, one.held) = (0, 0);
+                (one.tid, one.held, one.pieces) = (0, 0, 0);
             }
         }
         self
@@ -366,6 +367,7 @@ pub fn receiver(of: &Receiving) -> Receiver {
             date: one.mark.unwrap_or(0),
             last: one.last,
             tid: chain.tid,
+            pieces: chain.pieces,
             series: one.series,
             dated: one.mark.is_some().into(),
             login: one.logged_in.into(),

@@ -50,11 +50,13 @@ pub struct Packet {
     pub date: u32,
     pub series: u16,
     pub fields: u16,
+    pub place: u16,
     pub answer: u8,
     pub refusal: u8,
     pub kind: u8,
     pub chain: u8,
     pub dated: u8,
+    pub placed: u8,
 }
 
 #[repr(C)]

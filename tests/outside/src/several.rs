@@ -4,7 +4,7 @@
 use crate::ends::{
     self, Receiver, Sender, HANDED_ON, IN_PACKET, SEVERAL_END, SEVERAL_MESSAGE, SEVERAL_REFUSED, SEVERAL_SHORT,
 };
-use reader::cut::{write_message, write_packet, Header};
+use reader::cut::{write_packet, write_placed, write_sent, Header};
 use reader::generate::{raw_field, Random};
 use reader::packet::{said_length, u16_at, u32_at, MOST_MESSAGE};
 use reader::receiving::{Kept, Received, Receiving};
@@ -275,14 +275,14 @@ fn long_stream() -> Vec<u8> {
     let of = |number| Header { tid: STRANGE, series: SERIES[1], number, mark: Some(MARK) };
     let mut out = vec![];
     for (number, fields) in [(1, 1), (2, 3), (3, 0)] {
-        write_message(&mut out, &of(number), &vec![raw_field(STRANGE, &[7; 4000]); fields].concat()).expect("fields");
+        write_sent(&mut out, &of(number), &vec![raw_field(STRANGE, &[7; 4000]); fields].concat()).expect("fields");
         out.extend([0, 2, 0, 0, 4, 0]);
     }
     out
 }
 
-/// Messages in one packet and in chains, again, too far, of another day or series; link and skipped packets; damaged ones. Some
-/// streams end within a packet.
+/// Messages in one packet and in chains, with and without places, pieces of them lost or misplaced; again, too far, of another
+/// day or series; link and skipped packets; damaged ones. Some streams end within a packet.
 fn packet_stream(r: &mut Random) -> Vec<u8> {
     let mut out = vec![];
     let (mut end, mut lent) = (logged_in(), vec![0; SERIES.len() * MOST_MESSAGE]);
@@ -302,7 +302,7 @@ fn packet_stream(r: &mut Random) -> Vec<u8> {
             6 => header.mark = r.pick(&[None, Some(MARK + 1)]),
             7 => header.series = 9,
             8..=11 => {
-                let pieces = r.within(2, 4);
+                let (pieces, places) = (r.within(2, 4), !r.once_in(3));
                 for i in 0..pieces {
                     let letter = if i == 0 {
                         b'F'
@@ -312,7 +312,8 @@ fn packet_stream(r: &mut Random) -> Vec<u8> {
                         b'L'
                     };
                     if !r.once_in(9) {
-                        write_packet(&mut out, &header, letter, &field(r));
+                        let place = if r.once_in(12) { r.below(5) } else { i };
+                        write_placed(&mut out, &header, places.then_some(place as u16), letter, &field(r));
                     }
                     if r.once_in(6) {
                         out.extend([1, 0, 0, 0]);

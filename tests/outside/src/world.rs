@@ -81,7 +81,7 @@ fn noisy_receiver(r: &mut Random, mut end: Receiver) -> Receiver {
             one.date = r.next() as u32;
         }
         if !flag(r, &mut one.chain) {
-            (one.tid, one.held) = (r.next() as u32, r.next() as usize);
+            (one.tid, one.held, one.pieces) = (r.next() as u32, r.next() as usize, r.next() as u32);
         }
     }
     end

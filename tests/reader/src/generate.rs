@@ -1,10 +1,10 @@
 //! Inputs for tests, from fixed seeds: packets, contents, messages and captures, valid ones and others.
 
 use crate::calendar::month_days;
-use crate::cut::{write_message, Header};
+use crate::cut::{write_message, write_sent, Header};
 use crate::items::{known_field, Field, Kind};
 use crate::makeup::{Direction, Message};
-use crate::packet::{self, known_tag, FIELD_HEADER, MESSAGE_HEADER, MOST_CONTENT, MOST_MESSAGE, TRADE_DATE};
+use crate::packet::{self, known_tag, FIELD_HEADER, MESSAGE_HEADER, MOST_CONTENT, MOST_MESSAGE, PLACE, TRADE_DATE};
 use crate::tables::{FIELDS, MESSAGES};
 
 /// A small generator of numbers (xorshift64*). The same seed gives the same inputs everywhere.
@@ -456,18 +456,18 @@ pub fn header(r: &mut Random, tid: u32) -> Header {
 
 // --- Packets ---
 
-/// A tag run, at most `most` bytes: known tags with their length, unknown ones with any, 0x05 at most once.
+/// A tag run, at most `most` bytes: known tags with their length, unknown ones with any, 0x05 and 0x70 at most once.
 pub fn extension(r: &mut Random, most: usize) -> Vec<u8> {
     let mut out = Vec::new();
-    let mut dated = false;
+    let mut once = vec![];
     for _ in 0..r.pick(&[0, 0, 1, 1, 2, 3, 8, 40]) {
-        let kind = if r.once_in(4) { r.byte() } else { r.below(8) as u8 };
-        if kind == TRADE_DATE && dated {
+        let kind = if r.once_in(4) { r.byte() } else { r.pick(&[0, 1, 2, 3, 4, 5, 5, 6, 7, PLACE, PLACE]) };
+        if once.contains(&kind) {
             continue;
         }
         let n = known_tag(kind).unwrap_or_else(|| r.below(12));
         if out.len() + 2 + n <= most {
-            dated |= kind == TRADE_DATE;
+            once.extend(Some(kind).filter(|kind| [TRADE_DATE, PLACE].contains(kind)));
             out.extend([kind, n as u8]);
             out.extend(r.bytes(n));
         }
@@ -578,7 +578,7 @@ fn damaged(r: &mut Random, mut bytes: Vec<u8>) -> Vec<u8> {
         0 => old.wrapping_add(1),
         1 => old.wrapping_sub(1),
         2 => old ^ 1 << r.below(8),
-        _ => r.pick(&[0, 1, 2, 5, 0x7F, 0x80, 0xFF, b's', b'S', b'F', b'C', b'L']),
+        _ => r.pick(&[0, 1, 2, 5, PLACE, 0x7F, 0x80, 0xFF, b's', b'S', b'F', b'C', b'L']),
     };
     bytes
 }
@@ -600,7 +600,7 @@ fn mutated(r: &mut Random, mut bytes: Vec<u8>) -> Vec<u8> {
                 let part = bytes[at..at + n].to_vec();
                 bytes.splice(at..at, part);
             }
-            3 => bytes[at] = r.below(8) as u8,
+            3 => bytes[at] = r.pick(&[0, 1, 2, 3, 4, 5, 6, 7, PLACE]),
             4 => bytes[at] ^= 1 << r.below(8),
             _ => bytes[at] = r.byte(),
         }
@@ -613,12 +613,13 @@ fn extreme(r: &mut Random) -> Vec<u8> {
     let kind = r.pick(&[0, 1, 1, 1, 1, 2, 3, 0xFF]);
     let extension_length = r.pick(&[0, 0, 1, 2, 6, 126, 127, 128, 255]);
     let body_length: usize = r.pick(&[0, 1, 15, 16, 17, 21, 22, 23, 4089, 4095, 4096, 4096, 4097, 65_535]);
-    let mut extension: Vec<u8> = match r.below(4) {
+    let mut extension: Vec<u8> = match r.below(5) {
         0 => vec![0; extension_length],
         1 => r.bytes(extension_length),
         // One unknown tag as long as the extension.
         2 => [vec![0x77, extension_length.saturating_sub(2) as u8], vec![5; extension_length]].concat(),
-        // Trade dates.
+        // Places, trade dates.
+        3 => [PLACE, 2, 0, 1].iter().cycle().take(extension_length).copied().collect(),
         _ => [TRADE_DATE, 4, 0, 0, 0, 1].iter().cycle().take(extension_length).copied().collect(),
     };
     extension.truncate(extension_length);
@@ -708,7 +709,9 @@ pub fn capture(seed: u64, least: usize) -> Vec<u8> {
             if r.once_in(8) {
                 let header = header(&mut r, message.tid);
                 let content = content(&mut r, message, MOST_MESSAGE, true);
-                write_message(&mut out, &header, &content).expect("content that can be cut");
+                // As the ends write it, or others.
+                let write = if r.once_in(2) { write_sent } else { write_message };
+                write(&mut out, &header, &content).expect("content that can be cut");
             } else {
                 out.extend(message_packet(&mut r, message));
             }

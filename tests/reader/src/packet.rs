@@ -10,6 +10,8 @@ pub const FIELD_HEADER: usize = 6;
 
 pub const KEEP_ALIVE: u8 = 0x04;
 pub const TRADE_DATE: u8 = 0x05;
+/// A packet's place in its message, from 0 (document 02, No. 10).
+pub const PLACE: u8 = 0x70;
 
 /// Wire integers: unsigned, high byte first. The callers have looked at the length.
 pub fn u16_at(bytes: &[u8], at: usize) -> u16 {
@@ -38,6 +40,7 @@ pub enum Packet<'a> {
         kind: u8,
         extension: &'a [u8],
         mark: Option<u32>,
+        place: Option<u16>,
         length: usize,
     },
     Message(MessagePacket<'a>),
@@ -48,6 +51,8 @@ pub struct MessagePacket<'a> {
     pub extension: &'a [u8],
     /// The trade date, tag 0x05.
     pub mark: Option<u32>,
+    /// The packet's place in its message, tag 0x70.
+    pub place: Option<u16>,
     pub tid: u32,
     pub chain: u8,
     pub series: u16,
@@ -83,16 +88,17 @@ pub fn read(bytes: &[u8]) -> Packet<'_> {
     if kind > 1 || (kind == 0 && !body.is_empty()) {
         return Packet::Skipped { kind, extension, body, length };
     }
-    let Ok(mark) = trade_date(extension) else {
+    let Ok((mark, place)) = date_and_place(extension) else {
         return Packet::Refused(2);
     };
     if body.is_empty() {
-        return Packet::Link { kind, extension, mark, length };
+        return Packet::Link { kind, extension, mark, place, length };
     }
     let (header, content) = body.split_at(MESSAGE_HEADER);
     let packet = MessagePacket {
         extension,
         mark,
+        place,
         tid: u32_at(header, 1),
         chain: header[5],
         series: u16_at(header, 6),
@@ -121,13 +127,13 @@ pub fn said_length(bytes: &[u8]) -> Option<usize> {
     Some(4 + usize::from(head[1]) + usize::from(u16_at(head, 2)))
 }
 
-/// The length that Table 2 gives the tag, if it knows it.
+/// The length that Table 2 gives the tag, or document 02 the place, if it is known.
 pub fn known_tag(kind: u8) -> Option<usize> {
     match kind {
         0x00 | 0x04 => Some(0),
         0x01 | 0x05 => Some(4),
         0x02 | 0x03 => Some(1),
-        0x06 => Some(2),
+        0x06 | PLACE => Some(2),
         _ => None,
     }
 }
@@ -156,20 +162,25 @@ impl<'a> Iterator for Tags<'a> {
     }
 }
 
-/// The trade date of a tag run, if it has one; an error for row 2: the run doesn't end with the extension, a known tag
-/// has another length, or 0x05 stands twice.
-pub fn trade_date(extension: &[u8]) -> Result<Option<u32>, ()> {
-    let mut mark = None;
+/// The trade date and the place of a tag run, as far as it has them; an error for row 2: the run doesn't end with the
+/// extension, a known tag has another length, or 0x05 or 0x70 stands twice.
+pub fn date_and_place(extension: &[u8]) -> Result<(Option<u32>, Option<u16>), ()> {
+    let (mut mark, mut place) = (None, None);
     for tag in tags(extension) {
         let (kind, data) = tag?;
         if known_tag(kind).is_some_and(|length| length != data.len()) {
             return Err(());
         }
-        if kind == TRADE_DATE && mark.replace(u32_at(data, 0)).is_some() {
+        let twice = match kind {
+            TRADE_DATE => mark.replace(u32_at(data, 0)).is_some(),
+            PLACE => place.replace(u16_at(data, 0)).is_some(),
+            _ => false,
+        };
+        if twice {
             return Err(());
         }
     }
-    Ok(mark)
+    Ok((mark, place))
 }
 
 /// The mark of any bytes: the first tag 0x05 of those that are whole, if it has four bytes of data.

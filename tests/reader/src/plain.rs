@@ -1,7 +1,7 @@
 //! Link and skipped packets written (4.1).
 
 use crate::generate::{self, Random};
-use crate::packet::{read, Packet, MESSAGE_HEADER, MOST_CONTENT};
+use crate::packet::{read, Packet, MESSAGE_HEADER, MOST_CONTENT, PLACE};
 
 /// Why one isn't written.
 #[derive(Clone, Copy, Debug, PartialEq, Eq)]
@@ -51,7 +51,7 @@ pub fn plain_input(r: &mut Random) -> (u8, Vec<u8>, Vec<u8>) {
     };
     if !extension.is_empty() && r.once_in(3) {
         let at = r.below(extension.len());
-        extension[at] = r.pick(&[0, 1, 4, 5, 6, 7, 0xFF]);
+        extension[at] = r.pick(&[0, 1, 2, 4, 5, 6, 7, PLACE, 0xFF]);
     }
     let n = match r.below(64) {
         0 => r.pick(&[65_534, 65_535, 65_536, 65_537, 70_000, 131_072]),

@@ -11,12 +11,17 @@ use crate::start::{start_field, start_field_bytes, Start};
 /// The start field with FID and length.
 const START_LENGTH: usize = FIELD_HEADER + 6;
 
-/// An open chain: its TID, and how many content bytes are held in the series' part of the chain buffer. Its number is
-/// last + 1.
+/// Packets of a chain are counted so far and no further: one more than any place, so that none agrees from then on
+/// (document 02, No. 10).
+pub const MOST_PIECES: u32 = 65_536;
+
+/// An open chain: its TID, how many content bytes are held in the series' part of the chain buffer, and how many packets.
+/// Its number is last + 1.
 #[derive(Clone, Copy, Debug, Default, PartialEq, Eq)]
 pub struct Chain {
     pub tid: u32,
     pub held: usize,
+    pub pieces: u32,
 }
 
 /// What is kept of a series.
@@ -172,22 +177,27 @@ impl Receiving {
         if number <= one.last {
             return Ok(Received::Again(one.last));
         }
+        // What is held before it: nothing where it starts anew, else the open chain.
+        let Chain { held, pieces, .. } = match (piece.chain, chain) {
+            (b'S' | b'F', _) => Chain::default(),
+            (_, Some(chain)) if chain.tid == piece.tid => chain,
+            _ => return Err(17),
+        };
+        if piece.place.is_some_and(|place| u32::from(place) != pieces) {
+            return Err(17);
+        }
         if piece.chain == b'S' {
             one.last = number;
             let content = Content::OfPacket(piece.content);
             return Ok(Received::Message { last: number, tid: piece.tid, content });
         }
-        let held = match (piece.chain, chain) {
-            (b'F', _) => 0,
-            (_, Some(chain)) if chain.tid == piece.tid => chain.held,
-            _ => return Err(17),
-        };
         let length = held.checked_add(piece.content.len()).filter(|&length| length <= MOST_MESSAGE).ok_or(18)?;
         let from = place * MOST_MESSAGE;
         let part = buffer.get_mut(..parts).ok_or(18)?.get_mut(from..from + MOST_MESSAGE).ok_or(18)?;
         part[held..length].copy_from_slice(piece.content);
         if piece.chain != b'L' {
-            one.chain = Some(Chain { tid: piece.tid, held: length });
+            let pieces = pieces.saturating_add(1).min(MOST_PIECES);
+            one.chain = Some(Chain { tid: piece.tid, held: length, pieces });
             return Ok(Received::Held(one.last));
         }
         one.last = number;

@@ -13,6 +13,7 @@ mod calendar;
 mod line;
 mod packets;
 mod parts;
+mod pieces;
 mod receiving;
 mod serving;
 mod several;
@@ -266,7 +267,7 @@ impl Script {
         lines.push(format!("receiving {}", self.receiving.open.len()));
         for one in self.receiving.open.iter() {
             let login = if one.logged_in { "in" } else { "out" };
-            let chain = one.chain.map_or("none".to_string(), |chain| chain.held.to_string());
+            let chain = one.chain.map_or("none".to_string(), |chain| format!("{} {}", chain.held, chain.pieces));
             let mark = or_none(one.mark);
             lines.push(format!("series {} {mark} last {} {login} chain {chain}", one.series, one.last));
         }
@@ -415,8 +416,8 @@ impl Script {
     }
 }
 
-/// The whole script: the worked examples of both ends, of the calendar, of the book, of a bufferful and of one packet a
-/// call, and both ends over a faulty line. Gives it with the place of the call that the faulty line begins with.
+/// The whole script: the worked examples of both ends, of the calendar, of the book, of a bufferful, of one packet a call and
+/// of every piece counted, and both ends over a faulty line. Gives it with the place of the call that the faulty line begins with.
 pub fn whole_script() -> (Script, usize) {
     let mut s = Script::new(LOG, CHAIN);
     serving::examples(&mut s);
@@ -426,6 +427,7 @@ pub fn whole_script() -> (Script, usize) {
     book::examples(&mut s);
     several::examples(&mut s);
     packets::examples(&mut s);
+    pieces::examples(&mut s);
     let from = s.calls.len();
     faulty_line(&mut s, 2_000_000_000);
     serving::last_marks(&mut s);

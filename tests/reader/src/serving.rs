@@ -1,8 +1,8 @@
 //! The serving end (document 01): Opening, Publish, Login and Send, and the form of Send that writes one packet (document
-//! 02, No. 4), each with its tests in the refusal table's order. The log and the output are lent; an output is given as a
-//! vector that is emptied and holds what was written, and its room.
+//! 02, No. 4), each with its tests in the refusal table's order; the packets of both Sends bear their place (No. 10). The
+//! log and the output are lent; an output is given as a vector that is emptied and holds what was written, and its room.
 
-use crate::cut::{chain_letter, cut, write_message, write_packet, Header};
+use crate::cut::{cut, write_packet, write_sent, write_sent_packet, Header};
 use crate::few::{may_open, Few};
 use crate::makeup::{check, items_right, makeup_right, shape_right, widths_right, Direction};
 use crate::packet::{read, said_length, u16_at, u32_at, MessagePacket, Packet};
@@ -15,7 +15,7 @@ pub const MOST_MESSAGES: u32 = 1_000_000;
 pub const LOGIN: u32 = 0x0016;
 /// Length of an entry's head in the log.
 pub const ENTRY_HEADER: usize = 16;
-/// Header, tag 0x05 and message header of a packet that the end writes.
+/// Header, tag 0x05 and message header of a login answer. (A packet of either Send has tag 0x70 too.)
 pub const AROUND: usize = 4 + 6 + MESSAGE_HEADER;
 
 /// A series of the day: how many were published; the number that is sent next, if it is logged in; and how many packets of
@@ -197,7 +197,7 @@ impl Serving {
         let day = self.day.as_mut().ok_or(13)?;
         let Some((place, header, content)) = day.left(log, series)? else { return Ok(None) };
         out.clear();
-        write_message(out, &header, content).ok_or(20)?;
+        write_sent(out, &header, content).ok_or(20)?;
         if room < out.len() {
             return Err(18);
         }
@@ -221,7 +221,7 @@ impl Serving {
         let one = &mut day.open[place];
         let i = usize::try_from(one.piece).ok().filter(|&i| i < parts.len()).ok_or(20)?;
         out.clear();
-        write_packet(out, &header, chain_letter(i, parts.len()), parts[i]);
+        write_sent_packet(out, &header, &parts, i);
         if room < out.len() {
             return Err(18);
         }

@@ -10,7 +10,7 @@ fn field(length: usize) -> Vec<u8> {
     raw_field(0x7777, &vec![7; length])
 }
 
-/// No two of its fields fit into one packet: 32, 4,101 and 34 bytes.
+/// No two of its fields fit into one packet: 36, 4,105 and 38 bytes.
 fn three() -> Vec<u8> {
     [field(0), field(4069), field(2)].concat()
 }
@@ -41,7 +41,7 @@ fn damaged_between() {
     let used = end.day.unwrap().used;
     let (mut out, mut whole) = (vec![], vec![]);
     end.clone().send(3, &log, usize::MAX, &mut whole).unwrap();
-    assert_eq!(end.send_packet(3, &log, 32, &mut out), FIRST);
+    assert_eq!(end.send_packet(3, &log, 36, &mut out), FIRST);
     assert_eq!(place(&end), (Some(1), 1));
     let first = out.clone();
     // Too short, a byte of the entry, of its fields; 20 comes before 18, and the place stays.
@@ -58,10 +58,10 @@ fn damaged_between() {
     // Behind the entry nothing is looked at.
     let mut behind = log.clone();
     behind[ENTRY_HEADER + three().len()..].fill(0xFF);
-    assert_eq!(end.send_packet(3, &behind, 4101, &mut out), FIRST);
+    assert_eq!(end.send_packet(3, &behind, 4105, &mut out), FIRST);
     let second = out.clone();
     // Whole again: it goes on with the same packet.
-    assert_eq!(end.send_packet(3, &log, 34, &mut out), LAST);
+    assert_eq!(end.send_packet(3, &log, 38, &mut out), LAST);
     assert_eq!([first, second, out].concat(), whole);
     assert_eq!(place(&end), (Some(2), 0));
 }
@@ -84,10 +84,10 @@ fn altered_between() {
     // With two packets the second is the last one.
     let mut other = end;
     assert_eq!(other.send_packet(3, &two, usize::MAX, &mut out), LAST);
-    assert_eq!((place(&other), out[15], out.len()), ((Some(2), 0), b'L', 4101));
+    assert_eq!((place(&other), out[19], out.len()), ((Some(2), 0), b'L', 4105));
     // A whole Send takes it as it is, and leads out of it.
     assert_eq!(end.send(3, &one, usize::MAX, &mut out), Ok(Some(1)));
-    assert_eq!((place(&end), out.len()), ((Some(2), 0), 32));
+    assert_eq!((place(&end), out.len()), ((Some(2), 0), 36));
 }
 
 #[test]

@@ -30,7 +30,7 @@ fn packet(extension: &[u8], fields: &[Vec<u8>]) -> Vec<u8> {
 fn p1_to_p6() {
     assert_eq!(read(&[]), Packet::Short(4));
     let heart = [0, 2, 0, 0, 4, 0];
-    assert_eq!(read(&heart), Packet::Link { kind: 0, extension: &[4, 0], mark: None, length: 6 });
+    assert_eq!(read(&heart), Packet::Link { kind: 0, extension: &[4, 0], mark: None, place: None, length: 6 });
     assert_eq!(read(&heart[..5]), Packet::Short(1));
     assert_eq!(read(&[1, 0x80, 0, 0]), Packet::Refused(1));
     assert_eq!(read(&[1, 0x7F, 0, 0]), Packet::Short(127));
@@ -89,14 +89,14 @@ fn tags() {
     let date = [5, 4, 1, 2, 3, 4];
     assert_eq!(message(&packet(&date, &[])).mark, Some(0x0102_0304));
     assert_eq!(message(&packet(&[], &[])).mark, None);
-    // Known tags at their lengths and others; unknown ones with any length; known ones but 0x05 may repeat.
-    for (kind, length) in [(0, 0), (1, 4), (2, 1), (3, 1), (4, 0), (5, 4), (6, 2)] {
+    // Known tags at their lengths and others; unknown ones with any length; known ones but 0x05 and 0x70 may repeat.
+    for (kind, length) in [(0, 0), (1, 4), (2, 1), (3, 1), (4, 0), (5, 4), (6, 2), (0x70, 2)] {
         for n in 0..6 {
             let run = [vec![kind, n], vec![0; n.into()]].concat();
             let right = n == length;
             assert_eq!(matches!(read(&packet(&run, &[])), Packet::Message(_)), right, "{kind} {n}");
             let twice = [run.clone(), run].concat();
-            assert_eq!(matches!(read(&packet(&twice, &[])), Packet::Message(_)), right && kind != 5);
+            assert_eq!(matches!(read(&packet(&twice, &[])), Packet::Message(_)), right && kind != 5 && kind != 0x70);
         }
     }
     assert_eq!(message(&packet(&[7, 3, 1, 2, 3, 0xFF, 0], &[])).extension, [7, 3, 1, 2, 3, 0xFF, 0]);

@@ -94,7 +94,7 @@ fn chain_buffers() {
     let mut buffer = vec![0; 3 * 32_768];
     assert_eq!(one.receive(&packet(Some(9), 5, 1, b'F', &a), &mut short), Err(18));
     assert_eq!(one.receive(&packet(Some(9), 5, 1, b'F', &a), &mut buffer), Ok(Received::Held(0)));
-    assert_eq!(one.open[1].chain, Some(Chain { tid: 0x7777, held: 106 }));
+    assert_eq!(one.open[1].chain, Some(Chain { tid: 0x7777, held: 106, pieces: 1 }));
     // 18 drops it: L is 17 then.
     assert_eq!(one.receive(&packet(Some(9), 5, 1, b'C', &a), &mut short), Err(18));
     assert_eq!(one.receive(&packet(Some(9), 5, 1, b'L', &b), &mut buffer), Err(17));

@@ -1,7 +1,7 @@
 //! The script that stands in the repository is the one that the models make; every answer of every call is there; and over
 //! the faulty line what was handed on is what was published.
 
-use reader::cut::{write_message, Header};
+use reader::cut::{write_sent, Header};
 use reader::packet::{read, said_length, MessagePacket, Packet};
 use reader::script::{faulty_line, whole_script, Script, CHAIN, LOG};
 use std::collections::{BTreeMap, BTreeSet};
@@ -136,7 +136,8 @@ struct History {
     messages: Vec<Sent>,
     /// Which of the messages is unfinished, by series.
     unfinished: BTreeMap<u16, usize>,
-    /// The packet received last, if no other call of the receiving end came since: messages and places that it may be of.
+    /// The packet received last, if no other call of the receiving end came since: messages and places that it may be of, in
+    /// a run from the first packet on. None where it came by itself.
     run: Vec<(usize, usize)>,
     /// By series, where no opening and no connection came since its last login.
     logged_in: BTreeMap<u16, SinceLogin>,
@@ -240,7 +241,7 @@ impl History {
         let number = message(&self.messages[place].packets[0]).number;
         let (tid, content) = &self.published[&(series, self.day)][number as usize - 1];
         let mut right = vec![];
-        write_message(&mut right, &Header { tid: *tid, series, number, mark: Some(self.day) }, content).unwrap();
+        write_sent(&mut right, &Header { tid: *tid, series, number, mark: Some(self.day) }, content).unwrap();
         assert!(right.starts_with(&packets), "message {number} of series {series}: packets of the one published");
         (right == packets, number)
     }
@@ -283,12 +284,17 @@ impl History {
         let next = self.run.iter().filter(|&&(m, i)| is(m, i + 1)).map(|&(m, i)| (m, i + 1));
         let first = (0..self.messages.len()).filter(|&m| is(m, 0)).map(|m| (m, 0));
         self.run = next.chain(first).collect();
-        assert!(!self.run.is_empty(), "a packet that was printed, behind those before it");
+        assert!(self.messages.iter().any(|of| of.packets.iter().any(|one| one == packet)), "a packet that was printed");
+        if self.run.is_empty() {
+            self.note(&format!("a single packet: {what}"));
+        }
         let whole = |&&(m, i): &&(usize, usize)| self.messages[m].whole && i + 1 == self.messages[m].packets.len();
         if let Some(&(m, _)) = self.run.iter().find(whole) {
             self.deliver(Delivery::Message(self.messages[m].packets.clone()));
         }
-        if self.run.iter().all(|&(m, i)| !self.messages[m].whole && i + 1 == self.messages[m].packets.len()) {
+        if !self.run.is_empty()
+            && self.run.iter().all(|&(m, i)| !self.messages[m].whole && i + 1 == self.messages[m].packets.len())
+        {
             self.note("receive the last packet that was written so far");
         }
         let packet = message(packet);
@@ -301,8 +307,10 @@ impl History {
             let one = (u32::from_str_radix(said[2], 16).unwrap(), bytes(said[3]));
             self.handed_on.entry((packet.series, day)).or_default().push(one);
             if packet.chain == b'L' {
-                let packets = self.run.iter().map(|&(m, _)| self.messages[m].packets.len()).max().unwrap();
-                self.note(&format!("message of {packets} packets"));
+                match self.run.iter().map(|&(m, _)| self.messages[m].packets.len()).max() {
+                    Some(packets) => self.note(&format!("message of {packets} packets")),
+                    None => self.note("message of single packets"),
+                }
             }
         }
     }
@@ -371,6 +379,11 @@ fn over_a_faulty_line() {
         "message of 2 packets",
         "message of 3 packets",
         "message of 17 packets",
+        "receive refused 17",
+        "a single packet: held",
+        "a single packet: again",
+        "a single packet: refused",
+        "message of single packets",
     ] {
         assert!(history.seen.contains_key(what), "{what}");
     }

@@ -13,22 +13,40 @@ span-requires-2 c κs = search needs
 date-requires : tie.Need-date-requires
 date-requires c κs = search needs
 
+place-requires : tie.Need-place-requires
+place-requires c κs = search needs
+
 letter-requires : tie.Need-letter-requires
 letter-requires c κs = search needs
 
 dated-requires : tie.Need-dated-requires
 dated-requires c κs = search needs
 
+placed-requires : tie.Need-placed-requires
+placed-requires c κs = search needs
+
 returns : tie.Need-returns
 unfolding messageNumbers
 returns c =
     rw (
-      c .before .before .before .before .span .ensures,
-      c .before .before .before .span2 .ensures,
-      c .before .before .date .ensures,
-      c .before .letter .ensures,
-      c .dated .ensures,
+      c .before .before .before .before .before .before .span .ensures,
+      c .before .before .before .before .before .span2 .ensures,
+      c .before .before .before .before .date .ensures,
+      c .before .before .before .place .ensures,
+      c .before .before .letter .ensures,
+      c .before .dated .ensures,
+      c .placed .ensures,
     )
 
 pub message-spec : {M : Type 1} → statement M
-message-spec = tie.close (tie.spec span-requires span-requires-2 date-requires letter-requires dated-requires returns)
+message-spec =
+    tie.close
+    (tie.spec
+    span-requires
+    span-requires-2
+    date-requires
+    place-requires
+    letter-requires
+    dated-requires
+    placed-requires
+    returns)

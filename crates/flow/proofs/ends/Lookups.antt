@@ -5,7 +5,7 @@ use mathlib.Core.Path.{_≡_, refl, sym, ap, _∙_}
 use mathlib.Core.List.{List, [], _∷_, map}
 use mathlib.Core.Bool.{Bool, true, false, cond, _||_}
 use borrow.Author.Tests.{eqb-true}
-use lib.ListN.{length, take, set}
+use lib.ListN.{length, getD, take, set}
 use lib.Dec.{eqb}
 use Rattle.flow.specs.Ends.{member, indexOf}
 
@@ -55,3 +55,21 @@ module _ {A : Type 0} (f : A → ℕ) where
   numbers-few zero l = omega arith
   numbers-few (suc n) [] = omega arith
   numbers-few (suc n) (x ∷ l) = omega (arith, numbers-few n l)
+
+  pub numbers-first : (n : ℕ) (l : List A) → length (map f (take n l)) ≤ n
+  numbers-first zero l = omega arith
+  numbers-first (suc n) [] = omega arith
+  numbers-first (suc n) (x ∷ l) = omega (arith, numbers-first n l)
+
+  -- At the place of s among the first n stands something of number s.
+  pub number-at : (n : ℕ) (l : List A) (s : ℕ) (d : A) → member s (map f (take n l)) ≡ true
+      → f (getD l (indexOf s (map f (take n l))) d) ≡ s
+  number-at zero l s d h = let z : _≡_ {A = ℕ} 0 1 = cc in absurd (omega arith)
+  number-at (suc n) [] s d h = let z : _≡_ {A = ℕ} 0 1 = cc in absurd (omega arith)
+  number-at (suc n) (x ∷ l) s d h = go (eqb (f x) s) refl h (number-at n l s d)
+    where
+      go : (b : Bool) → eqb (f x) s ≡ b → (b || member s (map f (take n l))) ≡ true
+          → (member s (map f (take n l)) ≡ true → f (getD l (indexOf s (map f (take n l))) d) ≡ s)
+          → f (getD (x ∷ l) (cond b 0 (suc (indexOf s (map f (take n l))))) d) ≡ s
+      go true p h g = eqb-true (f x) s p
+      go false p h g = g h

@@ -13,7 +13,7 @@ use Rattle.flow.specs.declared.receiver.Confirmed.{Confirmed}
 use Rattle.flow.specs.Ends.{Left, dayOf, loggedIn, withSeries}
 use Rattle.flow.specs.Answers.{Message, isTaken, confirmedSaid, reportIn}
 use Rattle.flow.specs.Receiving.{lastAfter, confirmLoginOf}
-use Rattle.flow.specs.World.{InSeries, inSeries, Dated, dated, latestOf, only, Transmission, ReceiverSide}
+use Rattle.flow.specs.World.{InSeries, inSeries, Dated, dated, latestOf, only, ReceiverSide}
 use Rattle.flow.specs.World.{afterConfirm}
 use Rattle.flow.proofs.common.Histories.{latestOf-same, latestOf-other, each-append, each-at}
 use Rattle.flow.proofs.calls.Receiving.{Confirmed-as, confirms, confirm-as}
@@ -24,7 +24,7 @@ use Rattle.flow.proofs.steps.Turns.{confirm-turn, turn-eight}
 use Rattle.flow.proofs.common.Days.{upto-same}
 use Rattle.flow.specs.Agreement.{EachDated}
 
-module _ (P : List (Dated Message)) (ts : List Transmission) (v : ReceiverSide) (h : Safe P ts v) (s : ℕ)
+module _ (P : List (Dated Message)) (v : ReceiverSide) (h : Safe P v) (s : ℕ)
     (p : List ℕ) where
   abbrev r : Left Receiver Confirmed
   r = confirmLoginOf (v .end) s p
@@ -72,7 +72,7 @@ module _ (P : List (Dated Message)) (ts : List Transmission) (v : ReceiverSide) 
           each-at s d (dayOf (withSeries (v .end) s (datedOf p .date) last loggedIn) s) (last ∷ [])
           (moves-with (v .end) (h .eight) s o (datedOf p .date) last loggedIn .date ∙ i)
 
-  pub safe-confirm : Safe P ts (afterConfirm v s p (confirmLoginOf (v .end) s p))
+  pub safe-confirm : Safe P (afterConfirm v s p (confirmLoginOf (v .end) s p))
   safe-confirm =
       record {
         eight = turn-eight (datedOf p .date) false (v .end) (h .eight) (r .end) _ _
@@ -80,5 +80,4 @@ module _ (P : List (Dated Message)) (ts : List Transmission) (v : ReceiverSide) 
         days = confirmed-days;
         right = confirmed-right;
         dated = (h .dated .0, each-append (v .reports) _ (h .dated .1) confirmed-dated);
-        chained = tt;
       }

@@ -1,5 +1,4 @@
--- Receive of a packet of a genuine message keeps what holds of the receiving end's side, by the line's rule. Assumes
--- nothing.
+-- Receive of any single packet of any transmission keeps what holds of the receiving end's side. Assumes nothing.
 use Prim.Native.Nat.{ℕ, zero, suc, _+_, _<_}
 use native.Mathlib.Omega.{arith}
 use mathlib.Core.Path.{_≡_, refl, sym, ap, _∙_}
@@ -23,13 +22,12 @@ use Rattle.flow.specs.World.{came, borne, Dated, dated, latestOf, other,
 use Rattle.flow.specs.World.{ReceiverSide, continues, afterReceive}
 use Rattle.flow.proofs.steps.Moves.{Moves}
 use Rattle.flow.proofs.pieces.Outcomes.{Delivered, keeps, reports, hands}
-use Rattle.flow.proofs.right.End.{EndRight, receive-right}
+use Rattle.flow.proofs.right.End.{EndRight, receive-delivers, receive-right}
 use Rattle.flow.proofs.pieces.Completes.{Wants}
 use Rattle.flow.proofs.packets.Genuine.{headed, Begun}
 use Rattle.flow.proofs.pieces.Takes.{PacketAt, Before, take-within, take-series, take-date, take-holds}
 use Rattle.flow.proofs.pieces.Takes.{take-opens, take-delivers, take-completes}
 use Rattle.flow.proofs.first.Safe.{Safe}
-use Rattle.flow.proofs.pieces.Runs.{Run, Behind, line-rule}
 use Rattle.flow.proofs.common.Extends.{Extends, same-some, place-kept}
 use Rattle.flow.proofs.pieces.Pieces.{firstPieces}
 use Rattle.flow.proofs.pieces.Chained.{Chain-open}
@@ -59,12 +57,10 @@ delivered-dated e s d k x after ms ks (keeps m) = tt
 delivered-dated e s d k x after ms ks (reports {n = n} m q l) = each-at s d (dayOf e s) (n ∷ []) q
 delivered-dated e s d k x after ms ks (hands m q l w) = each-at s d (dayOf e s) (k ∷ []) q
 
-module _ (P : List (Dated Message)) (ts : List Transmission) (v : ReceiverSide) (h : Safe P ts v) where
+module _ (P : List (Dated Message)) (v : ReceiverSide) (h : Safe P v) where
   module _ (i j : ℕ) (m : Transmission) (p : List ℕ)
-      (at : getElem? ts i ≡ some m)
       (g : Begun P (m .series) (m .packets) (m .stands))
       (here : getElem? (m .packets) j ≡ some p)
-      (line : continues (v .previous) i j ≡ true)
     where
       abbrev e : Receiver
       e = v .end
@@ -75,58 +71,14 @@ module _ (P : List (Dated Message)) (ts : List Transmission) (v : ReceiverSide) 
       abbrev s : ℕ
       s = m .series
 
-      -- By the line's rule the packet before it came right before it.
-      run-behind : (t k d : ℕ) (c : List ℕ) → Extends (m .packets) (packetsOf (headed s t k d) c) → shaped c mostContent ≡ true
-          → 0 < j → Run e (v .buffer) s t k d c j
-      run-behind t k d c w q = go j refl
-        where
-          go : (n : ℕ) → j ≡ n → 0 < n → Run e (v .buffer) s t k d c n
-          go zero z l = absurd (omega arith)
-          go (suc n) z l =
-              let b : Behind ts e (v .buffer) (came i n) = rw (line-rule (v .previous) i j line n z) at (h .chained) in
-              let x = same-some (getElem? ts i) (b .0) m (b .1) at in
-              let f : (t k d : ℕ) (c : List ℕ) → Extends (m .packets) (packetsOf (headed (m .series) t k d) c)
-              → shaped c mostContent ≡ true → Run e (v .buffer) (m .series) t k d c (suc n) =
-              rw x at (b .2) in
-              f t k d c w q
-
-      run-before : (t k d : ℕ) (c : List ℕ) → Extends (m .packets) (packetsOf (headed s t k d) c) → shaped c mostContent ≡ true
-          → j < length (piecesOf c) → Before e (v .buffer) s t k d c j
-      run-before t k d c w q within =
-          record {
-            held = λ l x n. run-behind t k d c w q l .holding;
-            opens = λ l. run-behind t k d c w q l .opens
-                within;
-          }
-
-      -- One packet more of it has come.
-      received-run : (t k d : ℕ) (b : List ℕ) → Extends (m .packets) (packetsOf (headed s t k d) b) → shaped b mostContent ≡ true
-          → Run (r .end) (r .bytes) s t k d b (suc j)
-      received-run t k d b w q =
-          let a : PacketAt s t k d b j p = record { good = q; here = place-kept (m .packets) _ w j p here } in
-          let before = run-before t k d b w q (take-within a) in
-          record {
-            holding = take-holds a e (h .eight) (v .buffer) before;
-            opens = take-opens a e (h .eight) (v .buffer)
-                before;
-          }
-
       found : PacketAt s (g .what .tid) (suc (g .place)) (g .day) (g .what .content) j p
       found = record { good = g .good; here = place-kept (m .packets) _ (g .packets) j p here }
 
-      before : Before e (v .buffer) s (g .what .tid) (suc (g .place)) (g .day) (g .what .content) j
-      before =
-          run-before (g .what .tid) (suc (g .place)) (g .day) (g .what .content) (g .packets) (g .good)
-          (take-within found)
-
-      counted : 0 < j → Chain-open e s → liveOf e s .held ≡ length (firstPieces (g .what .content) j)
-      counted l o =
-          run-behind (g .what .tid) (suc (g .place)) (g .day) (g .what .content) (g .packets) (g .good) l .holding
-          o .held
-
       delivered : Delivered e s (g .day) (suc (g .place)) (g .what) (r .end)
           (messageIn (receivedSaid p (r .bytes) (r .answer))) (reportIn (receivedSaid p (r .bytes) (r .answer)))
-      delivered = take-delivers found e (h .eight) (v .buffer) before
+      delivered =
+          receive-delivers P (v .handed) (v .reports) e (v .buffer) (h .right) (h .eight) s (g .day) (g .place) (g .what) j p
+          (g .placed) found
 
       received-right : EndRight P
           (v .handed ++ map
@@ -139,7 +91,7 @@ module _ (P : List (Dated Message)) (ts : List Transmission) (v : ReceiverSide) 
       received-right =
           rw (take-series found, take-date found, ← (h .days s))
           (receive-right P (v .handed) (v .reports) e (v .buffer) (h .right) (h .eight) s (g .day) (g .place) (g .what)
-          j p (g .placed) found counted (before .opens))
+          j p (g .placed) found)
 
       received-dated : EachDated
           (v .handed ++ map
@@ -158,18 +110,11 @@ module _ (P : List (Dated Message)) (ts : List Transmission) (v : ReceiverSide) 
                 (delivered-dated e s (g .day) (suc (g .place)) (g .what) (r .end) _ _ delivered),
           )
 
-      pub safe-receive : Safe P ts (afterReceive v m i j p r)
+      pub safe-receive : Safe P (afterReceive v m i j p r)
       safe-receive =
           record {
             eight = turn-eight None false e (h .eight) (r .end) _ _ (receive-turn None false e p (v .buffer));
             days = λ t. delivered-day e s (g .day) (suc (g .place)) (g .what) (r .end) _ _ delivered t ∙ h .days t;
             right = received-right;
             dated = received-dated;
-            chained = rw line (m, at, received-run);
           }
-
-      -- With its last packet, a message for which the end is ready is handed on.
-      pub receive-completes : m .stands ≡ whole → j + 1 ≡ length (m .packets)
-          → Wants e (v .buffer) s (suc (g .place)) (g .day)
-          → messageIn (receivedSaid p (r .bytes) (r .answer)) ≡ g .what ∷ []
-      receive-completes w n = take-completes found e (h .eight) (v .buffer) before (n ∙ ap length (g .all w))

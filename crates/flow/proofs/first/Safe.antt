@@ -1,4 +1,4 @@
--- What holds of the receiving end's side beside what was published and sent; kept by what the serving end does, and by
+-- What holds of the receiving end's side beside what was published; kept by what the serving end does, and by
 -- Opening, Connect and Ask. Assumes nothing.
 use Prim.Native.Nat.{ℕ}
 use mathlib.Core.Path.{_≡_, _∙_}
@@ -9,11 +9,9 @@ use Rattle.flow.specs.declared.receiver.Requested.{Requested}
 use Rattle.flow.specs.Ends.{Wrote, dayOf, Left}
 use Rattle.flow.specs.Answers.{Message}
 use Rattle.flow.specs.Receiving.{openEndOf, connectOf, requestLoginOf}
-use Rattle.flow.specs.World.{Dated, latestOf, Transmission, ReceiverSide, afterReopen, afterConnect, afterRequest}
+use Rattle.flow.specs.World.{Dated, latestOf, ReceiverSide, afterReopen, afterConnect, afterRequest}
 use Rattle.flow.proofs.ends.ReceiverLookups.{Eight}
 use Rattle.flow.proofs.ends.ReceiverOpened.{connect-eight}
-use Rattle.flow.proofs.common.Transmissions.{Onward}
-use Rattle.flow.proofs.pieces.Runs.{Behind, behind-onward}
 use Rattle.flow.proofs.right.End.{EndRight, grown-right, open-right, connect-right}
 use Rattle.flow.proofs.packets.Requests.{request-end}
 use Rattle.flow.proofs.steps.Moves.{connect-same, opened-same}
@@ -23,18 +21,17 @@ use mathlib.Core.Bool.{false}
 use Rattle.flow.specs.declared.sender.Opened.{Opened}
 use Rattle.flow.specs.Agreement.{EachDated}
 
-pub record Safe (P : List (Dated Message)) (ts : List Transmission) (v : ReceiverSide) : Type 0 where
+pub record Safe (P : List (Dated Message)) (v : ReceiverSide) : Type 0 where
   pub eight : Eight (v .end)
   -- The kept day is that of the last Answer that was taken.
   pub days : (s : ℕ) → dayOf (v .end) s ≡ latestOf s None (v .days)
   pub right : EndRight P (v .handed) (v .reports) (v .end) (v .buffer)
   pub dated : EachDated (v .handed) × EachDated (v .reports)
-  pub chained : Behind ts (v .end) (v .buffer) (v .previous)
 
-module _ (P : List (Dated Message)) (ts : List Transmission) (v : ReceiverSide) (h : Safe P ts v) where
-  -- ─── The serving end's events: more is published, the transmissions go on ───
+module _ (P : List (Dated Message)) (v : ReceiverSide) (h : Safe P v) where
+  -- ─── More is published ───
 
-  pub safe-published : (Q : List (Dated Message)) → Safe (P ++ Q) ts v
+  pub safe-published : (Q : List (Dated Message)) → Safe (P ++ Q) v
   safe-published Q =
       record {
         eight = h .eight;
@@ -42,22 +39,11 @@ module _ (P : List (Dated Message)) (ts : List Transmission) (v : ReceiverSide) 
         right = grown-right P (v .handed) (v .reports) (v .end) (v .buffer)
             (h .right) Q;
         dated = h .dated;
-        chained = h .chained;
-      }
-
-  pub safe-onward : (us : List Transmission) → Onward ts us → Safe P us v
-  safe-onward us o =
-      record {
-        eight = h .eight;
-        days = h .days;
-        right = h .right;
-        dated = h .dated;
-        chained = behind-onward ts us o (v .end) (v .buffer) (v .previous) (h .chained);
       }
 
   -- ─── Opening, Connect and Ask ───
 
-  pub safe-reopen : (ss : List ℕ) → Safe P ts (afterReopen v (openEndOf (v .end) ss))
+  pub safe-reopen : (ss : List ℕ) → Safe P (afterReopen v (openEndOf (v .end) ss))
   safe-reopen ss =
       record {
         eight =
@@ -66,7 +52,6 @@ module _ (P : List (Dated Message)) (ts : List Transmission) (v : ReceiverSide) 
         days = λ s. still s (openEndOf (v .end) ss) (open-as (v .end) ss);
         right = open-right P (v .handed) (v .reports) (v .end) (v .buffer) (h .right) ss;
         dated = h .dated;
-        chained = tt;
       }
     where
       still : (s : ℕ) (r : Left Receiver Opened) → Opened-as (v .end) ss r
@@ -74,25 +59,23 @@ module _ (P : List (Dated Message)) (ts : List Transmission) (v : ReceiverSide) 
       still s r Opened-as.refuses = h .days s
       still s r (opens z q) = opened-same (v .end) ss z s .0 ∙ h .days s
 
-  pub safe-connect : Safe P ts (afterConnect v (connectOf (v .end)))
+  pub safe-connect : Safe P (afterConnect v (connectOf (v .end)))
   safe-connect =
       record {
         eight = connect-eight (v .end) (h .eight);
         days = λ s. connect-same (v .end) s .0 ∙ h .days s;
         right = connect-right P (v .handed) (v .reports) (v .end) (v .buffer) (h .right);
         dated = h .dated;
-        chained = tt;
       }
 
-  pub safe-request : (s : ℕ) (content out : List ℕ) → Safe P ts (afterRequest v (requestLoginOf (v .end) s content out))
+  pub safe-request : (s : ℕ) (content out : List ℕ) → Safe P (afterRequest v (requestLoginOf (v .end) s content out))
   safe-request s content out = go (requestLoginOf (v .end) s content out) (request-end (v .end) s content out)
     where
-      go : (r : Wrote Receiver Requested) → r .end ≡ v .end → Safe P ts (afterRequest v r)
+      go : (r : Wrote Receiver Requested) → r .end ≡ v .end → Safe P (afterRequest v r)
       go r q =
           record {
             eight = rw q (h .eight);
             days = rw q (h .days);
             right = rw q (h .right);
             dated = h .dated;
-            chained = tt;
           }

@@ -8,7 +8,7 @@ use lib.ListN.{length, take, drop}
 use types.Run.{OneOf, miss}
 use denote.Enum.Declared.{tagOf}
 use Rattle.ftd.specs.Bytes.{part}
-use Rattle.ftd.specs.Packet.{notOnePacket, noMessagePacket, withDate, datedOf}
+use Rattle.ftd.specs.Packet.{notOnePacket, noMessagePacket, withTags, datedOf}
 use Rattle.ftd.specs.declared.refusal.Refusal.{Refusal}
 use Rattle.ftd.specs.declared.refusal.Refusal.the-variants.{NotOnePacket}
 use Rattle.ftd.specs.declared.tags.TradeDate.{TradeDate}
@@ -90,5 +90,5 @@ module _ (e : Sender) (s : ℕ) (p content out : List ℕ) where
 -- The content of a packet that was read lies in it.
 pub read-inside : (p : List ℕ) (d : Dated) → d ≡ datedOf p → (h : Header) (x c : Span) → d .packet ≡ Message h x c
     → c .start + c .len ≤ length p
-unfolding datedOf withDate
+unfolding datedOf withTags
 read-inside p d m h x c y = content-inside p h x c (sym (ap (λ (z : Dated). z .packet) m) ∙ y)

@@ -10,6 +10,7 @@ use borrow.Author.Tests.{ltb-true, ltb-false, eqb-true, eqb-false, eq-eqb, ne-eq
 use lib.Dec.{ltb, eqb}
 use Rattle.ftd.specs.Packet.{datedOf}
 use Rattle.ftd.specs.declared.tags.TradeDate.{TradeDate}
+use Rattle.ftd.specs.declared.tags.PacketPlace.{PacketPlace}
 use Rattle.ftd.specs.declared.tags.TradeDate.the-variants.{None, At}
 use Rattle.ftd.specs.declared.packet.Span.{Span}
 use Rattle.ftd.specs.declared.packet.Header.{Header}
@@ -146,26 +147,26 @@ module _ (s : ℕ) (e : Receiver) where
           (next refl (ap some (n .number)) (borne-kept date (keptOf e t .date) (n .day)) refl (n .number))
       go false y = let m = moves .other s (λ q. eqb-false t s y (sym q)) in nothing refl refl (m .0) (m .1)
 
-  taken-does : (h : Header) (date : TradeDate) (at : Span) (content buffer : List ℕ) (r : Wrote Receiver Received)
-      → Took e h date at content buffer r
+  taken-does : (h : Header) (date : TradeDate) (place : PacketPlace) (at : Span) (content buffer : List ℕ) (r : Wrote Receiver Received)
+      → Took e h date place at content buffer r
       → Does (dayOf e s) (lastOf e s) false
       (cond (handsOver (r .answer)) (cond (eqb (h .series) s) (some (h .number)) none) none) (borne date (dayOf e s))
       (dayOf (r .end) s) (lastOf (r .end) s)
-  taken-does h date at content buffer r (unknown q) = nothing refl refl refl refl
-  taken-does h date at content buffer r (not-in q) = nothing refl refl refl refl
-  taken-does h date at content buffer r (Took.refuses x q n) = left-does (h .series) (n .open-series) _
-  taken-does h date at content buffer r (repeats n q l) = left-does (h .series) (n .open-series) _
-  taken-does h date at content buffer r (hands-single n q) = handed-does h date n
-  taken-does h date at content buffer r (holds-first n q m) = left-does (h .series) (n .reached .open-series) _
-  taken-does h date at content buffer r (holds-middle n q g m) = left-does (h .series) (n .reached .open-series) _
-  taken-does h date at content buffer r (hands-last n q g m) = handed-does h date n
+  taken-does h date place at content buffer r (unknown q) = nothing refl refl refl refl
+  taken-does h date place at content buffer r (not-in q) = nothing refl refl refl refl
+  taken-does h date place at content buffer r (Took.refuses x q n) = left-does (h .series) (n .open-series) _
+  taken-does h date place at content buffer r (repeats n q l) = left-does (h .series) (n .open-series) _
+  taken-does h date place at content buffer r (hands-single n q y) = handed-does h date n
+  taken-does h date place at content buffer r (holds-first n q y m) = left-does (h .series) (n .reached .open-series) _
+  taken-does h date place at content buffer r (holds-middle n q g m) = left-does (h .series) (n .reached .open-series) _
+  taken-does h date place at content buffer r (hands-last n q g m) = handed-does h date n
 
   received-does : (p buffer : List ℕ) (r : Wrote Receiver Received) → Received-as e p buffer r
       → Does (dayOf e s) (lastOf e s) false (cond (handsOver (r .answer)) (numberFor s (datedOf p .packet)) none)
       (borne (datedOf p .date) (dayOf e s)) (dayOf (r .end) s) (lastOf (r .end) s)
   received-does p buffer r (unread x q) = nothing refl refl refl refl
   received-does p buffer r idles = nothing refl refl refl refl
-  received-does p buffer r (reads h extension c q t) = rw q (taken-does h (datedOf p .date) c _ buffer r t)
+  received-does p buffer r (reads h extension c q t) = rw q (taken-does h (datedOf p .date) (datedOf p .place) c _ buffer r t)
 
 pub call-does : (s : ℕ) (v : Lent) (c : Call)
     → Does (dayOf (v .end) s) (lastOf (v .end) s) (anewOf s v c) (tookOf s v c) (dayFor s v c)
@@ -185,18 +186,18 @@ number-is : (x : Bool) (k n : ℕ) → cond x (some k) none ≡ some n → k ∷
 number-is true k n q = let z : k ≡ n = cc in ap (λ (i : ℕ). i ∷ []) z
 number-is false k n q = absurd (Option·none-ne-some n q)
 
-taken-told : (s : ℕ) (e : Receiver) (p : List ℕ) (h : Header) (date : TradeDate) (at : Span) (content buffer : List ℕ)
-    (r : Wrote Receiver Received) (n : ℕ) → Took e h date at content buffer r
+taken-told : (s : ℕ) (e : Receiver) (p : List ℕ) (h : Header) (date : TradeDate) (place : PacketPlace) (at : Span) (content buffer : List ℕ)
+    (r : Wrote Receiver Received) (n : ℕ) → Took e h date place at content buffer r
     → cond (handsOver (r .answer)) (cond (eqb (h .series) s) (some (h .number)) none) none ≡ some n
     → reportIn (receivedSaid p (r .bytes) (r .answer)) ≡ n ∷ []
-taken-told s e p h date at content buffer r n (unknown q) x = absurd (Option·none-ne-some n x)
-taken-told s e p h date at content buffer r n (not-in q) x = absurd (Option·none-ne-some n x)
-taken-told s e p h date at content buffer r n (Took.refuses y q m) x = absurd (Option·none-ne-some n x)
-taken-told s e p h date at content buffer r n (repeats m q l) x = absurd (Option·none-ne-some n x)
-taken-told s e p h date at content buffer r n (hands-single m q) x = number-is (eqb (h .series) s) (h .number) n x
-taken-told s e p h date at content buffer r n (holds-first m q y) x = absurd (Option·none-ne-some n x)
-taken-told s e p h date at content buffer r n (holds-middle m q g y) x = absurd (Option·none-ne-some n x)
-taken-told s e p h date at content buffer r n (hands-last m q g y) x = number-is (eqb (h .series) s) (h .number) n x
+taken-told s e p h date place at content buffer r n (unknown q) x = absurd (Option·none-ne-some n x)
+taken-told s e p h date place at content buffer r n (not-in q) x = absurd (Option·none-ne-some n x)
+taken-told s e p h date place at content buffer r n (Took.refuses y q m) x = absurd (Option·none-ne-some n x)
+taken-told s e p h date place at content buffer r n (repeats m q l) x = absurd (Option·none-ne-some n x)
+taken-told s e p h date place at content buffer r n (hands-single m q w) x = number-is (eqb (h .series) s) (h .number) n x
+taken-told s e p h date place at content buffer r n (holds-first m q w y) x = absurd (Option·none-ne-some n x)
+taken-told s e p h date place at content buffer r n (holds-middle m q g y) x = absurd (Option·none-ne-some n x)
+taken-told s e p h date place at content buffer r n (hands-last m q g y) x = number-is (eqb (h .series) s) (h .number) n x
 
 received-told : (s : ℕ) (e : Receiver) (p buffer : List ℕ) (r : Wrote Receiver Received) (n : ℕ)
     → Received-as e p buffer r → cond (handsOver (r .answer)) (numberFor s (datedOf p .packet)) none ≡ some n
@@ -204,7 +205,7 @@ received-told : (s : ℕ) (e : Receiver) (p buffer : List ℕ) (r : Wrote Receiv
 received-told s e p buffer r n (unread y q) x = absurd (Option·none-ne-some n x)
 received-told s e p buffer r n idles x = absurd (Option·none-ne-some n x)
 received-told s e p buffer r n (reads h extension c q t) x =
-    taken-told s e p h (datedOf p .date) c _ buffer r n t (rw q at x)
+    taken-told s e p h (datedOf p .date) (datedOf p .place) c _ buffer r n t (rw q at x)
 
 pub told : (s : ℕ) (v : Lent) (p : List ℕ) (n : ℕ) → tookOf s v (receive p) ≡ some n →
     let r = receiveOf (v .end) p (v .buffer) in

@@ -21,7 +21,7 @@ use Rattle.flow.specs.Ends.{mostMessages}
 
 -- A message of series s with TID t and number k, of day d.
 abbrev pub headed : ℕ → ℕ → ℕ → ℕ → Headed
-headed s t k d = record { date = At d; tid = t; series = s; number = k }
+headed s t k d = record { date = At d; tid = t; series = s; number = k; counted = true }
 
 -- Packets of series s are those of the published message at a place, from 0, of some day; its number is one more.
 pub record Genuine (P : List (Dated Message)) (s : ℕ) (ps : List (List ℕ)) : Type 0 where

@@ -7,6 +7,7 @@ use mathlib.Core.Bool.{true}
 use Rattle.ftd.specs.Fields.{mostContent}
 use Rattle.ftd.specs.Bytes.{part}
 use Rattle.ftd.specs.declared.tags.TradeDate.{TradeDate}
+use Rattle.ftd.specs.declared.tags.PacketPlace.{PacketPlace}
 use Rattle.ftd.specs.declared.packet.Span.{Span}
 use Rattle.ftd.specs.declared.packet.Header.{Header}
 use Rattle.flow.specs.declared.receiver.LiveSeries.{LiveSeries}
@@ -41,8 +42,8 @@ module _ (e : Receiver) (eight : Eight e) (t : ℕ) (o : isOpen e t ≡ true) (d
             (f k l);
       }
 
-module _ (e : Receiver) (eight : Eight e) (h : Header) (date : TradeDate) (at : Span) (content buffer : List ℕ) where
-  pub took-elsewhere : (r : Wrote Receiver Received) → Took e h date at content buffer r → (u : ℕ) → (u ≡ h .series → ⊥)
+module _ (e : Receiver) (eight : Eight e) (h : Header) (date : TradeDate) (place : PacketPlace) (at : Span) (content buffer : List ℕ) where
+  pub took-elsewhere : (r : Wrote Receiver Received) → Took e h date place at content buffer r → (u : ℕ) → (u ≡ h .series → ⊥)
       → Elsewhere e buffer (r .end) (r .bytes) u
   took-elsewhere r (unknown q) u n = record { opens = refl; kept = refl; live = refl; stays = λ k l. refl }
   took-elsewhere r (not-in q) u n = record { opens = refl; kept = refl; live = refl; stays = λ k l. refl }
@@ -50,13 +51,13 @@ module _ (e : Receiver) (eight : Eight e) (h : Header) (date : TradeDate) (at : 
       with-elsewhere e eight (h .series) (x .open-series) _ _ loggedIn u n buffer buffer (λ k l. refl)
   took-elsewhere r (repeats x q l) u n =
       with-elsewhere e eight (h .series) (x .open-series) _ _ loggedIn u n buffer buffer (λ k l. refl)
-  took-elsewhere r (hands-single x q) u n =
+  took-elsewhere r (hands-single x q y) u n =
       with-elsewhere e eight (h .series) (x .reached .open-series) _ _ loggedIn u n buffer buffer (λ k l. refl)
-  took-elsewhere r (holds-first x q room) u n =
-      with-elsewhere e eight (h .series) (x .reached .open-series) _ _ (holding _ _) u n buffer _
+  took-elsewhere r (holds-first x q y room) u n =
+      with-elsewhere e eight (h .series) (x .reached .open-series) _ _ (holding _ _ _) u n buffer _
       λ k l. part-untouched e eight u (h .series) (x .reached .open-series) n buffer content _ k room l
   took-elsewhere r (holds-middle x q g room) u n =
-      with-elsewhere e eight (h .series) (x .reached .open-series) _ _ (holding _ _) u n buffer _
+      with-elsewhere e eight (h .series) (x .reached .open-series) _ _ (holding _ _ _) u n buffer _
       λ k l. part-untouched e eight u (h .series) (x .reached .open-series) n buffer content _ k room l
   took-elsewhere r (hands-last x q g room) u n =
       with-elsewhere e eight (h .series) (x .reached .open-series) _ _ loggedIn u n buffer _

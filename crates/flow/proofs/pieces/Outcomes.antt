@@ -11,6 +11,7 @@ use Rattle.ftd.specs.Chain.{piecesOf, chainAt}
 use Rattle.ftd.specs.Fields.{shaped}
 use Rattle.ftd.specs.Chain.Laws.{pieceAtPlace}
 use Rattle.ftd.specs.declared.tags.TradeDate.the-variants.{At}
+use Rattle.ftd.specs.declared.tags.PacketPlace.the-variants.{Nth}
 use Rattle.ftd.specs.declared.packet.Span.{Span}
 use Rattle.ftd.specs.declared.packet.Chain.the-variants.{Single, Last}
 use Rattle.ftd.specs.declared.packet.Header.{Header}
@@ -18,7 +19,7 @@ use Rattle.flow.specs.declared.receiver.LiveSeries.{LiveSeries}
 use Rattle.flow.specs.declared.receiver.Receiver.{Receiver}
 use Rattle.flow.specs.declared.receiver.Received.{Received}
 use Rattle.flow.specs.Ends.{Wrote, isOpen, keptOf, liveOf, loggedIn, holding, withSeries, partStart, dayOf}
-use Rattle.flow.specs.Ends.{lastOf}
+use Rattle.flow.specs.Ends.{lastOf, mostPieces}
 use Rattle.flow.specs.Answers.{Message, receivedSaid, messageIn, reportIn}
 use Rattle.flow.proofs.ends.ReceiverLookups.{Eight}
 use Rattle.flow.proofs.calls.Receive.{Next, Room, Goes-on, Took, unknown, not-in, refuses, repeats, hands-single}
@@ -42,7 +43,9 @@ module _ (e : Receiver) (eight : Eight e) (h : Header) (d : ℕ) (at : Span) (p 
     (letter : h .chain ≡ chainAt (eqb j 0) (eqb (j + 1) (length (piecesOf c))))
     (inside : j < length (piecesOf c))
     (piece : part p (at .start) (at .len) ≡ pieceAtPlace c j .bytes)
-    (before : 0 < j → Next e h (At d) → Holding e buffer (h .series) (h .tid) (h .number) d c j)
+    (low : j < mostPieces)
+    (before : 0 < j → Next e h (At d) → liveOf e (h .series) .pieces ≡ j
+    → Holding e buffer (h .series) (h .tid) (h .number) d c j)
   where
     abbrev s : ℕ
     s = h .series
@@ -82,7 +85,7 @@ module _ (e : Receiver) (eight : Eight e) (h : Header) (d : ℕ) (at : Span) (p 
         ap (λ (l : List ℕ). record { tid = h .tid; content = l })
         (piece ∙ sym (rw g at f) ∙ first-all c limit (suc j) good (omega arith))
 
-    pub content-last : Next e h (At d) → h .chain ≡ Last → Goes-on (liveOf e s) h
+    pub content-last : Next e h (At d) → h .chain ≡ Last → Goes-on (liveOf e s) h (Nth j)
         → Room e buffer (liveOf e s .held) (pieceAtPlace c j .bytes)
         → record {
           tid = h .tid;
@@ -92,10 +95,10 @@ module _ (e : Receiver) (eight : Eight e) (h : Header) (d : ℕ) (at : Span) (p 
         } ≡ x
     content-last n q g room =
         let z = at-last j (length (piecesOf c)) (sym letter ∙ q) in
-        let b = goes-on-put e eight h d at buffer c j letter inside before (z .0) n g room in
+        let b = goes-on-put e eight h d at buffer c j letter inside low before (z .0) n g room in
         ap (λ (l : List ℕ). record { tid = h .tid; content = l }) (b .1 ∙ first-all c limit (suc j) good (omega arith))
 
-    pub took-delivered : (r : Wrote Receiver Received) → Took e h (At d) at (pieceAtPlace c j .bytes) buffer r
+    pub took-delivered : (r : Wrote Receiver Received) → Took e h (At d) (Nth j) at (pieceAtPlace c j .bytes) buffer r
         → Delivered e s d (h .number) x (r .end) (messageIn (receivedSaid p (r .bytes) (r .answer)))
         (reportIn (receivedSaid p (r .bytes) (r .answer)))
     took-delivered r (unknown q) = keeps (moves-not e s)
@@ -104,11 +107,11 @@ module _ (e : Receiver) (eight : Eight e) (h : Header) (d : ℕ) (at : Span) (p 
     took-delivered r (repeats n q l) =
         reports (stays loggedIn (n .open-series)) (day-open (n .open-series) (day-same d (keptOf e s .date) q))
         (last-open (n .open-series))
-    took-delivered r (hands-single n q) = handed n _ (content-single q)
-    took-delivered r (holds-first n q room) =
+    took-delivered r (hands-single n q y) = handed n _ (content-single q)
+    took-delivered r (holds-first n q y room) =
         let o = n .reached .open-series in
-        reports (stays (holding _ _) o) (day-open o (on-day n)) (last-open o)
+        reports (stays (holding _ _ _) o) (day-open o (on-day n)) (last-open o)
     took-delivered r (holds-middle n q g room) =
         let o = n .reached .open-series in
-        reports (stays (holding _ _) o) (day-open o (on-day n)) (last-open o)
+        reports (stays (holding _ _ _) o) (day-open o (on-day n)) (last-open o)
     took-delivered r (hands-last n q g room) = handed n _ (content-last n q g room)

@@ -1,5 +1,5 @@
--- Pieces in runs: what a chain holds right behind packet j of a message, which is why the line's rule is needed.
--- Assumes nothing.
+-- Pieces in runs: right behind the packets of a message up to j, one after the other, a chain holds their pieces, and where
+-- the end is ready for the message there is one. Only the arrival of all that is sent needs it. Assumes nothing.
 use Prim.Native.Nat.{ℕ, zero, suc, _<_}
 use native.Mathlib.Omega.{arith}
 use mathlib.Core.Path.{_≡_, refl}
@@ -27,7 +27,7 @@ pub record Run (e : Receiver) (buffer : List ℕ) (s t k d : ℕ) (c : List ℕ)
   pub opens : n < length (piecesOf c) → Wants e buffer s k d → Chain-open e s
 
 -- By the receiving end's previous call: packet j of the transmission at place i of the line, at the end of a run; of
--- every message that the transmission is the start of. Nothing is known otherwise, and the line's rule forbids to go on.
+-- every message that the transmission is the start of. Nothing is known otherwise.
 abbrev pub Behind : List Transmission → Receiver → List ℕ → Previous → Type 0
 Behind ts e buffer (came i j) =
     (m : Transmission) × (getElem? ts i ≡ some m)
@@ -50,7 +50,7 @@ behind-onward ts us o e buffer (came i j) b =
     )
 behind-onward ts us o e buffer other b = tt
 
--- The line's rule: the packet before it is the receiving end's call before this one.
+-- A packet that continues a run comes right behind the one before it.
 was-before : (p : Previous) (i j : ℕ) → behind p i j ≡ true → p ≡ came i j
 was-before (came a b) i j q =
     let x = and-both (eqb a i) (eqb b j) q in
@@ -59,6 +59,6 @@ was-before (came a b) i j q =
     rw (u, v)
 was-before other i j q = clash _ q refl
 
-pub line-rule : (p : Previous) (i j : ℕ) → continues p i j ≡ true → (n : ℕ) → j ≡ suc n → p ≡ came i n
-line-rule p i zero l n q = absurd (omega arith)
-line-rule p i (suc j) l n q = let f : j ≡ n = omega arith in rw f at (was-before p i j l)
+pub run-before : (p : Previous) (i j : ℕ) → continues p i j ≡ true → (n : ℕ) → j ≡ suc n → p ≡ came i n
+run-before p i zero l n q = absurd (omega arith)
+run-before p i (suc j) l n q = let f : j ≡ n = omega arith in rw f at (was-before p i j l)

@@ -1,140 +1,117 @@
--- Receive, row by row, by the place of a series in the arrays: the next piece by its chain letter, and the tests before
--- it; over plain variables. Assumes nothing.
+-- Receive, row by row, over the one series that a packet names: the next piece by its chain letter, and the tests
+-- before it; over plain variables. Assumes nothing.
 use Prim.Native.Nat.{ℕ, _<_, _≤_}
-use mathlib.Core.Path.{_≡_, sym, ap, _∙_}
+use mathlib.Core.Path.{_≡_, refl, sym, ap, _∙_}
 use mathlib.Core.List.{List}
-use mathlib.Core.Bool.{Bool, true, false}
+use mathlib.Core.Bool.{Bool, true, false, not}
 use borrow.Author.Tests.{le-leb, lt-leb}
-use lib.ListN.{getD}
-use lib.Dec.{leb}
-use Rattle.ftd.specs.declared.refusal.Refusal.the-variants.{UnknownSeries, NotLoggedIn, OtherDay, OutOfLine}
-use Rattle.ftd.specs.declared.refusal.Refusal.the-variants.{BrokenChain}
+use Rattle.ftd.specs.declared.refusal.Refusal.the-variants.{NotLoggedIn, OtherDay, OutOfLine, BrokenChain}
 use Rattle.ftd.specs.declared.tags.TradeDate.{TradeDate}
+use Rattle.ftd.specs.declared.tags.PacketPlace.{PacketPlace}
 use Rattle.ftd.specs.declared.packet.Span.{Span}
 use Rattle.ftd.specs.declared.packet.Header.{Header}
+use Rattle.ftd.specs.declared.packet.Chain.{Chain}
 use Rattle.ftd.specs.declared.packet.Chain.the-variants.{Single, First, Middle, Last}
-use Rattle.flow.specs.declared.series.SeriesPlace.{SeriesPlace}
-use Rattle.flow.specs.declared.series.SeriesPlace.the-variants.{Unknown, At}
+use Rattle.flow.specs.declared.receive.OneStep.{OneStep}
 use Rattle.flow.specs.declared.receiver.KeptSeries.{KeptSeries}
 use Rattle.flow.specs.declared.receiver.LiveSeries.{LiveSeries}
-use Rattle.flow.specs.declared.receiver.Receiver.{Receiver}
-use Rattle.flow.specs.declared.receiver.ReceiveStep.{ReceiveStep}
 use Rattle.flow.specs.declared.receiver.Origin.the-variants.{Packet}
-use Rattle.flow.specs.declared.receiver.Received.{Received}
 use Rattle.flow.specs.declared.receiver.Received.the-variants.{Duplicate}
 use Rattle.flow.specs.declared.receiver.Received.the-variants.{Refused as NotTaken}
-use Rattle.flow.specs.Ends.{Wrote, wrote, differs, newKept, noLive, isOpen, keptOf, liveOf}
-use Rattle.flow.specs.Receiving.{outOfLine, brokenChain, holds, handsOn, nextPiece, receiveWith}
-use Rattle.flow.specs.Helpers.{FindsKept}
-use Rattle.flow.specs.ReceiveHelpers.{dropping, completing}
-use Rattle.flow.proofs.receiver.Lookups.{kept-at, live-at}
+use Rattle.flow.specs.Ends.{_when_else_, differs}
+use Rattle.flow.specs.Receiving.{outOfLine}
+use Rattle.flow.specs.ReceiveHelpers.{wrongPiece, leaves, oneStep, oneDropping, oneCompleting, oneHolds, onePiece}
+use Rattle.flow.specs.ReceiveHelpers.{oneTaken, OneWrote, takesOne}
 
--- What a step leaves with a buffer.
-abbrev pub leaving : ReceiveStep → List ℕ → Wrote Receiver Received
-leaving r after = wrote (r .end) (r .answer) after
+-- The row's test holds, or it does not and the row goes on.
+stops : {A : Type 0} (test : Bool) (w x y : A) → test ≡ true → w ≡ x → w ≡ (x when test else y)
+stops test w x y p q = rw p q
 
-module _ (e : Receiver) (h : Header) (at : Span) (content buffer : List ℕ) where
-  -- 13.
-  pub take-unknown : (date : TradeDate) (f : SeriesPlace) → FindsKept e (h .series) f → f ≡ Unknown
-      → wrote e (NotTaken UnknownSeries) buffer ≡ receiveWith e h date at content buffer
-  unfolding receiveWith
-  take-unknown date f g u =
-      let n : isOpen e (h .series) ≡ false = rw u at g in
-      rw n
+goes-on : {A : Type 0} (test : Bool) (w x y : A) → test ≡ false → w ≡ y → w ≡ (x when test else y)
+goes-on test w x y p q = rw p q
 
-  module _ (i : ℕ) (f : FindsKept e (h .series) (At i)) where
-    abbrev kept : KeptSeries
-    kept = getD (e .kept .series) i (newKept 0)
+module _ (kept : KeptSeries) (live : LiveSeries) (i count : ℕ) (h : Header) (place : PacketPlace) (at : Span)
+    (content buffer : List ℕ) where
+  -- ─── By the chain letter ───
 
-    abbrev live : LiveSeries
-    live = getD (e .live .series) i noLive
+  module _ (b : Bool) (q : b ≡ wrongPiece live h place (h .chain)) where
+    -- 17.
+    pub piece-wrong : b ≡ true → (r : OneStep) → r ≡ oneDropping kept (NotTaken BrokenChain)
+        → leaves r buffer ≡ onePiece kept live i count h place at content buffer (h .chain)
+    piece-wrong x r y = rw (← q, x, y)
 
-    kept-is : keptOf e (h .series) ≡ kept
-    kept-is = sym (kept-at e (h .series) i (f .1))
+    module _ (x : b ≡ false) where
+      taken : (c : Chain) → h .chain ≡ c → (w : OneWrote) → w ≡ oneTaken kept live i count h at content buffer c
+          → w ≡ onePiece kept live i count h place at content buffer (h .chain)
+      taken c p w y =
+          goes-on _ _ _ _ (sym q ∙ x)
+          (y ∙ ap (λ (k : Chain). oneTaken kept live i count h at content buffer k) (sym p))
 
-    live-is : liveOf e (h .series) ≡ live
-    live-is = sym (live-at e (h .series) i (f .1))
+      pub piece-single : h .chain ≡ Single → (r : OneStep) → r ≡ oneCompleting kept h Packet at
+          → leaves r buffer ≡ onePiece kept live i count h place at content buffer (h .chain)
+      piece-single c r y = taken Single c _ (ap (λ (s : OneStep). leaves s buffer) y)
 
-    -- ─── By the chain letter ───
+      pub piece-first : h .chain ≡ First → (r : OneStep) (after : List ℕ)
+          → leaves r after ≡ oneHolds kept i count h 0 0 false content buffer
+          → leaves r after ≡ onePiece kept live i count h place at content buffer (h .chain)
+      piece-first c r after y = taken First c _ y
 
-    pub piece-single : h .chain ≡ Single → (r : ReceiveStep) → r ≡ completing e h Packet at
-        → leaving r buffer ≡ nextPiece e h at content buffer (h .chain)
-    piece-single c r y = rw (c, y)
+      pub piece-middle : h .chain ≡ Middle → (r : OneStep) (after : List ℕ)
+          → leaves r after ≡ oneHolds kept i count h (live .held) (live .pieces) false content buffer
+          → leaves r after ≡ onePiece kept live i count h place at content buffer (h .chain)
+      piece-middle c r after y = taken Middle c _ y
 
-    pub piece-first : h .chain ≡ First → (r : ReceiveStep) (after : List ℕ)
-        → leaving r after ≡ holds e h 0 content buffer → leaving r after ≡ nextPiece e h at content buffer (h .chain)
-    piece-first c r after y = rw c y
+      pub piece-last : h .chain ≡ Last → (r : OneStep) (after : List ℕ)
+          → leaves r after ≡ oneHolds kept i count h (live .held) (live .pieces) true content buffer
+          → leaves r after ≡ onePiece kept live i count h place at content buffer (h .chain)
+      piece-last c r after y = taken Last c _ y
 
-    module _ (b : Bool) (q : b ≡ brokenChain live h) where
-      broken-is : brokenChain (liveOf e (h .series)) h ≡ b
-      broken-is = ap (λ (l : LiveSeries). brokenChain l h) live-is ∙ sym q
+  -- ─── The tests before ───
 
-      -- 17.
-      pub middle-broken : h .chain ≡ Middle → b ≡ true → (r : ReceiveStep)
-          → r ≡ dropping e (h .series) (NotTaken BrokenChain)
-          → leaving r buffer ≡ nextPiece e h at content buffer (h .chain)
-      middle-broken c x r y = rw (c, broken-is, x, y)
+  module _ (date : TradeDate) where
+    -- 14.
+    pub take-outside : live .login ≡ false
+        → leaves (oneStep kept live (NotTaken NotLoggedIn)) buffer
+        ≡ takesOne kept live i count h date place at content buffer
+    unfolding takesOne
+    take-outside n = stops _ _ _ _ (ap not n) refl
 
-      pub last-broken : h .chain ≡ Last → b ≡ true → (r : ReceiveStep)
-          → r ≡ dropping e (h .series) (NotTaken BrokenChain)
-          → leaving r buffer ≡ nextPiece e h at content buffer (h .chain)
-      last-broken c x r y = rw (c, broken-is, x, y)
+    module _ (login : live .login ≡ true) (d : Bool) (q : d ≡ differs date (kept .date)) where
+      -- 15.
+      pub take-day : d ≡ true → (r : OneStep) → r ≡ oneDropping kept (NotTaken OtherDay)
+          → leaves r buffer ≡ takesOne kept live i count h date place at content buffer
+      unfolding takesOne
+      take-day x r y =
+          goes-on _ _ _ _ (ap not login)
+          (stops _ _ _ _ (sym q ∙ x) (ap (λ (s : OneStep). leaves s buffer) y))
 
-      pub piece-middle : h .chain ≡ Middle → b ≡ false → (r : ReceiveStep) (after : List ℕ)
-          → leaving r after ≡ holds e h (live .held) content buffer
-          → leaving r after ≡ nextPiece e h at content buffer (h .chain)
-      piece-middle c x r after y = rw (c, broken-is, x, live-is) y
+      module _ (same : d ≡ false) (o : Bool) (k : o ≡ outOfLine (kept .last) (h .number)) where
+        -- 16.
+        pub take-line : o ≡ true → (r : OneStep) → r ≡ oneDropping kept (NotTaken OutOfLine)
+            → leaves r buffer ≡ takesOne kept live i count h date place at content buffer
+        unfolding takesOne
+        take-line x r y =
+            goes-on _ _ _ _ (ap not login)
+            (goes-on _ _ _ _ (sym q ∙ same)
+            (stops _ _ _ _ (sym k ∙ x) (ap (λ (s : OneStep). leaves s buffer) y)))
 
-      pub piece-last : h .chain ≡ Last → b ≡ false → (r : ReceiveStep) (after : List ℕ)
-          → leaving r after ≡ handsOn e h (live .held) content buffer
-          → leaving r after ≡ nextPiece e h at content buffer (h .chain)
-      piece-last c x r after y = rw (c, broken-is, x, live-is) y
+        module _ (inline : o ≡ false) where
+          pub take-again : h .number ≤ kept .last → (r : OneStep) → r ≡ oneDropping kept (Duplicate (kept .last))
+              → leaves r buffer ≡ takesOne kept live i count h date place at content buffer
+          unfolding takesOne
+          take-again x r y =
+              goes-on _ _ _ _ (ap not login)
+              (goes-on _ _ _ _ (sym q ∙ same)
+              (goes-on _ _ _ _ (sym k ∙ inline)
+              (stops _ _ _ _ (le-leb (h .number) (kept .last) x)
+              (ap (λ (s : OneStep). leaves s buffer) y))))
 
-    -- ─── The tests before ───
-
-    module _ (date : TradeDate) where
-      -- 14.
-      pub take-outside : live .login ≡ false
-          → wrote e (NotTaken NotLoggedIn) buffer ≡ receiveWith e h date at content buffer
-      unfolding receiveWith
-      take-outside n = rw (f .0, live-is, n)
-
-      module _ (login : live .login ≡ true) (d : Bool) (q : d ≡ differs date (kept .date)) where
-        entered : liveOf e (h .series) .login ≡ true
-        entered = ap (λ (l : LiveSeries). l .login) live-is ∙ login
-
-        day-is : differs date (keptOf e (h .series) .date) ≡ d
-        day-is = ap (λ (k : KeptSeries). differs date (k .date)) kept-is ∙ sym q
-
-        -- 15.
-        pub take-day : d ≡ true → (r : ReceiveStep) → r ≡ dropping e (h .series) (NotTaken OtherDay)
-            → leaving r buffer ≡ receiveWith e h date at content buffer
-        unfolding receiveWith
-        take-day x r y = rw (f .0, entered, day-is, x, y)
-
-        module _ (same : d ≡ false) (o : Bool) (k : o ≡ outOfLine (kept .last) (h .number)) where
-          line-is : outOfLine (keptOf e (h .series) .last) (h .number) ≡ o
-          line-is = ap (λ (k : KeptSeries). outOfLine (k .last) (h .number)) kept-is ∙ sym k
-
-          -- 16.
-          pub take-line : o ≡ true → (r : ReceiveStep) → r ≡ dropping e (h .series) (NotTaken OutOfLine)
-              → leaving r buffer ≡ receiveWith e h date at content buffer
-          unfolding receiveWith
-          take-line x r y = rw (f .0, entered, day-is, same, line-is, x, y)
-
-          module _ (inline : o ≡ false) where
-            pub take-again : h .number ≤ kept .last → (r : ReceiveStep)
-                → r ≡ dropping e (h .series) (Duplicate (kept .last))
-                → leaving r buffer ≡ receiveWith e h date at content buffer
-            unfolding receiveWith
-            take-again x r y =
-                let n : leb (h .number) (keptOf e (h .series) .last) ≡ true = rw kept-is (le-leb _ _ x) in
-                rw (f .0, entered, day-is, same, line-is, inline, n, y, kept-is)
-
-            pub take-next : kept .last < h .number → (r : ReceiveStep) (after : List ℕ)
-                → leaving r after ≡ nextPiece e h at content buffer (h .chain)
-                → leaving r after ≡ receiveWith e h date at content buffer
-            unfolding receiveWith
-            take-next x r after y =
-                let n : leb (h .number) (keptOf e (h .series) .last) ≡ false = rw kept-is (lt-leb _ _ x) in
-                rw (f .0, entered, day-is, same, line-is, inline, n) y
+          pub take-next : kept .last < h .number → (r : OneStep) (after : List ℕ)
+              → leaves r after ≡ onePiece kept live i count h place at content buffer (h .chain)
+              → leaves r after ≡ takesOne kept live i count h date place at content buffer
+          unfolding takesOne
+          take-next x r after y =
+              goes-on _ _ _ _ (ap not login)
+              (goes-on _ _ _ _ (sym q ∙ same)
+              (goes-on _ _ _ _ (sym k ∙ inline)
+              (goes-on _ _ _ _ (lt-leb (h .number) (kept .last) x) y)))

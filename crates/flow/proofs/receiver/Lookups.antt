@@ -1,10 +1,12 @@
 -- A series of the receiving end by its place in the arrays: looked up and changed. Assumes nothing.
-use Prim.Native.Nat.{ℕ, _<_, _≤_, _*_}
+use Prim.Native.Nat.{ℕ, _<_, _≤_, _*_, _^_}
 use mathlib.Core.Path.{_≡_, sym, ap, _∙_}
 use mathlib.Core.List.{List}
 use lib.ListN.{length, length-map, getD, take}
 use lib.Seq.{length-take-le, take-all}
-use mir.Val.{Val}
+use mir.Val.{Val, Fits}
+use mir.Syntax.{w64}
+use borrow.Author.Needs.{scaled-fits}
 use denote.Laws.{Is}
 use denote.Struct.Declared.{row}
 use Rattle.ftd.specs.declared.tags.TradeDate.{TradeDate}
@@ -37,6 +39,11 @@ found-at e s f i g u = rw u at g
 
 pub found-inside : (e : Receiver) (s : ℕ) (f : SeriesPlace) (i : ℕ) → FindsKept e s f → f ≡ At i → i < 8
 found-inside e s f i g u = found-at e s f i g u .2
+
+-- The place scaled by an element's size.
+pub found-scaled : (e : Receiver) (s : ℕ) (f : SeriesPlace) (i size : ℕ) → FindsKept e s f → f ≡ At i
+    → 8 * size < 2 ^ 63 → Fits w64 (i * size)
+found-scaled e s f i size g u q = scaled-fits i 8 size (found-inside e s f i g u) q
 
 -- The place i is the one that `find` answers for the series s.
 module _ (e : Receiver) (s i : ℕ) (at : i ≡ indexOf s (keptSeries e)) where

@@ -27,7 +27,7 @@ use Rattle.flow.proofs.pieces.Pieces.{firstPieces, first-inside, first-
 use Rattle.flow.proofs.pieces.Chained.{Chain-open, Held, Holding}
 use Rattle.flow.proofs.pieces.Others.{Elsewhere}
 
--- So many pieces of the message that is next, number last + 1 of the kept day.
+-- As many pieces as were counted of the message that is next, number last + 1 of the kept day.
 pub record NextHeld (P : List (Dated Message)) (e : Receiver) (buffer : List ℕ) (s : ℕ) : Type 0 where
   pub day : ℕ
   pub message : Message
@@ -88,36 +88,35 @@ chain-elsewhere P e buffer after bytes s x f o =
           record {
             tid = ap (λ (y : LiveSeries). y .tid) l ∙ h .tid;
             held = ap (λ (y : LiveSeries). y .held) l ∙ h .held;
+            pieces = ap (λ (y : LiveSeries). y .pieces) l ∙ h .pieces;
             bytes = x .stays (length (firstPieces (n .message .content) (n .pieces))) (omega arith) ∙ h .bytes;
             date = ap (λ (y : KeptSeries). y .date) k ∙ h .date;
             number = refl;
           };
     }
 
--- ─── Used: what a chain holds is known from how many bytes it holds ───
+-- ─── Used: what a chain holds is known from how many pieces it has counted ───
 
 same-at : (t : TradeDate) (a b : ℕ) → t ≡ At a → t ≡ At b → a ≡ b
 same-at t a b p q = cc
 
--- Where message x of day d is next, and a chain holds as many bytes as its first j pieces have, it holds these.
+-- Where message x of day d is next, and j pieces were counted, the chain holds the first j pieces of x.
 pub counted-holding : (P : List (Dated Message)) (e : Receiver) (buffer : List ℕ) (s : ℕ) → ChainRight P e buffer s
     → (d k : ℕ) (x : Message)
     → getElem? (of s d P) (keptOf e s .last) ≡ some x → keptOf e s .date ≡ At d → k ≡ keptOf e s .last + 1 → (j : ℕ)
-    → (Chain-open e s → liveOf e s .held ≡ length (firstPieces (x .content) j))
-    → Holding e buffer s (x .tid) k d (x .content) j
+    → liveOf e s .pieces ≡ j → Holding e buffer s (x .tid) k d (x .content) j
 counted-holding P e buffer s f d k x placed date number j count o =
     let n = f o in
     let h = n .held in
     let day : n .day ≡ d = same-at (keptOf e s .date) (n .day) d (h .date) date in
     let there : getElem? (of s d P) (keptOf e s .last) ≡ some (n .message) = rw day at (n .placed) in
     let same : n .message ≡ x = same-some (getElem? (of s d P) (keptOf e s .last)) (n .message) x there placed in
-    let tid : liveOf e s .tid ≡ x .tid = h .tid ∙ ap (λ (y : Message). y .tid) same in
-    let good : shaped (x .content) mostContent ≡ true = rw same at (n .good) in
-    let holds : liveOf e s .held ≡ length (firstPieces (x .content) (n .pieces)) =
-    h .held ∙ ap (λ (y : Message). length (firstPieces (y .content) (n .pieces))) same in
-    let c = count o in
-    let eq = first-same (x .content) mostContent j (n .pieces) good (sym c ∙ holds) in
-    let bytes : part buffer (partStart e s) (length (firstPieces (x .content) (n .pieces))) ≡ firstPieces (x .content)
-    (n .pieces) =
-    rw same at (h .bytes) in
-    record { tid = tid; held = c; bytes = rw eq bytes; date = date; number = number }
+    let many : n .pieces ≡ j = sym (h .pieces) ∙ count in
+    record {
+      tid = h .tid ∙ ap (λ (y : Message). y .tid) same;
+      held = rw (same, many) at (h .held);
+      pieces = count;
+      bytes = rw (same, many) at (h .bytes);
+      date = date;
+      number = number;
+    }

@@ -1,6 +1,6 @@
 -- A receiving end that is right for a source, of each series: what it handed on and reported, and what its chains hold.
--- Each of its calls keeps it so, in any state and of any bytes, if Receive is handed packets of published messages,
--- each behind the pieces before it. Assumes nothing.
+-- Each of its calls keeps it so, in any state and of any bytes, if Receive is handed packets of published messages, in any
+-- order and number. Assumes nothing.
 use Prim.Native.Nat.{ℕ, suc, _+_, _<_}
 use native.Mathlib.Omega.{arith}
 use mathlib.Core.Path.{_≡_, refl, ap}
@@ -138,16 +138,12 @@ module _ (P H : List (Dated Message)) (R : List (Dated ℕ)) (e : Receiver) (buf
     module _ (d place : ℕ) (x : Message) (j : ℕ) (p : List ℕ)
         (placed : getElem? (of s d P) place ≡ some x)
         (at : PacketAt s (x .tid) (suc place) d (x .content) j p)
-        -- A chain that it goes on with has as many bytes as the pieces before it.
-        (count : 0 < j → Chain-open e s → liveOf e s .held ≡ length (firstPieces (x .content) j))
-        (opened : 0 < j → Wants e buffer s (suc place) d → Chain-open e s)
       where
         before-it : Before e buffer s (x .tid) (suc place) d (x .content) j
         before-it = record {
           held =
-              λ l q n. let f : place ≡ keptOf e s .last = omega arith in
-              counted-holding P e buffer s (h .chains s) d (suc place) x (rw f at placed) q n j (count l);
-          opens = opened;
+              λ l q n k. let f : place ≡ keptOf e s .last = omega arith in
+              counted-holding P e buffer s (h .chains s) d (suc place) x (rw f at placed) q n j k;
         }
 
         pub receive-delivers :
@@ -167,7 +163,15 @@ module _ (P H : List (Dated Message)) (R : List (Dated ℕ)) (e : Receiver) (buf
               pieces = suc j;
               placed = rw f at placed;
               good = at .good;
-              held = record { tid = k .tid; held = k .held; bytes = k .bytes; date = k .date; number = refl };
+              held =
+                  record {
+                    tid = k .tid;
+                    held = k .held;
+                    pieces = k .pieces;
+                    bytes = k .bytes;
+                    date = k .date;
+                    number = refl;
+                  };
             }
 
         held : (u : ℕ) → ChainRight P (receiveOf e p buffer .end) (receiveOf e p buffer .bytes) u

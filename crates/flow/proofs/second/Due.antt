@@ -19,7 +19,7 @@ use Rattle.flow.specs.Receiving.{openEndOf, confirmLoginOf, receiveOf}
 use Rattle.flow.specs.World
 use Rattle.flow.specs.World.{InSeries, Delivery, answer, message, Standing, going, whole, broken, isWhole}
 use Rattle.flow.specs.World.{Transmission, Event, World, only, receives, afterConfirm, continues, afterReceive}
-use Rattle.flow.specs.World.{step, run, inRun, inRuns}
+use Rattle.flow.specs.World.{step, run}
 use Rattle.flow.specs.Agreement.{Subsequence, done, skip, keep, since}
 use Rattle.flow.proofs.common.Bools.{and-both, clash}
 use Rattle.flow.proofs.common.Lists.{since-is, since-along}
@@ -34,7 +34,7 @@ use Rattle.flow.proofs.logins.Starts.{Timely, timely-step}
 use Rattle.flow.proofs.second.Sending.{Numbered}
 use Rattle.flow.proofs.second.Ready.{Ready, turn-ready, receive-length}
 use Rattle.flow.proofs.packets.Genuine.{AllBegun}
-use Rattle.flow.proofs.first.Half.{SafeWorld, step-safe}
+use Rattle.flow.proofs.second.Followed.{Followed, Follows, step-followed}
 use Rattle.flow.proofs.second.Taking.{logs-in, next-ready}
 use Rattle.flow.proofs.common.Rows.{by-given}
 use Rattle.flow.proofs.ends.ReceiverLookups.{Eight}
@@ -135,11 +135,11 @@ module _ (s d n : ℕ) (content : List ℕ) (ans : Answering content) where
         go ys (underway k xs g N q u) =
             due-turn ys r r′ (h .receiving .eight) t (underway k xs g N q (not-answer (x .series) (x .what) xs ys u))
 
-    pass-receive : (i j : ℕ) (m : Transmission) (p : List ℕ) → SafeWorld w → AllBegun (w .serving)
+    pass-receive : (i j : ℕ) (m : Transmission) (p : List ℕ) → Followed w → AllBegun (w .serving)
         → allParts r ≤ length (w .receiving .buffer)
         → getElem? (w .serving .transmissions) i ≡ some m → getElem? (m .packets) j ≡ some p
         → Passes w (receives w (afterReceive (w .receiving) m i j p (receiveOf r p (w .receiving .buffer))))
-    pass-receive i j m p safe begun room e f =
+    pass-receive i j m p followed begun room e f =
         record { more = only ends (message (m .packets)); delivered-is = refl; keeps = λ ys. go ys ends refl }
       where
         -- It ends a run over a whole transmission.
@@ -170,7 +170,7 @@ module _ (s d n : ℕ) (content : List ℕ) (ans : Answering content) where
               (isWhole (m .stands) && eqb (suc j) (length (m .packets))) x in
               let n = and-both (isWhole (m .stands)) (eqb (suc j) (length (m .packets))) (l .1) in
               underway (suc k) xs
-              (next-ready w (h .receiving .eight) safe begun i j m e (is-whole (m .stands) (n .0)) (l .0) room p f
+              (next-ready w (h .receiving .eight) followed begun i j m e (is-whole (m .stands) (n .0)) (l .0) room p f
               (eqb-true (suc j) (length (m .packets)) (n .1)) s d k (rw z at (N .0)) g) (N .1) (omega arith) (b .1)
           | inr b ↦ due-turn ys r r′ (h .receiving .eight) t (underway k (y ∷ xs) g N q b)
         ]
@@ -180,27 +180,27 @@ module _ (s d n : ℕ) (content : List ℕ) (ans : Answering content) where
         go ys false q = due-turn ys r r′ (h .receiving .eight) t
 
     -- Each event but a connection.
-    pub passes : SafeWorld w → AllBegun (w .serving) → (e : Event) → inRun w e ≡ true
+    pub passes : Followed w → AllBegun (w .serving) → (e : Event)
         → allParts r ≤ length (w .receiving .buffer) → step w e .receiving .restarts ≡ w .receiving .restarts
         → Passes w (step w e)
-    passes safe begun (World.openSender date ss) l room q = still _ refl (turned stays)
-    passes safe begun (World.publish t tid c) l room q = still _ refl (turned stays)
-    passes safe begun (World.login t i c out) l room q =
+    passes followed begun (World.openSender date ss) room q = still _ refl (turned stays)
+    passes followed begun (World.publish t tid c) room q = still _ refl (turned stays)
+    passes followed begun (World.login t i c out) room q =
         by-given (Passes w) w (getElem? (w .receiving .requests) i) (still w refl (turned stays))
         (λ p e. still _ refl (turned stays))
-    passes safe begun (World.send t out) l room q = still _ refl (turned stays)
-    passes safe begun (World.sendPacket t out) l room q = still _ refl (turned stays)
-    passes safe begun (World.openReceiver ss) l room q = still _ refl (turned (open-turn (At d) false r ss))
-    passes safe begun World.connect l room q = absurd (omega arith)
-    passes safe begun (World.requestLogin t c out) l room q =
+    passes followed begun (World.send t out) room q = still _ refl (turned stays)
+    passes followed begun (World.sendPacket t out) room q = still _ refl (turned stays)
+    passes followed begun (World.openReceiver ss) room q = still _ refl (turned (open-turn (At d) false r ss))
+    passes followed begun World.connect room q = absurd (omega arith)
+    passes followed begun (World.requestLogin t c out) room q =
         still _ refl (turned (request-turn (At d) false r t c out))
-    passes safe begun (World.confirmLogin i) l room q =
+    passes followed begun (World.confirmLogin i) room q =
         by-given (Passes w) w (getElem? (w .serving .answers) i) (still w refl (turned stays))
         (λ x e. pass-confirm x i e)
-    passes safe begun (World.receive i j) l room q =
+    passes followed begun (World.receive i j) room q =
         by-given (Passes w) w (getElem? (w .serving .transmissions) i) (still w refl (turned stays))
         (λ m e. by-given (Passes w) w (getElem? (m .packets) j) (still w refl (turned stays))
-        (λ p f. pass-receive i j m p safe begun room e f))
+        (λ p f. pass-receive i j m p followed begun room e f))
 
   -- The series is open.
   due-open : (ys : List Delivery) (r : Receiver) → Due ys r → isOpen r s ≡ true
@@ -291,18 +291,17 @@ parts-run w h s o (e ∷ es) = parts-run (step w e) (timely-step w h e) s (open-
 -- ─── Over a list of events ───
 
 module _ (s d n : ℕ) (content : List ℕ) (ans : Answering content) where
-  pub due-run : (w : World) (es : List Event) → Timely w → SafeWorld w → inRuns w es ≡ true → w .serving .day ≡ At d
+  pub due-run : (w : World) (es : List Event) → Timely w → Follows w → w .serving .day ≡ At d
       → run w es .serving .openings ≡ w .serving .openings
       → run w es .receiving .restarts ≡ w .receiving .restarts
       → allParts (w .receiving .end) ≤ length (w .receiving .buffer)
       → Due s d n content ans (since (w .receiving .delivered) (run w es .receiving .delivered)) (w .receiving .end)
       → Ready (run w es .receiving .end) s d n
-  due-run w [] h safe l day c q room u =
+  due-run w [] h b day c q room u =
       due-none s d n content ans (w .receiving .end)
       (rw (since-is (w .receiving .delivered) (w .receiving .delivered) []
       (sym (append-nil (w .receiving .delivered)))) at u)
-  due-run w (e ∷ es) h safe l day c q room u =
-      let b = and-both (inRun w e) (inRuns (step w e) es) l in
+  due-run w (e ∷ es) h b day c q room u =
       let m = step-moves w e in
       let c1 = openings-grow (w .serving) (step w e .serving) m in
       let c2 = openings-run (step w e) es in
@@ -316,7 +315,7 @@ module _ (s d n : ℕ) (content : List ℕ) (ans : Answering content) where
       let qa : step w e .receiving .restarts ≡ w .receiving .restarts = omega arith in
       let qb : run (step w e) es .receiving .restarts ≡ step w e .receiving .restarts = omega arith in
       let begun = h .source .begun in
-      let t = passes s d n content ans w h day safe begun e (b .0) room qa in
+      let t = passes s d n content ans w h day (b .behind) begun e room qa in
       let o = due-open s d n content ans _ (w .receiving .end) u in
       let sz = g .size in
       let pt = parts-step w h s o e in
@@ -325,7 +324,7 @@ module _ (s d n : ℕ) (content : List ℕ) (ans : Answering content) where
       (g .delivered) (f .delivered) in
       let first = since-is (w .receiving .delivered) (step w e .receiving .delivered) (t .more) (t .delivered-is) in
       let u′ = rw (parted, first) at u in
-      due-run (step w e) es h′ (step-safe w e begun (b .0) safe) (b .1)
+      due-run (step w e) es h′ (step-followed w e (h .receiving .eight) b)
       (day-stays (w .serving) (step w e .serving) m ca ∙ day) cb qb (omega arith)
       (t .keeps (since (step w e .receiving .delivered) (run (step w e) es .receiving .delivered)) u′)
 

@@ -9,19 +9,17 @@ use mathlib.Core.Path.{_≡_, refl, ap, _∙_}
 use mathlib.Core.List.{List, [], _∷_, _++_}
 use mathlib.Core.Bool.{true}
 use lib.ListN.{length, length-take}
-use lib.Dec.{T}
 use Rattle.ftd.specs.Login.{loginBytes}
 use Rattle.ftd.specs.declared.tags.TradeDate.{TradeDate}
 use Rattle.ftd.specs.declared.tags.TradeDate.the-variants.{At}
-use Rattle.ftd.proofs.table.Rule.{is-true}
 use Rattle.flow.specs.Ends.{isOpen, keptOf}
-use Rattle.flow.specs.World.{Event, World, start, step, run, inRun, inRuns}
+use Rattle.flow.specs.World.{Event, World, start, step, run}
 use Rattle.flow.specs.Agreement.{publishedOn, handedOn, reported, since, CaughtUp}
-use Rattle.flow.proofs.common.Bools.{and-both}
 use Rattle.flow.proofs.logins.Taken.{answer-taken, startAt}
 use Rattle.flow.proofs.second.SentFrom.{sentIn}
 use Rattle.flow.proofs.second.SentSince.{login-sends, all-sent}
-use Rattle.flow.proofs.first.Half.{SafeWorld, start-safe, step-safe, run-safe, safe-agreed}
+use Rattle.flow.proofs.first.Half.{SafeWorld, start-safe, run-safe, safe-agreed}
+use Rattle.flow.proofs.second.Followed.{Follows, start-followed, step-followed}
 use Rattle.flow.proofs.packets.Answers.{tests-content}
 use Rattle.flow.proofs.logins.Starts.{Timely, timely-step, timely-run, timely-start, login-day, login-opens}
 use Rattle.flow.proofs.logins.Starts.{login-reached}
@@ -35,14 +33,6 @@ pub run-append : (w : World) (es fs : List Event) → run w (es ++ fs) ≡ run (
 run-append w [] fs = refl
 run-append w (e ∷ es) fs = run-append (step w e) es fs
 
-pub line-parts : (w : World) (es fs : List Event) → inRuns w (es ++ fs) ≡ true
-    → (inRuns w es ≡ true) × (inRuns (run w es) fs ≡ true)
-line-parts w [] fs l = (refl, l)
-line-parts w (e ∷ es) fs l =
-    let b = and-both (inRun w e) (inRuns (step w e) (es ++ fs)) l in
-    let c = line-parts (step w e) es fs (b .1) in
-    (rw (b .0, c .0), c .1)
-
 -- ─── All that was published is there ───
 
 -- The receiving end keeps the day, and last is at least the published count.
@@ -51,10 +41,9 @@ pub record AllThere (w : World) (s d : ℕ) : Type 0 where
   pub date : keptOf (w .receiving .end) s .date ≡ At d
   pub last : length (publishedOn w s d) ≤ keptOf (w .receiving .end) s .last
 
-pub caught-up : (u : World) (e : Event) (fs : List Event) (s d : ℕ) (a out : List ℕ) → Timely u → SafeWorld (step u e)
-    → inRuns (step u e) fs ≡ true
+pub caught-up : (u : World) (e : Event) (fs : List Event) (s d : ℕ) (a out : List ℕ) → Timely u → Follows (step u e)
     → CaughtUp u (step u e) (run (step u e) fs) s d a out → AllThere (run (step u e) fs) s d
-caught-up u e fs s d a out h safe l c =
+caught-up u e fs s d a out h b c =
     let v = step u e in
     let w = run v fs in
     let t = answer-taken u e s a (c .login) in
@@ -74,7 +63,7 @@ caught-up u e fs s d a out h safe l c =
     let due : Due s d n (t .content) answering (since (v .receiving .delivered) (w .receiving .delivered))
     (v .receiving .end) =
     waiting (startAt t) sent opens (login-reached u h e s d a t (c .day)) numbered refl (rw is at (c .delivered)) in
-    let ready = due-run s d n (t .content) answering v fs h′ safe l (c .day) (c .no-opening) (c .no-restart) room due in
+    let ready = due-run s d n (t .content) answering v fs h′ b (c .day) (c .no-opening) (c .no-restart) room due in
     let reached = ready .reached in
     record { opens = ready .opens; date = ready .date; last = omega arith }
 
@@ -92,24 +81,26 @@ settled w s d x safe =
     ap length (agreed .first) ∙ length-take (reported w s d) (publishedOn w s d) in
     omega arith
 
-pub safe-run : (log buffer : List ℕ) (es : List Event) → T (inRuns (start log buffer) es)
-    → SafeWorld (run (start log buffer) es)
-safe-run log buffer es l =
-    run-safe (start log buffer) (start-source log buffer) (start-safe log buffer) es (is-true _ l)
+pub safe-run : (log buffer : List ℕ) (es : List Event) → SafeWorld (run (start log buffer) es)
+safe-run log buffer es = run-safe (start log buffer) (start-source log buffer) (start-safe log buffer) es
+
+-- Runs are followed, after every list of events.
+followed-run : (w : World) → Timely w → Follows w → (es : List Event) → Follows (run w es)
+followed-run w h b [] = b
+followed-run w h b (e ∷ es) =
+    followed-run (step w e) (timely-step w h e) (step-followed w e (h .receiving .eight) b) es
 
 pub complete : (log buffer : List ℕ) (es fs : List Event) (e : Event) (s d : ℕ) (a out : List ℕ)
     → let u = run (start log buffer) es in
     let v = step u e in
     let w = run v fs in
-    T (inRuns (start log buffer) (es ++ (e ∷ fs))) → CaughtUp u v w s d a out
-    → reported w s d ≡ length (publishedOn w s d)
-complete log buffer es fs e s d a out l c =
+    CaughtUp u v w s d a out → reported w s d ≡ length (publishedOn w s d)
+complete log buffer es fs e s d a out c =
     let o = start log buffer in
     let u = run o es in
-    let parts = line-parts o es (e ∷ fs) (is-true _ l) in
-    let b = and-both (inRun u e) (inRuns (step u e) fs) (parts .1) in
-    let h = timely-run o (timely-start log buffer) es in
-    let safe = step-safe u e (h .source .begun) (b .0) (safe-run log buffer es (rw (parts .0) tt)) in
+    let t = timely-start log buffer in
+    let h = timely-run o t es in
+    let b = step-followed u e (h .receiving .eight) (followed-run o t (record { behind = start-followed log buffer }) es) in
     let q : run o (es ++ (e ∷ fs)) ≡ run (step u e) fs = run-append o es (e ∷ fs) in
-    settled (run (step u e) fs) s d (caught-up u e fs s d a out h safe (b .1) c)
-    (rw q at (safe-run log buffer (es ++ (e ∷ fs)) l))
+    settled (run (step u e) fs) s d (caught-up u e fs s d a out h b c)
+    (rw q at (safe-run log buffer (es ++ (e ∷ fs))))

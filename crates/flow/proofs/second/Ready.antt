@@ -11,6 +11,7 @@ use Rattle.ftd.specs.Bytes.{part, put}
 use Rattle.ftd.specs.Packet.{datedOf}
 use Rattle.ftd.proofs.bytes.Put.{length-put}
 use Rattle.ftd.specs.declared.tags.TradeDate.{TradeDate}
+use Rattle.ftd.specs.declared.tags.PacketPlace.{PacketPlace}
 use Rattle.ftd.specs.declared.tags.TradeDate.the-variants.{At}
 use Rattle.ftd.specs.declared.packet.Span.{Span}
 use Rattle.ftd.specs.declared.packet.Header.{Header}
@@ -94,17 +95,17 @@ module _ (e : Receiver) (shape : Eight e) (buffer : List ℕ) where
   put-length s o held content r =
       length-put buffer (partStart e s + held) content (omega (arith, part-inside e shape s o, r .parts, r .chain))
 
-  took-length : (h : Header) (date : TradeDate) (at : Span) (content : List ℕ) (r : Wrote Receiver Received)
-      → Took e h date at content buffer r → length (r .bytes) ≡ length buffer
-  took-length h date at content r (unknown q) = refl
-  took-length h date at content r (not-in q) = refl
-  took-length h date at content r (Took.refuses x q n) = refl
-  took-length h date at content r (repeats n q l) = refl
-  took-length h date at content r (hands-single n q) = refl
-  took-length h date at content r (holds-first n q m) = put-length (h .series) (n .reached .open-series) 0 content m
-  took-length h date at content r (holds-middle n q g m) =
+  took-length : (h : Header) (date : TradeDate) (place : PacketPlace) (at : Span) (content : List ℕ) (r : Wrote Receiver Received)
+      → Took e h date place at content buffer r → length (r .bytes) ≡ length buffer
+  took-length h date place at content r (unknown q) = refl
+  took-length h date place at content r (not-in q) = refl
+  took-length h date place at content r (Took.refuses x q n) = refl
+  took-length h date place at content r (repeats n q l) = refl
+  took-length h date place at content r (hands-single n q y) = refl
+  took-length h date place at content r (holds-first n q y m) = put-length (h .series) (n .reached .open-series) 0 content m
+  took-length h date place at content r (holds-middle n q g m) =
       put-length (h .series) (n .reached .open-series) (liveOf e (h .series) .held) content m
-  took-length h date at content r (hands-last n q g m) =
+  took-length h date place at content r (hands-last n q g m) =
       put-length (h .series) (n .reached .open-series) (liveOf e (h .series) .held) content m
 
   pub receive-length : (p : List ℕ) → length (receiveOf e p buffer .bytes) ≡ length buffer
@@ -113,4 +114,4 @@ module _ (e : Receiver) (shape : Eight e) (buffer : List ℕ) where
       go : (r : Wrote Receiver Received) → Received-as e p buffer r → length (r .bytes) ≡ length buffer
       go r (unread x q) = refl
       go r idles = refl
-      go r (reads x extension c q t) = took-length x (datedOf p .date) c (part p (c .start) (c .len)) r t
+      go r (reads x extension c q t) = took-length x (datedOf p .date) (datedOf p .place) c (part p (c .start) (c .len)) r t

@@ -16,7 +16,7 @@ use Rattle.flow.proofs.second.SentFrom.{SentAs}
 pub record Whole (s d k : ℕ) (ps : List (List ℕ)) : Type 0 where
   pub tid : ℕ
   pub content : List ℕ
-  pub is : ps ≡ packetsOf (record { date = At d; tid = tid; series = s; number = k }) content
+  pub is : ps ≡ packetsOf (record { date = At d; tid = tid; series = s; number = k; counted = true }) content
   pub shape : shaped content 32768 ≡ true
   pub few : k ≤ 1000000
 

@@ -22,6 +22,8 @@ use Rattle.ftd.specs.declared.packet.Header.{Header}
 use Rattle.ftd.specs.declared.packet.Dated.{Dated as Read}
 use Rattle.ftd.specs.declared.packet.Packet.the-variants.{Message as Accepted}
 use Rattle.ftd.specs.declared.tags.TradeDate.{TradeDate}
+use Rattle.ftd.specs.declared.tags.PacketPlace.{PacketPlace}
+use Rattle.ftd.specs.declared.tags.PacketPlace.the-variants.{Nth}
 use Rattle.ftd.specs.declared.tags.TradeDate.the-variants.{None, At}
 use Rattle.flow.specs.declared.receiver.KeptSeries.{KeptSeries}
 use Rattle.flow.specs.declared.receiver.LiveSeries.{LiveSeries}
@@ -45,8 +47,7 @@ use Rattle.flow.proofs.packets.Messages.{headerAt, spanAt, packet-dated
 use Rattle.flow.proofs.pieces.Completes.{Wants}
 use Rattle.flow.proofs.packets.Genuine.{headed, BegunIn, AllBegun}
 use Rattle.flow.proofs.common.Lists.{every-at}
-use Rattle.flow.proofs.first.Receive.{receive-completes}
-use Rattle.flow.proofs.first.Half.{SafeWorld}
+use Rattle.flow.proofs.second.Followed.{Followed, receive-completes}
 use Rattle.flow.proofs.common.Days.{Upto}
 
 -- ─── An answer logs in ───
@@ -99,21 +100,21 @@ same-head m n c b j p x y f g =
 
 -- ─── A message that is handed on is received ───
 
-took-handed : (e : Receiver) (h : Header) (date : TradeDate) (at : Span) (p content buffer : List ℕ) (x : Message)
+took-handed : (e : Receiver) (h : Header) (date : TradeDate) (place : PacketPlace) (at : Span) (p content buffer : List ℕ) (x : Message)
     (r : Wrote Receiver Received)
-    → Took e h date at content buffer r → messageIn (receivedSaid p (r .bytes) (r .answer)) ≡ x ∷ []
+    → Took e h date place at content buffer r → messageIn (receivedSaid p (r .bytes) (r .answer)) ≡ x ∷ []
     → r .end ≡ advance e (h .series) (h .number) loggedIn
-took-handed e h date at p content buffer x r (unknown q) n = let z : _≡_ {A = ℕ} 0 1 = cc in absurd (omega arith)
-took-handed e h date at p content buffer x r (not-in q) n = let z : _≡_ {A = ℕ} 0 1 = cc in absurd (omega arith)
-took-handed e h date at p content buffer x r (Took.refuses y q l) n =
+took-handed e h date place at p content buffer x r (unknown q) n = let z : _≡_ {A = ℕ} 0 1 = cc in absurd (omega arith)
+took-handed e h date place at p content buffer x r (not-in q) n = let z : _≡_ {A = ℕ} 0 1 = cc in absurd (omega arith)
+took-handed e h date place at p content buffer x r (Took.refuses y q l) n =
     let z : _≡_ {A = ℕ} 0 1 = cc in absurd (omega arith)
-took-handed e h date at p content buffer x r (repeats l q k) n = let z : _≡_ {A = ℕ} 0 1 = cc in absurd (omega arith)
-took-handed e h date at p content buffer x r (hands-single l q) n = refl
-took-handed e h date at p content buffer x r (holds-first l q m) n =
+took-handed e h date place at p content buffer x r (repeats l q k) n = let z : _≡_ {A = ℕ} 0 1 = cc in absurd (omega arith)
+took-handed e h date place at p content buffer x r (hands-single l q y) n = refl
+took-handed e h date place at p content buffer x r (holds-first l q y m) n =
     let z : _≡_ {A = ℕ} 0 1 = cc in absurd (omega arith)
-took-handed e h date at p content buffer x r (holds-middle l q g m) n =
+took-handed e h date place at p content buffer x r (holds-middle l q g m) n =
     let z : _≡_ {A = ℕ} 0 1 = cc in absurd (omega arith)
-took-handed e h date at p content buffer x r (hands-last l q g m) n = refl
+took-handed e h date place at p content buffer x r (hands-last l q g m) n = refl
 
 -- Packet j of the message of series s, number k and day d.
 packet-handed : (s d k : ℕ) (ps : List (List ℕ)) (g : Whole s d k ps) (j : ℕ) (p : List ℕ) → getElem? ps j ≡ some p
@@ -128,11 +129,11 @@ packet-handed s d k ps g j p at e buffer x =
     let q = place-getD (packetsOf m (g .content)) j p [] f in
     rw (← q)
     (rw (packet-received m (g .content) j i 32768 (g .shape) e buffer)
-    (took-handed e (headerAt m (g .content) j i) (At d) (spanAt m (g .content) j i) (packetAt m (g .content) j)
+    (took-handed e (headerAt m (g .content) j i) (At d) (Nth j) (spanAt m (g .content) j i) (packetAt m (g .content) j)
     (pieceAtPlace (g .content) j .bytes) buffer x
-    (receiveWith e (headerAt m (g .content) j i) (At d) (spanAt m (g .content) j i) (pieceAtPlace (g .content) j .bytes)
+    (receiveWith e (headerAt m (g .content) j i) (At d) (Nth j) (spanAt m (g .content) j i) (pieceAtPlace (g .content) j .bytes)
     buffer)
-    (receive-with e (headerAt m (g .content) j i) (At d) (spanAt m (g .content) j i)
+    (receive-with e (headerAt m (g .content) j i) (At d) (Nth j) (spanAt m (g .content) j i)
     (pieceAtPlace (g .content) j .bytes) buffer)))
 
 -- ─── A message delivered whole is received ───
@@ -164,7 +165,7 @@ wanted r buffer s d k few room h = go (eqb k (keptOf r s .last + 1)) refl
               (eqb-false k (keptOf r s .last + 1) q);
         })
 
-module _ (w : World) (eight : Eight (w .receiving .end)) (safe : SafeWorld w) (begun : AllBegun (w .serving))
+module _ (w : World) (eight : Eight (w .receiving .end)) (followed : Followed w) (begun : AllBegun (w .serving))
     (i j : ℕ) (m : Transmission)
     (here : getElem? (w .serving .transmissions) i ≡ some m)
     (all : m .stands ≡ whole)
@@ -194,8 +195,8 @@ module _ (w : World) (eight : Eight (w .receiving .end)) (safe : SafeWorld w) (b
             let day : d ≡ o .day = at-same d (o .day) (same .2) in
             let y = rw (same .0, same .1, day) at x in
             let done =
-            receive-completes (w .serving .published) (w .serving .transmissions) (w .receiving) safe i j m p here o at line
-            all (omega arith) y in
+            receive-completes (w .serving .transmissions) e (w .receiving .buffer) eight (w .receiving .previous) followed
+            i j m p here at line (w .serving .published) o all (omega arith) y in
             let q = packet-handed s d k (m .packets) g j p at e (w .receiving .buffer) (o .what) done in
             let f = kept-same e shape s (x .open-series) (keptOf e s .date) k loggedIn in
             rw q (record {

@@ -9,7 +9,7 @@ use lib.ListN.{length, getElem?, length-append}
 use lib.Seq.{drop-append-seam}
 use Rattle.flow.specs.Answers.{Message}
 use Rattle.flow.specs.World.{Dated, Event, openSender, publish, login, send, sendPacket, openReceiver, connect, requestLogin}
-use Rattle.flow.specs.World.{confirmLogin, receive, World, step, run, inRun, inRuns}
+use Rattle.flow.specs.World.{confirmLogin, receive, World, step, run}
 use Rattle.flow.specs.Agreement.{of, latest, reported, since}
 use Rattle.flow.specs.Bufferful.{unheard, heard}
 use Rattle.flow.proofs.common.Bools.{and-both, clash}
@@ -106,12 +106,11 @@ module _ (s d : ℕ) where
   -- ─── Every list of events ───
 
   pub heard-run : (w : World) → Source (w .serving) → SafeWorld w → (H : List (Dated ℕ))
-      → latest 0 (of s d H) ≡ reported w s d → (es : List Event) → inRuns w es ≡ true
+      → latest 0 (of s d H) ≡ reported w s d → (es : List Event)
       → latest 0 (of s d (H ++ heard w es)) ≡ reported (run w es) s d
-  heard-run w g h H q [] t = ap (λ (l : List (Dated ℕ)). latest 0 (of s d l)) (append-nil H) ∙ q
-  heard-run w g h H q (e ∷ es) t =
-      let x = and-both (inRun w e) (inRuns (step w e) es) t in
-      let safe = step-safe w e (g .begun) (x .0) h in
+  heard-run w g h H q [] = ap (λ (l : List (Dated ℕ)). latest 0 (of s d l)) (append-nil H) ∙ q
+  heard-run w g h H q (e ∷ es) =
+      let safe = step-safe w e (g .begun) h in
       let grows = step-grows w e in
       let new = cond (unheard w e) [] (since (w .receiving .reports) (step w e .receiving .reports)) in
       ap (λ (l : List (Dated ℕ)). latest 0 (of s d l)) (sym (append-assoc H new (heard (step w e) es)))
@@ -119,4 +118,4 @@ module _ (s d : ℕ) where
       (heard-step w (step w e) H (unheard w e) grows
       (λ b. stays w (step w e) h safe
       (no-more (w .receiving .handed) (step w e .receiving .handed) (grows .0) (unheard-same w e b))) q)
-      es (x .1)
+      es

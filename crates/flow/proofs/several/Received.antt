@@ -10,6 +10,7 @@ use Rattle.ftd.specs.Packet.{span, datedOf}
 use Rattle.ftd.specs.Chain.Laws.{packetForm}
 use Rattle.ftd.specs.declared.refusal.Refusal.{Refusal}
 use Rattle.ftd.specs.declared.tags.TradeDate.{TradeDate}
+use Rattle.ftd.specs.declared.tags.PacketPlace.{PacketPlace}
 use Rattle.ftd.specs.declared.packet.Header.{Header}
 use Rattle.ftd.specs.declared.packet.Span.{Span}
 use Rattle.flow.specs.declared.receiver.Receiver.{Receiver}
@@ -36,17 +37,17 @@ use Rattle.flow.proofs.several.Walks.{input-length, turn-stop, turn-on}
 
 -- ─── The content that Receive tells lies in the packet ───
 
-took-inside : (e : Receiver) (h : Header) (date : TradeDate) (c : Span) (content buffer : List ℕ) (n : ℕ)
-    → c .start + c .len ≤ n → (w : Wrote Receiver Received) → calls.Took e h date c content buffer w
+took-inside : (e : Receiver) (h : Header) (date : TradeDate) (place : PacketPlace) (c : Span) (content buffer : List ℕ) (n : ℕ)
+    → c .start + c .len ≤ n → (w : Wrote Receiver Received) → calls.Took e h date place c content buffer w
     → AnswerIn n (w .answer)
-took-inside e h date c content buffer n k _ (calls.unknown a) = tt
-took-inside e h date c content buffer n k _ (calls.not-in a) = tt
-took-inside e h date c content buffer n k _ (calls.refuses r a b) = tt
-took-inside e h date c content buffer n k _ (calls.repeats a b d) = tt
-took-inside e h date c content buffer n k _ (calls.hands-single a b) = k
-took-inside e h date c content buffer n k _ (calls.holds-first a b d) = tt
-took-inside e h date c content buffer n k _ (calls.holds-middle a b d f) = tt
-took-inside e h date c content buffer n k _ (calls.hands-last a b d f) = tt
+took-inside e h date place c content buffer n k _ (calls.unknown a) = tt
+took-inside e h date place c content buffer n k _ (calls.not-in a) = tt
+took-inside e h date place c content buffer n k _ (calls.refuses r a b) = tt
+took-inside e h date place c content buffer n k _ (calls.repeats a b d) = tt
+took-inside e h date place c content buffer n k _ (calls.hands-single a b d) = k
+took-inside e h date place c content buffer n k _ (calls.holds-first a b d f) = tt
+took-inside e h date place c content buffer n k _ (calls.holds-middle a b d f) = tt
+took-inside e h date place c content buffer n k _ (calls.hands-last a b d f) = tt
 
 pub received-inside : (e : Receiver) (p buffer : List ℕ) → AnswerIn (length p) (receiveOf e p buffer .answer)
 received-inside e p buffer = go (receiveOf e p buffer) (calls.receive-as e p buffer)
@@ -55,7 +56,7 @@ received-inside e p buffer = go (receiveOf e p buffer) (calls.receive-as e p buf
     go _ (calls.unread r a) = tt
     go _ calls.idles = tt
     go w (calls.reads h extension c q t) =
-        took-inside e h (datedOf p .date) c (part p (c .start) (c .len)) buffer (length p)
+        took-inside e h (datedOf p .date) (datedOf p .place) c (part p (c .start) (c .len)) buffer (length p)
         (read-inside p (datedOf p) refl h extension c q) w t
 
 -- ─── The turn ───

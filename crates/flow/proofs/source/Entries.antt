@@ -89,17 +89,17 @@ module _ (e : Sender) (log : List ℕ) (day : TradeDate) (history : List (Dated 
 
 pub packets-sent : (e : Sender) (s tid number : ℕ) (content : List ℕ) →
     sendPackets e s (entryBytes s tid number content)
-    ≡ packetsOf (record { date = e .day .date; tid = tid; series = s; number = placeOf e s .next }) content
+    ≡ packetsOf (record { date = e .day .date; tid = tid; series = s; number = placeOf e s .next; counted = true }) content
 packets-sent e s tid number content = rw (tid-back s tid number content, content-back s tid number content)
 
 pub cut-sent : (e : Sender) (s tid number : ℕ) (content : List ℕ) →
     packetsIn (sendBytes e s (entryBytes s tid number content))
-    ≡ packetsOf (record { date = e .day .date; tid = tid; series = s; number = placeOf e s .next }) content
+    ≡ packetsOf (record { date = e .day .date; tid = tid; series = s; number = placeOf e s .next; counted = true }) content
 unfolding sendBytes
 cut-sent e s tid number content =
     rw (tid-back s tid number content, content-back s tid number content)
     (ap (λ (r : Run). r .entries)
-    (chain-laws .cut-back (record { date = e .day .date; tid = tid; series = s; number = placeOf e s .next }) content))
+    (chain-laws .cut-back (record { date = e .day .date; tid = tid; series = s; number = placeOf e s .next; counted = true }) content))
 
 -- The bytes of any entry cut into its packets.
 pub cut-packets : (e : Sender) (s : ℕ) (x : List ℕ) → packetsIn (sendBytes e s x) ≡ sendPackets e s x
@@ -107,4 +107,4 @@ unfolding sendBytes
 cut-packets e s x =
     ap (λ (r : Run). r .entries)
     (chain-laws .cut-back
-    (record { date = e .day .date; tid = entryTid x; series = s; number = placeOf e s .next }) (entryContent x))
+    (record { date = e .day .date; tid = entryTid x; series = s; number = placeOf e s .next; counted = true }) (entryContent x))

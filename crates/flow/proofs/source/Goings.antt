@@ -60,9 +60,9 @@ module _ (v : SenderSide) (h : ServedSide v) (s : ℕ) (x : List ℕ) (r : Seate
         ap (λ (l : List ℕ). sendPackets (v .end) s l)
         (same-some (entryOf (v .end) (v .log) s k) x (entryBytes s (y .tid) k (y .content)) c (n .entry))
         ∙ packets-sent (v .end) s (y .tid) k (y .content)
-        ∙ ap (λ (t : TradeDate). packetsOf (record { date = t; tid = y .tid; series = s; number = k }) (y .content))
+        ∙ ap (λ (t : TradeDate). packetsOf (record { date = t; tid = y .tid; series = s; number = k; counted = true }) (y .content))
         (h .same-day ∙ n .same-day)
-        ∙ ap (λ (j : ℕ). packetsOf (record { date = At (n .date); tid = y .tid; series = s; number = j })
+        ∙ ap (λ (j : ℕ). packetsOf (record { date = At (n .date); tid = y .tid; series = s; number = j; counted = true })
         (y .content)) (n .number)
 
 -- ─── The invariant ───

@@ -57,9 +57,10 @@ sent-genuine v h s x r q c =
       packets =
           ap (λ (l : List ℕ). packetsIn (sendBytes (v .end) s l)) same
           ∙ cut-sent (v .end) s (y .tid) k (y .content)
-          ∙ ap (λ (t : TradeDate). packetsOf (record { date = t; tid = y .tid; series = s; number = k }) (y .content))
+          ∙ ap (λ (t : TradeDate). packetsOf (record { date = t; tid = y .tid; series = s; number = k; counted = true })
+          (y .content))
           (h .same-day ∙ n .same-day)
-          ∙ ap (λ (j : ℕ). packetsOf (record { date = At (n .date); tid = y .tid; series = s; number = j })
+          ∙ ap (λ (j : ℕ). packetsOf (record { date = At (n .date); tid = y .tid; series = s; number = j; counted = true })
           (y .content)) (n .number);
       placed = n .published;
       good = n .shape;

@@ -9,6 +9,7 @@ use borrow.Author.Tests.{eqb-true, eqb-false}
 use lib.Dec.{eqb}
 use Rattle.ftd.specs.Packet.{datedOf}
 use Rattle.ftd.specs.declared.tags.TradeDate.{TradeDate}
+use Rattle.ftd.specs.declared.tags.PacketPlace.{PacketPlace}
 use Rattle.ftd.specs.declared.tags.TradeDate.the-variants.{At}
 use Rattle.ftd.specs.declared.packet.Span.{Span}
 use Rattle.ftd.specs.declared.packet.Header.{Header}
@@ -41,7 +42,7 @@ use Rattle.flow.proofs.steps.Moves.{Moves, Same, moves-with, opened-sam
 pub data Got (e : Receiver) (t : ℕ) : ℕ → LiveSeries → List Message → List ℕ → Type 0 where
   refused : Got e t (keptOf e t .last) loggedIn [] []
   again : Got e t (keptOf e t .last) loggedIn [] (keptOf e t .last ∷ [])
-  held : (tid n : ℕ) → Got e t (keptOf e t .last) (holding tid n) [] (keptOf e t .last ∷ [])
+  held : (tid n k : ℕ) → Got e t (keptOf e t .last) (holding tid n k) [] (keptOf e t .last ∷ [])
   handed : {k : ℕ} (x : Message) → k ≡ keptOf e t .last + 1 → Got e t k loggedIn (x ∷ []) (k ∷ [])
 
 -- A call: the end behind it, what it handed on and what it reported. Nothing to trade date and last (login and chain
@@ -61,14 +62,14 @@ pub got-grows : (e : Receiver) (t last : ℕ) (live : LiveSeries) (ms : List Mes
     → Got e t last live ms ks → keptOf e t .last ≤ last
 got-grows e t last live ms ks refused = omega arith
 got-grows e t last live ms ks again = omega arith
-got-grows e t last live ms ks (held tid n) = omega arith
+got-grows e t last live ms ks (held tid n k) = omega arith
 got-grows e t last live ms ks (handed x q) = omega arith
 
 pub got-in : (e : Receiver) (t last : ℕ) (live : LiveSeries) (ms : List Message) (ks : List ℕ) → Got e t last live ms ks
     → live .login ≡ true
 got-in e t last live ms ks refused = refl
 got-in e t last live ms ks again = refl
-got-in e t last live ms ks (held tid n) = refl
+got-in e t last live ms ks (held tid n k) = refl
 got-in e t last live ms ks (handed x q) = refl
 
 -- ─── Each call's ───
@@ -95,21 +96,21 @@ module _ (o : TradeDate) (c : Bool) (e : Receiver) where
       go date u r (Confirmed-as.refuses x) = stays
       go date u r (Confirmed-as.confirms d q n b) = rw q (confirms s d n b (rw q at u))
 
-  took-turn : (p : List ℕ) (x : Header) (date : TradeDate) (at : Span) (content buffer : List ℕ)
-      (r : Wrote Receiver Received) → Took e x date at content buffer r
+  took-turn : (p : List ℕ) (x : Header) (date : TradeDate) (place : PacketPlace) (at : Span) (content buffer : List ℕ)
+      (r : Wrote Receiver Received) → Took e x date place at content buffer r
       → Turn o c e (r .end) (messageIn (receivedSaid p (r .bytes) (r .answer)))
       (reportIn (receivedSaid p (r .bytes) (r .answer)))
-  took-turn p x date at content buffer r (unknown q) = stays
-  took-turn p x date at content buffer r (not-in q) = stays
-  took-turn p x date at content buffer r (Took.refuses f q n) = receives (x .series) (n .open-series) (n .login) refused
-  took-turn p x date at content buffer r (repeats n q l) = receives (x .series) (n .open-series) (n .login) again
-  took-turn p x date at content buffer r (hands-single n q) =
+  took-turn p x date place at content buffer r (unknown q) = stays
+  took-turn p x date place at content buffer r (not-in q) = stays
+  took-turn p x date place at content buffer r (Took.refuses f q n) = receives (x .series) (n .open-series) (n .login) refused
+  took-turn p x date place at content buffer r (repeats n q l) = receives (x .series) (n .open-series) (n .login) again
+  took-turn p x date place at content buffer r (hands-single n q y) =
       receives (x .series) (n .reached .open-series) (n .reached .login) (handed _ (n .number))
-  took-turn p x date at content buffer r (holds-first n q m) =
-      receives (x .series) (n .reached .open-series) (n .reached .login) (held _ _)
-  took-turn p x date at content buffer r (holds-middle n q g m) =
-      receives (x .series) (n .reached .open-series) (n .reached .login) (held _ _)
-  took-turn p x date at content buffer r (hands-last n q g m) =
+  took-turn p x date place at content buffer r (holds-first n q y m) =
+      receives (x .series) (n .reached .open-series) (n .reached .login) (held _ _ _)
+  took-turn p x date place at content buffer r (holds-middle n q g m) =
+      receives (x .series) (n .reached .open-series) (n .reached .login) (held _ _ _)
+  took-turn p x date place at content buffer r (hands-last n q g m) =
       receives (x .series) (n .reached .open-series) (n .reached .login) (handed _ (n .number))
 
   pub receive-turn : (p buffer : List ℕ) →
@@ -123,7 +124,7 @@ module _ (o : TradeDate) (c : Bool) (e : Receiver) where
           (reportIn (receivedSaid p (r .bytes) (r .answer)))
       go r (unread x q) = stays
       go r idles = stays
-      go r (reads x extension a q t) = took-turn p x (datedOf p .date) a _ buffer r t
+      go r (reads x extension a q t) = took-turn p x (datedOf p .date) (datedOf p .place) a _ buffer r t
 
 -- ─── What every step does to days and numbers ───
 

@@ -2,31 +2,32 @@
 use Prim.Native.Nat.{ℕ, zero, suc, _+_, _*_, _<_, _≤_}
 use mathlib.Core.Path.{_≡_, refl, sym, ap, _∙_}
 use mathlib.Core.List.{List, [], _∷_, _++_, map, append-assoc, append-nil}
-use mathlib.Core.Bool.{Bool, true, false, _&&_}
+use mathlib.Core.Bool.{Bool, true, false, cond, _&&_}
 use native.Mathlib.Omega.{arith}
 use native.Mathlib.Nat.{zero-mul, suc-mul}
 use borrow.Author.Tests.{le-ltb, leb-true, leb-false, eq-eqb}
 use lib.ListN.{length, getD, take, length-append, length-take}
 use lib.Seq.{getD-take}
-use lib.Dec.{leb, eqb, eqb·suc-suc, eqb·suc-zero, eqb·zero-suc}
+use lib.Dec.{leb, eqb, eqb·suc-suc, eqb·zero-suc}
 use Rattle.ftd.specs.Bytes.{be16Of, be32Of, part, joined}
 use Rattle.ftd.specs.Runs.{front, runOf, ended}
-use Rattle.ftd.specs.Tags.{tag, lengthRight, knownTags, countDate, goodTags, tagPlace, tradeDateOf, Tag, tagBytes}
-use Rattle.ftd.specs.Tags.{tagsFor, extensionBytes}
+use Rattle.ftd.specs.Tags.{tag, lengthRight, knownTags, countKind, goodTags, tagPlace, tradeDateOf}
+use Rattle.ftd.specs.Tags.{packetPlaceOf, Tag, tagBytes, tagsFor, placeTag, extensionBytes}
 use Rattle.ftd.specs.Fields.{field, fieldsOf, exactRun, allSmall, shaped}
 use Rattle.ftd.specs.Packet.{notOnePacket, noMessagePacket, span, readOf, datedOf}
 use Rattle.ftd.specs.Write.{packetBytes, messageBytes, fine, messageVerdict}
 use Rattle.ftd.specs.Chain.{Piece, noFields, withField, pack, piecesOf, chainAt, headerFor, packetFor, isNil}
-use Rattle.ftd.specs.Chain.{framed, packetsOf, overheadOf, overhead}
+use Rattle.ftd.specs.Chain.{framed, packetsOf, overheadOf, overhead, tagsAt}
 use Rattle.ftd.specs.Chain.Helpers.{sizeOf}
-use Rattle.ftd.specs.Chain.Laws.{packetForm, pieceAtPlace, packetAtPlace, letterAt, ChainLaws}
+use Rattle.ftd.specs.Chain.Laws.{packetForm, pieceAtPlace, packetAtPlace, letterAt, placeFor, ChainLaws}
 use Rattle.ftd.specs.declared.tags.TradeDate.{TradeDate}
 use Rattle.ftd.specs.declared.tags.TradeDate.the-variants.{None, At}
+use Rattle.ftd.specs.declared.tags.PacketPlace.the-variants.{NoPlace, Nth}
 use Rattle.ftd.specs.declared.packet.Chain.{Chain}
 use Rattle.ftd.specs.declared.packet.Packet.the-variants.{Message as Read}
 use Rattle.ftd.specs.declared.chain.Message.{Message}
 use Rattle.ftd.proofs.Lists.{byte-append}
-use Rattle.ftd.proofs.bytes.Numbers.{back32}
+use Rattle.ftd.proofs.bytes.Numbers.{back16, back32}
 use Rattle.ftd.proofs.runs.Laws.{run-joined, run-whole}
 use Rattle.ftd.proofs.fields.Turns.{some-field}
 use Rattle.ftd.proofs.tags.Turns.{some-tag}
@@ -35,14 +36,14 @@ use Rattle.ftd.proofs.runs.Joined.{Entry, Entries, run-of, Local, run-e
 use Rattle.ftd.proofs.packet.Laws.{by-test}
 use Rattle.ftd.proofs.write.Laws.{message-back, message-places, dated-back, message-one}
 use Rattle.ftd.proofs.write.Puts.{length-packet, length-message}
-use Rattle.ftd.proofs.chain.Pieces.{shaped-facts, framed-count, framed-size, pieces-some, some-length}
+use Rattle.ftd.proofs.chain.Pieces.{shaped-facts, framed-count, framed-size, pieces-some, some-length, tags-long}
 use Rattle.ftd.proofs.chain.Singles.{exact-shaped, one-piece}
 
--- ─── The trade date ───
+-- ─── The trade date and the place ───
 
 pub date-good : (d : TradeDate) → (goodTags (extensionBytes (tagsFor d)) ≡ true)
     × (length (extensionBytes (tagsFor d)) ≤ 6)
-unfolding goodTags runOf tag front lengthRight knownTags countDate
+unfolding goodTags runOf tag front lengthRight knownTags countKind
 date-good None = (refl, omega arith)
 date-good (At d) = (refl, omega arith)
 
@@ -50,6 +51,47 @@ pub date-back : (d : TradeDate) → tradeDateOf (extensionBytes (tagsFor d)) ≡
 unfolding tradeDateOf tagPlace runOf tag front be32Of
 date-back None = refl
 date-back (At d) = ap At (back32 d [])
+
+pub no-place : (d : TradeDate) → packetPlaceOf (extensionBytes (tagsFor d)) ≡ NoPlace
+unfolding packetPlaceOf tagPlace runOf tag front
+no-place None = refl
+no-place (At d) = refl
+
+module _ (j : ℕ) where
+  -- By the trade date and whether the packets are counted.
+  abbrev tagsBy : TradeDate → Bool → List ℕ
+  tagsBy d b = extensionBytes (tagsFor d ++ cond b (placeTag j ∷ []) [])
+
+  by-good : (d : TradeDate) (b : Bool) → (goodTags (tagsBy d b) ≡ true) × (length (tagsBy d b) ≤ 10)
+  unfolding goodTags runOf tag front lengthRight knownTags countKind
+  by-good None true = (refl, omega arith)
+  by-good None false = (refl, omega arith)
+  by-good (At d) true = (refl, omega arith)
+  by-good (At d) false = (refl, omega arith)
+
+  by-date : (d : TradeDate) (b : Bool) → tradeDateOf (tagsBy d b) ≡ d
+  unfolding tradeDateOf tagPlace runOf tag front be32Of
+  by-date None true = refl
+  by-date None false = refl
+  by-date (At d) true = ap At (back32 d (tagBytes (placeTag j) ++ []))
+  by-date (At d) false = ap At (back32 d [])
+
+  by-place : (d : TradeDate) (b : Bool) → packetPlaceOf (tagsBy d b) ≡ cond b (Nth j) NoPlace
+  unfolding packetPlaceOf tagPlace runOf tag front be16Of
+  by-place None true = ap Nth (back16 j [])
+  by-place None false = refl
+  by-place (At d) true = ap Nth (back16 j [])
+  by-place (At d) false = refl
+
+module _ (m : Message) (j : ℕ) where
+  pub at-good : (goodTags (extensionBytes (tagsAt m j)) ≡ true) × (length (extensionBytes (tagsAt m j)) ≤ 10)
+  at-good = by-good j (m .date) (m .counted)
+
+  pub at-date : tradeDateOf (extensionBytes (tagsAt m j)) ≡ m .date
+  at-date = by-date j (m .date) (m .counted)
+
+  pub at-place : packetPlaceOf (extensionBytes (tagsAt m j)) ≡ placeFor m j
+  at-place = by-place j (m .date) (m .counted)
 
 -- ─── Fields are entries ───
 
@@ -193,59 +235,52 @@ few content h =
 
 -- ─── Packets by place ───
 
-letter-first : (m : Message) (first : Bool) (p : Piece) (ps : List Piece)
-    → chainAt first (isNil ps) ≡ chainAt (first && eqb 0 0) (eqb (0 + 1) (length (p ∷ ps)))
-letter-first m true p [] = refl
-letter-first m false p [] = refl
-letter-first m true p (x ∷ ps) = rw (eqb·suc-suc 0 (suc (length ps)), eqb·zero-suc (length ps))
-letter-first m false p (x ∷ ps) = rw (eqb·suc-suc 0 (suc (length ps)), eqb·zero-suc (length ps))
+letter-first : (j : ℕ) (p : Piece) (ps : List Piece)
+    → chainAt (eqb j 0) (isNil ps) ≡ chainAt (eqb j 0) (eqb (0 + 1) (length (p ∷ ps)))
+letter-first j p [] = refl
+letter-first j p (x ∷ ps) = rw (eqb·suc-suc 0 (suc (length ps)), eqb·zero-suc (length ps))
 
-letter-later : (first : Bool) (i n : ℕ) → chainAt (false && eqb i 0) (eqb (i + 1) n) ≡ chainAt (first && eqb (suc i) 0)
-    (eqb (suc i + 1) (suc n))
-letter-later first i n =
-    let e : suc i + 1 ≡ suc (i + 1) = omega arith in
-    rw (e, eqb·suc-suc (i + 1) n, eqb·suc-zero i) (go first)
-  where
-    go : (b : Bool) → chainAt false (eqb (i + 1) n) ≡ chainAt (b && false) (eqb (i + 1) n)
-    go true = refl
-    go false = refl
-
-framed-at : (m : Message) (first : Bool) (ps : List Piece) (i : ℕ) → i < length ps
-    → getD (framed m first ps) i [] ≡ packetFor m (chainAt (first && eqb i 0) (eqb (i + 1) (length ps)))
+framed-at : (m : Message) (j : ℕ) (ps : List Piece) (i : ℕ) → i < length ps
+    → getD (framed m j ps) i [] ≡ packetFor m (j + i) (chainAt (eqb (j + i) 0) (eqb (i + 1) (length ps)))
     (getD ps i noFields)
-framed-at m first [] i h = absurd (omega arith)
-framed-at m first (p ∷ ps) zero h = ap (λ (c : Chain). packetFor m c p) (letter-first m first p ps)
-framed-at m first (p ∷ ps) (suc i) h =
-    framed-at m false ps i (omega arith) ∙ ap (λ (c : Chain). packetFor m c (getD ps i noFields))
-    (letter-later first i (length ps))
+framed-at m j [] i h = absurd (omega arith)
+framed-at m j (p ∷ ps) zero h =
+    let e : j + 0 ≡ j = omega arith in rw e (ap (λ (c : Chain). packetFor m j c p) (letter-first j p ps))
+framed-at m j (p ∷ ps) (suc i) h =
+    let e : suc j + i ≡ j + suc i = omega arith in
+    let f : suc i + 1 ≡ suc (i + 1) = omega arith in
+    rw (f, eqb·suc-suc (i + 1) (length ps))
+    (framed-at m (suc j) ps i (omega arith)
+    ∙ ap (λ (n : ℕ). packetFor m n (chainAt (eqb n 0) (eqb (i + 1) (length ps))) (getD ps i noFields)) e)
 
 module _ (m : Message) (content : List ℕ) where
   as-many : (length (packetsOf m content) ≡ length (piecesOf content)) × (0 < length (packetsOf m content))
   unfolding packetsOf
   as-many = (
-    framed-count m true (piecesOf content),
-    rw (framed-count m true (piecesOf content))
+    framed-count m 0 (piecesOf content),
+    rw (framed-count m 0 (piecesOf content))
         (some-length (piecesOf content) (pieces-some content)),
   )
 
   packet-at : (i : ℕ) → i < length (packetsOf m content)
-      → packetAtPlace m content i ≡ packetFor m (letterAt m content i) (pieceAtPlace content i)
+      → packetAtPlace m content i ≡ packetFor m i (letterAt m content i) (pieceAtPlace content i)
   unfolding packetsOf
   packet-at i h =
-      let k : i < length (piecesOf content) = rw (framed-count m true (piecesOf content)) at h in
-      rw (framed-count m true (piecesOf content)) (framed-at m true (piecesOf content) i k)
+      let k : i < length (piecesOf content) = rw (framed-count m 0 (piecesOf content)) at h in
+      let z : 0 + i ≡ i = omega arith in
+      rw (framed-count m 0 (piecesOf content)) (rw z at (framed-at m 0 (piecesOf content) i k))
 
   -- It is written without refusal, and read back.
   packet-fine : (limit i : ℕ) → shaped content limit ≡ true → i < length (packetsOf m content)
       → messageVerdict (headerFor m (letterAt m content i) (pieceAtPlace content i .count))
-      (extensionBytes (tagsFor (m .date))) (pieceAtPlace content i .bytes) ≡ fine
+      (extensionBytes (tagsAt m i)) (pieceAtPlace content i .bytes) ≡ fine
   unfolding messageVerdict headerFor
   packet-fine limit i s h =
       let k : i < length (piecesOf content) = rw (as-many .0) at h in
       let good = good-at (piecesOf content) i (pieces-good content limit s) k in
-      let tags = date-good (m .date) in
+      let tags = at-good m i in
       rw (
-        le-ltb 127 (length (extensionBytes (tagsFor (m .date)))) (omega (arith, tags .1)),
+        le-ltb 127 (length (extensionBytes (tagsAt m i))) (omega (arith, tags .1)),
         le-ltb 4080
             (length (pieceAtPlace content i .bytes)) (good .0),
         tags .0,
@@ -255,49 +290,61 @@ module _ (m : Message) (content : List ℕ) where
   read-back : (limit i : ℕ) (q : List ℕ) → shaped content limit ≡ true → i < length (packetsOf m content)
       → readOf (packetAtPlace m content i ++ q)
       ≡ Read (headerFor m (letterAt m content i) (pieceAtPlace content i .count))
-      (span 4 (length (extensionBytes (tagsFor (m .date)))))
-      (span (4 + length (extensionBytes (tagsFor (m .date))) + 16) (length (pieceAtPlace content i .bytes)))
+      (span 4 (length (extensionBytes (tagsAt m i))))
+      (span (4 + length (extensionBytes (tagsAt m i)) + 16) (length (pieceAtPlace content i .bytes)))
   unfolding packetFor
   read-back limit i q s h =
       rw (packet-at i h)
       (message-back (headerFor m (letterAt m content i) (pieceAtPlace content i .count))
-      (extensionBytes (tagsFor (m .date))) (pieceAtPlace content i .bytes) q (packet-fine limit i s h))
+      (extensionBytes (tagsAt m i)) (pieceAtPlace content i .bytes) q (packet-fine limit i s h))
 
   trade-date-back : (i : ℕ) (q : List ℕ) → i < length (packetsOf m content)
-      → tradeDateOf (part (packetAtPlace m content i ++ q) 4 (length (extensionBytes (tagsFor (m .date))))) ≡ m .date
+      → tradeDateOf (part (packetAtPlace m content i ++ q) 4 (length (extensionBytes (tagsAt m i)))) ≡ m .date
   unfolding packetFor
   trade-date-back i q h =
       rw (
         packet-at i h,
         message-places (headerFor m (letterAt m content i) (pieceAtPlace content i .count))
-            (extensionBytes (tagsFor (m .date))) (pieceAtPlace content i .bytes) q .0,
+            (extensionBytes (tagsAt m i)) (pieceAtPlace content i .bytes) q .0,
       )
-      (date-back (m .date))
+      (at-date m i)
+
+  place-back : (i : ℕ) (q : List ℕ) → i < length (packetsOf m content)
+      → packetPlaceOf (part (packetAtPlace m content i ++ q) 4 (length (extensionBytes (tagsAt m i)))) ≡ placeFor m i
+  unfolding packetFor
+  place-back i q h =
+      rw (
+        packet-at i h,
+        message-places (headerFor m (letterAt m content i) (pieceAtPlace content i .count))
+            (extensionBytes (tagsAt m i)) (pieceAtPlace content i .bytes) q .0,
+      )
+      (at-place m i)
 
   piece-back : (i : ℕ) (q : List ℕ) → i < length (packetsOf m content)
-      → part (packetAtPlace m content i ++ q) (4 + length (extensionBytes (tagsFor (m .date))) + 16)
+      → part (packetAtPlace m content i ++ q) (4 + length (extensionBytes (tagsAt m i)) + 16)
       (length (pieceAtPlace content i .bytes)) ≡ pieceAtPlace content i .bytes
   unfolding packetFor
   piece-back i q h =
       rw (packet-at i h)
       (message-places (headerFor m (letterAt m content i) (pieceAtPlace content i .count))
-      (extensionBytes (tagsFor (m .date))) (pieceAtPlace content i .bytes) q .1)
+      (extensionBytes (tagsAt m i)) (pieceAtPlace content i .bytes) q .1)
 
   packet-dated : (limit i : ℕ) (q : List ℕ) → shaped content limit ≡ true → i < length (packetsOf m content)
       → datedOf (packetAtPlace m content i ++ q)
       ≡ record {
         packet =
             Read (headerFor m (letterAt m content i) (pieceAtPlace content i .count))
-            (span 4 (length (extensionBytes (tagsFor (m .date)))))
-            (span (4 + length (extensionBytes (tagsFor (m .date))) + 16) (length (pieceAtPlace content i .bytes)));
+            (span 4 (length (extensionBytes (tagsAt m i))))
+            (span (4 + length (extensionBytes (tagsAt m i)) + 16) (length (pieceAtPlace content i .bytes)));
         date = m .date;
+        place = placeFor m i;
       }
   unfolding packetFor
   packet-dated limit i q s h =
       rw (packet-at i h)
       (dated-back (headerFor m (letterAt m content i) (pieceAtPlace content i .count))
-      (extensionBytes (tagsFor (m .date))) (pieceAtPlace content i .bytes) q (packet-fine limit i s h)
-      ∙ rw (date-back (m .date)))
+      (extensionBytes (tagsAt m i)) (pieceAtPlace content i .bytes) q (packet-fine limit i s h)
+      ∙ rw (at-date m i, at-place m i))
 
   packet-one : (limit i : ℕ) → shaped content limit ≡ true → i < length (packetsOf m content)
       → (notOnePacket (packetAtPlace m content i) ≡ false) × (noMessagePacket (packetAtPlace m content i) ≡ false)
@@ -305,7 +352,7 @@ module _ (m : Message) (content : List ℕ) where
   packet-one limit i s h =
       rw (packet-at i h)
       (message-one (headerFor m (letterAt m content i) (pieceAtPlace content i .count))
-      (extensionBytes (tagsFor (m .date))) (pieceAtPlace content i .bytes) (packet-fine limit i s h))
+      (extensionBytes (tagsAt m i)) (pieceAtPlace content i .bytes) (packet-fine limit i s h))
 
 -- ─── Cut by the first four bytes ───
 
@@ -326,10 +373,10 @@ packet-entry kind extension body =
           ∙ e ∙ sym (length-packet kind extension body);
     }
 
-framed-entries : (m : Message) (first : Bool) (ps : List Piece) → Entries packetForm (framed m first ps)
+framed-entries : (m : Message) (j : ℕ) (ps : List Piece) → Entries packetForm (framed m j ps)
 unfolding packetFor messageBytes
-framed-entries m first [] = tt
-framed-entries m first (p ∷ ps) = (packet-entry 1 (extensionBytes (tagsFor (m .date))) _, framed-entries m false ps)
+framed-entries m j [] = tt
+framed-entries m j (p ∷ ps) = (packet-entry 1 (extensionBytes (tagsAt m j)) _, framed-entries m (suc j) ps)
 
 some-packet : 0 < packetForm .head
 unfolding packetForm
@@ -339,42 +386,42 @@ cut-back : (m : Message) (content : List ℕ)
     → runOf packetForm (joined (packetsOf m content)) ≡ record { entries = packetsOf m content; rest = [] }
 unfolding packetsOf
 cut-back m content =
-    run-of packetForm some-packet (framed m true (piecesOf content)) (framed-entries m true (piecesOf content))
+    run-of packetForm some-packet (framed m 0 (piecesOf content)) (framed-entries m 0 (piecesOf content))
 
 -- ─── What packets take ───
 
-overhead-is : (d : TradeDate) → overheadOf d ≡ 4 + length (extensionBytes (tagsFor d)) + 16
+overhead-is : (m : Message) → overheadOf m ≡ 4 + length (extensionBytes (tagsAt m 0)) + 16
 unfolding overheadOf
-overhead-is d = refl
+overhead-is m = refl
 
-size-around : (d : TradeDate) (ps : List Piece)
-    → sizeOf (length (extensionBytes (tagsFor d))) ps
-    ≡ length (joined (map (λ (p : Piece). p .bytes) ps)) + length ps * overheadOf d
-size-around d [] = rw (zero-mul (overheadOf d)) refl
-size-around d (p ∷ ps) =
+size-around : (m : Message) (ps : List Piece)
+    → sizeOf (length (extensionBytes (tagsAt m 0))) ps
+    ≡ length (joined (map (λ (p : Piece). p .bytes) ps)) + length ps * overheadOf m
+size-around m [] = rw (zero-mul (overheadOf m)) refl
+size-around m (p ∷ ps) =
     rw (
       length-append (p .bytes) (joined (map (λ (x : Piece). x .bytes) ps)),
-      suc-mul (length ps) (overheadOf d),
-      size-around d ps,
+      suc-mul (length ps) (overheadOf m),
+      size-around m ps,
     )
-    (omega (arith, overhead-is d))
+    (omega (arith, overhead-is m))
 
 takes : (m : Message) (content : List ℕ) (limit : ℕ) → shaped content limit ≡ true
-    → length (joined (packetsOf m content)) ≡ length content + length (packetsOf m content) * overheadOf (m .date)
+    → length (joined (packetsOf m content)) ≡ length content + length (packetsOf m content) * overheadOf m
 unfolding packetsOf
 takes m content limit s =
-    framed-size m true (piecesOf content) ∙ size-around (m .date) (piecesOf content)
-    ∙ rw (pieces-joined content limit s, framed-count m true (piecesOf content))
+    framed-size m 0 (piecesOf content) ∙ size-around m (piecesOf content)
+    ∙ rw (pieces-joined content limit s, framed-count m 0 (piecesOf content))
 
 packet-takes : (m : Message) (content : List ℕ) (i : ℕ) → i < length (packetsOf m content)
-    → length (packetAtPlace m content i) ≡ overheadOf (m .date) + length (pieceAtPlace content i .bytes)
+    → length (packetAtPlace m content i) ≡ overheadOf m + length (pieceAtPlace content i .bytes)
 unfolding packetFor
-packet-takes m content i h = rw (packet-at m content i h, length-message, overhead-is) (omega arith)
+packet-takes m content i h =
+    rw (packet-at m content i h, length-message, overhead-is) (omega (arith, tags-long m i))
 
-around : (d : TradeDate) → overheadOf d ≤ overhead
+around : (m : Message) → overheadOf m ≤ overhead
 unfolding overheadOf overhead
-around None = omega arith
-around (At d) = omega arith
+around m = let a = at-good m 0 .1 in omega arith
 
 -- ─── Tags ───
 
@@ -408,6 +455,11 @@ chain-laws =
       tags-back = tags-back;
       tags-good = λ d. date-good d .0;
       tags-date = date-back;
+      tags-unplaced = no-place;
+      at-good = λ m j. at-good m j .0;
+      at-date = at-date;
+      at-place = at-place;
+      at-long = tags-long;
       exact = exact-shaped;
       single = one-piece;
       pieces-joined = pieces-joined;
@@ -419,6 +471,7 @@ chain-laws =
       around = around;
       read-back = read-back;
       trade-date-back = trade-date-back;
+      place-back = place-back;
       piece-back = piece-back;
       dated-back = packet-dated;
       one-packet = packet-one;

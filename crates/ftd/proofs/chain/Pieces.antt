@@ -1,20 +1,23 @@
 -- The pieces of a content and the packets of a message, one at a time. Assumes nothing.
 use Prim.Native.Nat.{ℕ, zero, suc, _+_, _-_, _<_, _≤_}
 use mathlib.Core.Path.{_≡_, refl, sym, ap, _∙_}
-use mathlib.Core.List.{List, [], _∷_}
-use mathlib.Core.Bool.{Bool, true, false, _&&_}
+use mathlib.Core.List.{List, [], _∷_, _++_}
+use mathlib.Core.Bool.{Bool, true, false, cond, _&&_}
 use native.Mathlib.Omega.{arith}
 use borrow.Author.Tests.{leb-true, le-leb, lt-leb, eqb-true, eqb-false, eq-eqb, ne-eqb}
 use lib.ListN.{length, getD, drop, length-drop, length-take, length-append, drop-of-length-le}
 use lib.Seq.{drop-drop}
-use lib.Dec.{leb, eqb, eqb·suc-zero}
+use lib.Dec.{leb, eqb}
 use Rattle.ftd.specs.Bytes.{part, joined}
 use Rattle.ftd.specs.Runs.{runOf}
 use Rattle.ftd.specs.Fields.{field, fieldsOf, shapely, shaped}
-use Rattle.ftd.specs.Chain.{Piece, noFields, withField, pack, piecesOf, chainAt, packetFor, isNil, framed}
+use Rattle.ftd.specs.Chain.{Piece, noFields, withField, pack, piecesOf, chainAt, packetFor, isNil, framed, tagsAt}
 use Rattle.ftd.specs.Chain.{packetsOf, sizeAnswer}
 use Rattle.ftd.specs.Chain.Helpers.{othersOf, pieceAt, NextPiece, sizeOf, measureOf}
-use Rattle.ftd.specs.Tags.{tagsFor, extensionBytes}
+use Rattle.ftd.specs.Tags.{tagsFor, placeTag, extensionBytes}
+use Rattle.ftd.specs.declared.tags.TradeDate.{TradeDate}
+use Rattle.ftd.specs.declared.tags.TradeDate.the-variants.{None}
+use Rattle.ftd.specs.declared.tags.TradeDate.the-variants.{At as Dated}
 use Rattle.ftd.specs.declared.refusal.Refusal.the-variants.{FieldRun}
 use Rattle.ftd.specs.declared.packet.Chain.{Chain}
 use Rattle.ftd.specs.declared.chain.ChainSize.the-variants.{Refused}
@@ -73,11 +76,11 @@ module _ (l : List ℕ) (at : ℕ) (c : Cut) (next : NextPiece l at c) where
   pub piece-length : length (part l at (c .end - at)) ≡ c .end - at
   piece-length = simp (length-take, length-drop) (omega (arith, next .low, next .high))
 
-  pub piece-packet : (m : Message) (x : Chain) (to : ℕ)
+  pub piece-packet : (m : Message) (j : ℕ) (x : Chain) (to : ℕ)
       → to + length
-      (packetFor m x (pieceAt l at c)) ≡ to + (4 + length (extensionBytes (tagsFor (m .date))) + (16 + (c .end - at)))
+      (packetFor m j x (pieceAt l at c)) ≡ to + (4 + length (extensionBytes (tagsAt m j)) + (16 + (c .end - at)))
   unfolding packetFor
-  piece-packet m x to = rw (length-message, piece-length)
+  piece-packet m j x to = rw (length-message, piece-length)
 
   -- A piece that goes to the end.
   pub whole-last : c .end ≡ length l → shapely (runOf field (drop at l)) ≡ true
@@ -113,26 +116,38 @@ module _ (l : List ℕ) (at : ℕ) (c : Cut) (next : NextPiece l at c) where
     pub size-last : (ext : ℕ) → c .end ≡ length l → sizeOf ext (piecesOf (drop at l)) ≡ 4 + ext + (16 + (c .end - at))
     size-last ext h = rw (last h, piece-length) (omega arith)
 
-    module _ (m : Message) (first : Bool) where
+    module _ (m : Message) (j : ℕ) where
       pub frame-more : c .end < length l
-          → framed m first (piecesOf (drop at l)) ≡ packetFor m (chainAt first false) (pieceAt l at c) ∷ framed m false
-          (piecesOf (drop (c .end) l))
+          → framed m j (piecesOf (drop at l)) ≡ packetFor m j (chainAt (eqb j 0) false) (pieceAt l at c)
+          ∷ framed m (suc j) (piecesOf (drop (c .end) l))
       frame-more h = rw (more h, pieces-some (drop (c .end) l))
 
-      pub frame-last : c .end ≡ length l → framed m first (piecesOf (drop at l)) ≡ packetFor m (chainAt first true)
+      pub frame-last : c .end ≡ length l → framed m j (piecesOf (drop at l)) ≡ packetFor m j (chainAt (eqb j 0) true)
           (pieceAt l at c) ∷ []
       frame-last h = rw (last h)
 
 -- The packets of pieces: as many, and of the size counted.
-pub framed-count : (m : Message) (first : Bool) (ps : List Piece) → length (framed m first ps) ≡ length ps
-framed-count m first [] = refl
-framed-count m first (p ∷ ps) = ap suc (framed-count m false ps)
+pub framed-count : (m : Message) (j : ℕ) (ps : List Piece) → length (framed m j ps) ≡ length ps
+framed-count m j [] = refl
+framed-count m j (p ∷ ps) = ap suc (framed-count m (suc j) ps)
 
-pub framed-size : (m : Message) (first : Bool) (ps : List Piece)
-    → length (joined (framed m first ps)) ≡ sizeOf (length (extensionBytes (tagsFor (m .date)))) ps
+-- At every place the tags take as many bytes.
+pub tags-long : (m : Message) (j : ℕ) → length (extensionBytes (tagsAt m j)) ≡ length (extensionBytes (tagsAt m 0))
+tags-long m j = go (m .date) (m .counted)
+  where
+    go : (d : TradeDate) (b : Bool)
+        → length (extensionBytes (tagsFor d ++ cond b (placeTag j ∷ []) []))
+        ≡ length (extensionBytes (tagsFor d ++ cond b (placeTag 0 ∷ []) []))
+    go None true = refl
+    go None false = refl
+    go (Dated d) true = refl
+    go (Dated d) false = refl
+
+pub framed-size : (m : Message) (j : ℕ) (ps : List Piece)
+    → length (joined (framed m j ps)) ≡ sizeOf (length (extensionBytes (tagsAt m 0))) ps
 unfolding packetFor
-framed-size m first [] = refl
-framed-size m first (p ∷ ps) = rw (length-append, length-message, framed-size m false ps)
+framed-size m j [] = refl
+framed-size m j (p ∷ ps) = rw (length-append, length-message, framed-size m (suc j) ps, tags-long m j)
 
 -- ─── What the public functions decide ───
 
@@ -150,14 +165,14 @@ pub size-over : (m : Message) (content : List ℕ) → 32768 < length content �
 unfolding sizeAnswer shaped
 size-over m content h = rw (lt-leb (length content) 32768 h)
 
-module _ (m : Message) (content : List ℕ) (tags : ℕ) (e : tags ≡ length (extensionBytes (tagsFor (m .date)))) where
+module _ (m : Message) (content : List ℕ) (tags : ℕ) (e : tags ≡ length (extensionBytes (tagsAt m 0))) where
   pub size-is : length content ≤ 32768 → measureOf tags content ≡ sizeAnswer m content
   unfolding measureOf sizeAnswer shaped packetsOf
   size-is h =
       rw (
         le-leb (length content) 32768 h,
-        framed-count m true (piecesOf content),
-        framed-size m true
+        framed-count m 0 (piecesOf content),
+        framed-size m 0
             (piecesOf content),
         ← e,
       )
@@ -189,17 +204,13 @@ module _ (content : List ℕ) (i at left : ℕ) (c : Cut) (next : NextPiece cont
       ∙ sym (drop-drop 1 (i - left) (piecesOf content))
       ∙ ap (drop 1) (inv ∙ more content at c next s (omega (arith, next .high)))
 
-framed-drop : (m : Message) (i : ℕ) (first : Bool) (ps : List Piece)
-    → drop i (framed m first ps) ≡ framed m (first && eqb i 0) (drop i ps)
-framed-drop m zero true ps = refl
-framed-drop m zero false ps = refl
-framed-drop m (suc i) first [] = refl
-framed-drop m (suc i) first (p ∷ ps) =
-    framed-drop m i false ps ∙ ap (λ (b : Bool). framed m b (drop i ps)) (sym (later first))
-  where
-    later : (b : Bool) → (b && eqb (suc i) 0) ≡ false
-    later true = eqb·suc-zero i
-    later false = refl
+framed-drop : (m : Message) (i j : ℕ) (ps : List Piece)
+    → drop i (framed m j ps) ≡ framed m (i + j) (drop i ps)
+framed-drop m zero j ps = let e : 0 + j ≡ j = omega arith in rw e
+framed-drop m (suc i) j [] = refl
+framed-drop m (suc i) j (p ∷ ps) =
+    let e : i + suc j ≡ suc i + j = omega arith in
+    framed-drop m i (suc j) ps ∙ ap (λ (n : ℕ). framed m n (drop i ps)) e
 
 head-of : (ls : List (List ℕ)) (i : ℕ) (x : List ℕ) (xs : List (List ℕ)) → drop i ls ≡ x ∷ xs
     → (getD ls i [] ≡ x) × (length ls ≡ i + 1 + length xs)
@@ -215,43 +226,46 @@ some-length (p ∷ ps) e = omega arith
 -- Packet i of a message, from piece i of its content: its bytes, that there is one, and whether it is the last.
 pub packet-here : (m : Message) (content : List ℕ) (i at : ℕ) (c : Cut) → NextPiece content at c
     → shapely (runOf field (drop at content)) ≡ true → drop i (piecesOf content) ≡ piecesOf (drop at content)
-    → (getD (packetsOf m content) i [] ≡ packetFor m (chainAt (eqb i 0) (eqb (c .end) (length content)))
+    → (getD (packetsOf m content) i [] ≡ packetFor m i (chainAt (eqb i 0) (eqb (c .end) (length content)))
     (pieceAt content at c)) × (i < length (packetsOf m content))
     × (eqb (i + 1) (length (packetsOf m content)) ≡ eqb (c .end) (length content))
 unfolding packetsOf
 packet-here m content i at c next s e = go (eqb (c .end) (length content)) refl
   where
     all : List (List ℕ)
-    all = framed m true (piecesOf content)
+    all = framed m 0 (piecesOf content)
 
-    from : drop i all ≡ framed m (eqb i 0) (piecesOf (drop at content))
-    from = framed-drop m i true (piecesOf content) ∙ ap (framed m (eqb i 0)) e
+    from : drop i all ≡ framed m i (piecesOf (drop at content))
+    from =
+        let z : i + 0 ≡ i = omega arith in
+        framed-drop m i 0 (piecesOf content)
+        ∙ ap (λ (n : ℕ). framed m n (drop i (piecesOf content))) z ∙ ap (framed m i) e
 
     go : (b : Bool) → eqb (c .end) (length content) ≡ b
-        → (getD all i [] ≡ packetFor m (chainAt (eqb i 0) b) (pieceAt content at c)) × (i < length all)
+        → (getD all i [] ≡ packetFor m i (chainAt (eqb i 0) b) (pieceAt content at c)) × (i < length all)
         × (eqb (i + 1) (length all) ≡ b)
     go true q =
         let h =
-        head-of all i _ _ (from ∙ frame-last content at c next s m (eqb i 0)
+        head-of all i _ _ (from ∙ frame-last content at c next s m i
         (eqb-true (c .end) (length content) q)) in
         (h .0, omega (arith, h .1), eq-eqb (i + 1) (length all) (omega (arith, h .1)))
     go false q =
         let more : c .end < length content =
         below (c .end) (length content) (next .high) (eqb-false (c .end) (length content) q) in
-        let h = head-of all i _ _ (from ∙ frame-more content at c next s m (eqb i 0) more) in
-        let k : 0 < length (framed m false (piecesOf (drop (c .end) content))) =
+        let h = head-of all i _ _ (from ∙ frame-more content at c next s m i more) in
+        let k : 0 < length (framed m (suc i) (piecesOf (drop (c .end) content))) =
         rw framed-count (some-length (piecesOf (drop (c .end) content)) (pieces-some (drop (c .end) content))) in
         (h .0, omega (arith, h .1), ne-eqb (i + 1) (length all) (λ x. omega (arith, h .1)))
 
 pub packet-none : (m : Message) (content : List ℕ) (i : ℕ) → length (piecesOf content) ≤ i
     → length (packetsOf m content) ≤ i
 unfolding packetsOf
-packet-none m content i h = rw (framed-count m true (piecesOf content)) h
+packet-none m content i h = rw (framed-count m 0 (piecesOf content)) h
 
 pub packet-size : (m : Message) (content : List ℕ) (i at : ℕ) (c : Cut) → NextPiece content at c
     → shapely (runOf field (drop at content)) ≡ true → drop i (piecesOf content) ≡ piecesOf (drop at content)
-    → (tags : ℕ) → tags ≡ length (extensionBytes (tagsFor (m .date)))
+    → (tags : ℕ) → tags ≡ length (extensionBytes (tagsAt m i))
     → length (getD (packetsOf m content) i []) ≡ 4 + tags + (16 + (c .end - at))
 packet-size m content i at c next s e tags t =
     rw (packet-here m content i at c next s e .0, t)
-    (omega (arith, piece-packet content at c next m (chainAt (eqb i 0) (eqb (c .end) (length content))) 0))
+    (omega (arith, piece-packet content at c next m i (chainAt (eqb i 0) (eqb (c .end) (length content))) 0))

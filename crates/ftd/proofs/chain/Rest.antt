@@ -1,17 +1,19 @@
 -- The packets of a message put from the last to the first, a piece at a time, over plain variables. Assumes nothing.
-use Prim.Native.Nat.{ℕ, _+_, _-_, _<_, _≤_}
+use Prim.Native.Nat.{ℕ, suc, _+_, _-_, _<_, _≤_}
 use mathlib.Core.Path.{_≡_, refl, sym, ap, _∙_}
 use mathlib.Core.List.{List, [], _∷_, _++_, append-nil}
 use mathlib.Core.Bool.{Bool, true, false, cond}
+use native.Mathlib.Numerals.{add-one}
 use native.Mathlib.Omega.{arith}
 use borrow.Author.Tests.{le-leb}
+use lib.Dec.{eqb}
 use lib.ListN.{length, drop, length-append}
 use Rattle.ftd.specs.Bytes.{put, joined}
 use Rattle.ftd.specs.Runs.{runOf}
 use Rattle.ftd.specs.Fields.{field, shapely, shaped}
-use Rattle.ftd.specs.Chain.{Piece, piecesOf, chainAt, packetFor, isNil, packetsOf, chainVerdict}
+use Rattle.ftd.specs.Chain.{Piece, piecesOf, chainAt, packetFor, isNil, packetsOf, chainVerdict, tagsAt}
 use Rattle.ftd.specs.Chain.Helpers.{pieceAt, NextPiece, restOf, PutRest, sizeOf}
-use Rattle.ftd.specs.Tags.{tagsFor, extensionBytes}
+use Rattle.ftd.specs.Tags.{extensionBytes}
 use Rattle.ftd.specs.Write.{fine, refuse, writtenAnswer, writtenOutput}
 use Rattle.ftd.specs.declared.refusal.Refusal.the-variants.{FieldRun, TooSmall}
 use Rattle.ftd.specs.declared.write.Written.the-variants.{Bytes, Refused}
@@ -20,25 +22,32 @@ use Rattle.ftd.specs.declared.chain.Message.{Message}
 use Rattle.ftd.proofs.bytes.Put.{length-put, put-before}
 use Rattle.ftd.proofs.write.Puts.{by-refusal, by-room, by-writing}
 use Rattle.ftd.proofs.chain.Pieces.{both, below, pieces-some, framed-size, piece-packet, whole-last, broken-here}
-use Rattle.ftd.proofs.chain.Pieces.{frame-more, frame-last}
+use Rattle.ftd.proofs.chain.Pieces.{frame-more, frame-last, tags-long}
 
-module _ (m : Message) (first : Bool) (l : List ℕ) (at to tags : ℕ) (c : Cut) (next : NextPiece l at c)
-    (t : tags ≡ length (extensionBytes (tagsFor (m .date)))) (out : List ℕ) where
+module _ (m : Message) (j : ℕ) (l : List ℕ) (at to tags : ℕ) (c : Cut) (next : NextPiece l at c)
+    (t : tags ≡ length (extensionBytes (tagsAt m 0))) (out : List ℕ) where
+  tags-here : tags ≡ length (extensionBytes (tagsAt m j))
+  tags-here = t ∙ sym (tags-long m j)
+
   packet-long : (last : Bool) → to + length
-      (packetFor m (chainAt first last) (pieceAt l at c)) ≡ to + (4 + tags + (16 + (c .end - at)))
-  packet-long last = rw t (piece-packet l at c next m (chainAt first last) to)
+      (packetFor m j (chainAt (eqb j 0) last) (pieceAt l at c)) ≡ to + (4 + tags + (16 + (c .end - at)))
+  packet-long last = rw tags-here (piece-packet l at c next m j (chainAt (eqb j 0) last) to)
 
   -- ─── The last piece ───
 
   module _ (h : c .end ≡ length l) where
-    rest-last : restOf m first l at ≡ packetFor m (chainAt first true) (pieceAt l at c)
-    rest-last = ap joined (frame-last l at c next (whole-last l at c next h) m first h) ∙ append-nil _
+    rest-last : restOf m j l at ≡ packetFor m j (chainAt (eqb j 0) true) (pieceAt l at c)
+    rest-last = ap joined (frame-last l at c next (whole-last l at c next h) m j h) ∙ append-nil _
 
-    reach-last : to + (4 + tags + (16 + (c .end - at))) ≡ to + length (restOf m first l at)
+    reach-last : to + (4 + tags + (16 + (c .end - at))) ≡ to + length (restOf m j l at)
     reach-last = rw rest-last (sym (packet-long true))
 
+    pub last-fits : to + (4 + tags + (16 + (c .end - at))) ≤ length out
+        → to + (4 + length (extensionBytes (tagsAt m j)) + (16 + (c .end - at))) ≤ length out
+    last-fits k = rw (← tags-here) k
+
     pub last-small : length out < to + (4 + tags + (16 + (c .end - at)))
-        → PutRest m first l at to out out (to + (4 + tags + (16 + (c .end - at))))
+        → PutRest m j l at to out out (to + (4 + tags + (16 + (c .end - at))))
     last-small k =
         record {
           broken = λ b. both _ (whole-last l at c next h) b;
@@ -48,8 +57,8 @@ module _ (m : Message) (first : Bool) (l : List ℕ) (at to tags : ℕ) (c : Cut
         }
 
     pub last-put : (after : List ℕ) → to + (4 + tags + (16 + (c .end - at))) ≤ length out
-        → after ≡ put out to (packetFor m (chainAt first true) (pieceAt l at c))
-        → PutRest m first l at to out after (to + (4 + tags + (16 + (c .end - at))))
+        → after ≡ put out to (packetFor m j (chainAt (eqb j 0) true) (pieceAt l at c))
+        → PutRest m j l at to out after (to + (4 + tags + (16 + (c .end - at))))
     last-put after k w =
         record {
           broken = λ b. both _ (whole-last l at c next h) b;
@@ -60,7 +69,7 @@ module _ (m : Message) (first : Bool) (l : List ℕ) (at to tags : ℕ) (c : Cut
 
   -- ─── A piece that is none ───
 
-  pub none-here : (c .end ≡ length l → ⊥) → c .end ≡ at → PutRest m first l at to out out 0
+  pub none-here : (c .end ≡ length l → ⊥) → c .end ≡ at → PutRest m j l at to out out 0
   none-here h e =
       record {
         broken = λ b. (refl, refl);
@@ -72,15 +81,18 @@ module _ (m : Message) (first : Bool) (l : List ℕ) (at to tags : ℕ) (c : Cut
   -- ─── A piece before others, which are put ───
 
   module _ (h : c .end ≡ length l → ⊥) (mid : List ℕ) (reach : ℕ)
-      (p : PutRest m false l (c .end) (to + (4 + tags + (16 + (c .end - at)))) out mid reach) where
-    rest-more : shapely (runOf field (drop at l)) ≡ true
-        → restOf m first l at ≡ packetFor m (chainAt first false) (pieceAt l at c) ++ restOf m false l (c .end)
-    rest-more s = ap joined (frame-more l at c next s m first (below (c .end) (length l) (next .high) h))
+      (given : PutRest m (j + 1) l (c .end) (to + (4 + tags + (16 + (c .end - at)))) out mid reach) where
+    p : PutRest m (suc j) l (c .end) (to + (4 + tags + (16 + (c .end - at)))) out mid reach
+    p = rw (add-one j) at given
 
-    reach-more : shapely (runOf field (drop at l)) ≡ true → reach ≡ to + length (restOf m first l at)
+    rest-more : shapely (runOf field (drop at l)) ≡ true
+        → restOf m j l at ≡ packetFor m j (chainAt (eqb j 0) false) (pieceAt l at c) ++ restOf m (suc j) l (c .end)
+    rest-more s = ap joined (frame-more l at c next s m j (below (c .end) (length l) (next .high) h))
+
+    reach-more : shapely (runOf field (drop at l)) ≡ true → reach ≡ to + length (restOf m j l at)
     reach-more s = rw (rest-more s, length-append) (omega (arith, p .reaches (next .left ∙ s), packet-long false))
 
-    pub more-broken : reach ≡ 0 → PutRest m first l at to out mid 0
+    pub more-broken : reach ≡ 0 → PutRest m j l at to out mid 0
     more-broken z =
         record {
           broken = λ b. (refl, p .broken (next .left ∙ b) .1);
@@ -99,10 +111,10 @@ module _ (m : Message) (first : Bool) (l : List ℕ) (at to tags : ℕ) (c : Cut
           go false s = absurd (z (p .broken s .0))
 
       pub more-fits : reach ≤ length mid
-          → to + (4 + length (extensionBytes (tagsFor (m .date))) + (16 + (c .end - at))) ≤ length mid
-      more-fits k = rw (← t) (omega (arith, more-room))
+          → to + (4 + length (extensionBytes (tagsAt m j)) + (16 + (c .end - at))) ≤ length mid
+      more-fits k = rw (← tags-here) (omega (arith, more-room))
 
-      pub more-small : length mid < reach → PutRest m first l at to out mid reach
+      pub more-small : length mid < reach → PutRest m j l at to out mid reach
       more-small k =
           record {
             broken = λ b. absurd (z (p .broken (next .left ∙ b) .0));
@@ -114,13 +126,13 @@ module _ (m : Message) (first : Bool) (l : List ℕ) (at to tags : ℕ) (c : Cut
                 absurd (omega (
                   arith,
                   ap length (p .puts (next .left ∙ s) w)
-                      ∙ length-put out _ (restOf m false l (c .end)) (omega (arith, q)),
+                      ∙ length-put out _ (restOf m (suc j) l (c .end)) (omega (arith, q)),
                 ));
           }
 
       pub more-put : (after : List ℕ) → reach ≤ length mid
-          → after ≡ put mid to (packetFor m (chainAt first false) (pieceAt l at c))
-          → PutRest m first l at to out after reach
+          → after ≡ put mid to (packetFor m j (chainAt (eqb j 0) false) (pieceAt l at c))
+          → PutRest m j l at to out after reach
       more-put after k w =
           record {
             broken = λ b. absurd (z (p .broken (next .left ∙ b) .0));
@@ -129,9 +141,9 @@ module _ (m : Message) (first : Bool) (l : List ℕ) (at to tags : ℕ) (c : Cut
             puts =
                 λ s x.
                 rw (rest-more s)
-                (w ∙ ap (λ (o : List ℕ). put o to (packetFor m (chainAt first false) (pieceAt l at c)))
+                (w ∙ ap (λ (o : List ℕ). put o to (packetFor m j (chainAt (eqb j 0) false) (pieceAt l at c)))
                 (p .puts (next .left ∙ s) x)
-                ∙ put-before out to _ (packetFor m (chainAt first false) (pieceAt l at c)) (restOf m false l (c .end))
+                ∙ put-before out to _ (packetFor m j (chainAt (eqb j 0) false) (pieceAt l at c)) (restOf m (suc j) l (c .end))
                 (packet-long false) (omega (arith, more-room)));
           }
 
@@ -141,7 +153,7 @@ some-bytes : (ext : ℕ) (ps : List Piece) → isNil ps ≡ false → 0 < sizeOf
 some-bytes ext [] e = both true refl e
 some-bytes ext (p ∷ ps) e = omega arith
 
-module _ (m : Message) (l out after : List ℕ) (reach : ℕ) (p : PutRest m true l 0 0 out after reach)
+module _ (m : Message) (l out after : List ℕ) (reach : ℕ) (p : PutRest m 0 l 0 0 out after reach)
     (h : length l ≤ 32768) where
   verdict : chainVerdict l ≡ cond (shapely (runOf field l)) fine (refuse FieldRun)
   unfolding chainVerdict shaped
@@ -162,9 +174,9 @@ module _ (m : Message) (l out after : List ℕ) (reach : ℕ) (p : PutRest m tru
           absurd (omega (
             arith,
             p .reaches s,
-            framed-size m true (piecesOf l),
+            framed-size m 0 (piecesOf l),
             some-bytes
-                (length (extensionBytes (tagsFor (m .date)))) (piecesOf l) (pieces-some l),
+                (length (extensionBytes (tagsAt m 0))) (piecesOf l) (pieces-some l),
           ))
       go false s = rw (p .broken s .1) (by-refusal _ _ _ FieldRun (verdict ∙ rw s))
 

@@ -15,12 +15,13 @@ use Rattle.ftd.specs.Fields.{shaped}
 use Rattle.ftd.specs.Login.{loginHeader, loginBytes, endingBytes, loginVerdict, LoginLaws}
 use Rattle.ftd.specs.declared.refusal.Refusal.the-variants.{FieldRun}
 use Rattle.ftd.specs.declared.tags.TradeDate.{TradeDate}
+use Rattle.ftd.specs.declared.tags.PacketPlace.the-variants.{NoPlace}
 use Rattle.ftd.specs.declared.packet.Packet.the-variants.{Message}
 use Rattle.ftd.specs.declared.login.Ending.{Ending}
 use Rattle.ftd.specs.declared.login.Ending.the-variants.{Nothing, Resume}
 use Rattle.ftd.proofs.chain.Pieces.{shaped-facts}
 use Rattle.ftd.proofs.write.Laws.{message-places, dated-back, message-one}
-use Rattle.ftd.proofs.chain.Laws.{date-good, date-back}
+use Rattle.ftd.proofs.chain.Laws.{date-good, date-back, no-place}
 use Rattle.ftd.proofs.chain.Singles.{exact-shaped}
 use Rattle.ftd.proofs.resume.Content.{start-shaped}
 
@@ -46,10 +47,12 @@ module _ (d : TradeDate) (c : List ℕ) (h : shaped c 4080 ≡ true) where
         Message (loginHeader c) (span 4 (length (extensionBytes (tagsFor d))))
         (span (4 + length (extensionBytes (tagsFor d)) + 16) (length c));
     date = d;
+    place = NoPlace;
   }
   unfolding loginBytes
   login-back =
-      (rw append-nil at (dated-back (loginHeader c) (extensionBytes (tagsFor d)) c [] login-fine)) ∙ rw (date-back d)
+      (rw append-nil at (dated-back (loginHeader c) (extensionBytes (tagsFor d)) c [] login-fine))
+      ∙ rw (date-back d, no-place d)
 
   login-both : (notOnePacket (loginBytes d c) ≡ false) × (noMessagePacket (loginBytes d c) ≡ false)
   unfolding loginBytes

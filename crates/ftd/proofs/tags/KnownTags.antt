@@ -1,16 +1,16 @@
 -- The table of known tags, one row at a time. Assumes nothing.
-use Prim.Native.Nat.{ℕ, _+_, _<_, _≤_}
-use mathlib.Core.Path.{_≡_, refl}
+use Prim.Native.Nat.{ℕ, zero, suc, _+_, _<_, _≤_}
+use mathlib.Core.Path.{_≡_, refl, _∙_}
 use mathlib.Core.List.{List, map}
-use mathlib.Core.Bool.{true, cond}
+use mathlib.Core.Bool.{Bool, true, false, cond}
 use native.Mathlib.Numerals.{add-one}
 use native.Mathlib.Omega.{arith}
-use borrow.Author.Tests.{eq-eqb, ne-eqb}
+use borrow.Author.Tests.{eq-eqb, ne-eqb, ltb-true, ltb-false}
 use lib.ListN.{length, getD, drop, drop-of-length-le, List·getD-map}
 use lib.Seq.{drop-cons}
-use lib.Dec.{eqb}
+use lib.Dec.{ltb, eqb}
 use Rattle.ftd.specs.Tags.{KnownTag, knownTag, knownTags, rightIn, lengthRight}
-use Rattle.ftd.specs.Tags.Helpers.{KnownRow}
+use Rattle.ftd.specs.Tags.Helpers.{rowAt, KnownRow}
 
 -- The table in columns, as the code has it.
 unfoldable pub kinds : List ℕ
@@ -19,16 +19,16 @@ kinds = map (λ (k : KnownTag). k .kind) knownTags
 unfoldable pub lengths : List ℕ
 lengths = map (λ (k : KnownTag). k .size) knownTags
 
-seven : length knownTags ≡ 7
+eight : length knownTags ≡ 8
 unfolding knownTags
-seven = refl
+eight = refl
 
-row : (kind len i : ℕ) → i < 7 →
+row : (kind len i : ℕ) → i < 8 →
     rightIn (drop i knownTags) kind len ≡ cond (eqb (getD kinds i 0) kind) (eqb (getD lengths i 0) len)
     (rightIn (drop (i + 1) knownTags) kind len)
 unfolding kinds lengths
 row kind len i h =
-    let k : i < length knownTags = rw seven h in
+    let k : i < length knownTags = rw eight h in
     rw (
       List·getD-map (λ (r : KnownTag). r .kind) knownTags i (knownTag 0 0),
       List·getD-map (λ (r : KnownTag). r .size) knownTags i (knownTag 0 0),
@@ -38,28 +38,78 @@ row kind len i h =
 
 -- The search for a kind's row.
 module _ (kind i : ℕ) (inv : (len : ℕ) → rightIn (drop i knownTags) kind len ≡ lengthRight kind len) where
-  pub row-here : i < 7 → getD kinds i 0 ≡ kind → KnownRow kind i
+  pub row-here : i < 8 → getD kinds i 0 ≡ kind → KnownRow kind i
   unfolding kinds
   row-here h e = record { low = omega arith; here = λ w. e; same = inv }
 
-  pub row-turn : i < 7 → (getD kinds i 0 ≡ kind → ⊥) → (len : ℕ)
+  pub row-turn : i < 8 → (getD kinds i 0 ≡ kind → ⊥) → (len : ℕ)
       → rightIn (drop (i + 1) knownTags) kind len ≡ lengthRight kind len
   row-turn h e len = rw (row kind len i h, ne-eqb (getD kinds i 0) kind e) at (inv len)
 
-  pub row-end : i ≤ 7 → 7 ≤ i → KnownRow kind 7
+  pub row-end : i ≤ 8 → 8 ≤ i → KnownRow kind 8
   row-end a b =
-      let e : i ≡ 7 = omega arith in
+      let e : i ≡ 8 = omega arith in
       record { low = omega arith; here = λ w. absurd (omega arith); same = λ len. rw (← e) (inv len) }
+
+-- The first seven kinds are their rows.
+kind-first : (i : ℕ) → i < 7 → getD kinds i 0 ≡ i
+unfolding kinds knownTags
+kind-first zero h = refl
+kind-first (suc zero) h = refl
+kind-first (suc (suc zero)) h = refl
+kind-first (suc (suc (suc zero))) h = refl
+kind-first (suc (suc (suc (suc zero)))) h = refl
+kind-first (suc (suc (suc (suc (suc zero))))) h = refl
+kind-first (suc (suc (suc (suc (suc (suc zero)))))) h = refl
+kind-first (suc (suc (suc (suc (suc (suc (suc i))))))) h = absurd (omega arith)
+
+-- No row before that of a kind has it.
+passed : (kind n : ℕ) → n ≤ 7 → n ≤ kind → (len : ℕ) → rightIn (drop n knownTags) kind len ≡ lengthRight kind len
+unfolding lengthRight
+passed kind zero h k len = refl
+passed kind (suc n) h k len =
+    rw (← (add-one n))
+    (row-turn kind n (passed kind n (omega arith) (omega arith)) (omega arith)
+    (λ e. let f = kind-first n (omega arith) in omega arith) len)
+
+row-low : (kind : ℕ) → (rowAt kind ≤ 7) × (rowAt kind ≤ kind)
+unfolding rowAt
+row-low kind = go (ltb kind 7) refl
+  where
+    go : (b : Bool) → ltb kind 7 ≡ b → (cond b kind 7 ≤ 7) × (cond b kind 7 ≤ kind)
+    go true e = let h = ltb-true kind 7 e in (omega arith, omega arith)
+    go false e = let h = ltb-false kind 7 e in (omega arith, omega arith)
+
+module _ (kind r : ℕ) (e : r ≡ rowAt kind) where
+  pub row-is : getD kinds r 0 ≡ kind → KnownRow kind r
+  row-is k =
+      let low = row-low kind in
+      row-here kind r (passed kind r (omega arith) (omega arith)) (omega arith) k
+
+  pub row-none : (getD kinds r 0 ≡ kind → ⊥) → KnownRow kind 8
+  unfolding rowAt
+  row-none k = go (ltb kind 7) refl
+    where
+      go : (b : Bool) → ltb kind 7 ≡ b → KnownRow kind 8
+      go true q =
+          let h = ltb-true kind 7 q in
+          let s : r ≡ kind = e ∙ rw q in
+          absurd (k (rw s (kind-first kind h)))
+      go false q =
+          let h = ltb-false kind 7 q in
+          let s : r ≡ 7 = e ∙ rw q in
+          row-end kind 8 (row-turn kind 7 (passed kind 7 (omega arith) h) (omega arith) (rw s at k)) (omega arith)
+          (omega arith)
 
 -- What the row says of a length.
 module _ (kind len r : ℕ) (k : KnownRow kind r) where
-  pub right-over : r ≡ 7 → true ≡ lengthRight kind len
+  pub right-over : r ≡ 8 → true ≡ lengthRight kind len
   right-over e =
-      let b : length knownTags ≤ r = rw (seven, e) (omega arith) in
+      let b : length knownTags ≤ r = rw (eight, e) (omega arith) in
       rw (drop-of-length-le knownTags b) at (k .same len)
 
-  pub right-row : (r ≡ 7 → ⊥) → eqb (getD lengths r 0) len ≡ lengthRight kind len
+  pub right-row : (r ≡ 8 → ⊥) → eqb (getD lengths r 0) len ≡ lengthRight kind len
   unfolding kinds
   right-row e =
-      let h : r < 7 = omega (arith, k .low) in
+      let h : r < 8 = omega (arith, k .low) in
       rw (row kind len r h, eq-eqb (getD kinds r 0) kind (k .here h)) at (k .same len)

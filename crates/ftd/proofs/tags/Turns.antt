@@ -10,7 +10,7 @@ use lib.ListN.{length, getD, take, drop, length-drop}
 use lib.Seq.{getD-drop}
 use lib.Dec.{leb}
 use Rattle.ftd.specs.Runs.{front, Run, inFront, runOf, ended}
-use Rattle.ftd.specs.Tags.{tag, lengthRight, allRight, countDate, dates, goodRun, tagIn}
+use Rattle.ftd.specs.Tags.{tag, lengthRight, allRight, countKind, times, goodRun, tagIn}
 use Rattle.ftd.specs.declared.tags.TagPlace.{TagPlace}
 use Rattle.ftd.specs.declared.tags.TagPlace.the-variants.{NoTag, Data}
 use Rattle.ftd.proofs.runs.Laws.{run-over, run-next, entry-head, entry-length}
@@ -31,15 +31,16 @@ unfolding tag
 some-tag = omega arith
 
 -- A tag of the right length is taken off a run.
-good-behind : (e : List ℕ) (r : Run) (k m kind len : ℕ) (t : Bool) → getD e 0 0 ≡ kind → getD e 1 0 ≡ len
+good-behind : (e : List ℕ) (r : Run) (k m i j kind len : ℕ) (t : Bool) → getD e 0 0 ≡ kind → getD e 1 0 ≡ len
     → lengthRight kind len ≡ true
-    → m ≡ countDate kind k → goodRun (inFront e r) k ≡ t → goodRun r m ≡ t
-good-behind e r k m kind len t p q w c g =
+    → m ≡ countKind 0x05 kind k → j ≡ countKind 0x70 kind i → goodRun (inFront e r) k i ≡ t → goodRun r m j ≡ t
+good-behind e r k m i j kind len t p q w c d g =
     let h : (ended r
     && ((lengthRight (getD e 0 0) (getD e 1 0) && allRight (r .entries))
-    && leb (dates (r .entries) (countDate (getD e 0 0) k)) 1)) ≡ t =
+    && (leb (times 0x05 (r .entries) (countKind 0x05 (getD e 0 0) k)) 1
+    && leb (times 0x70 (r .entries) (countKind 0x70 (getD e 0 0) i)) 1))) ≡ t =
     g in
-    rw c (rw (p, q, w) at h)
+    rw (c, d) (rw (p, q, w) at h)
 
 module _ (l : List ℕ) (at n : ℕ) (e : n ≡ front tag (drop at l)) where
   -- A tag has its head.
@@ -53,11 +54,12 @@ module _ (l : List ℕ) (at n : ℕ) (e : n ≡ front tag (drop at l)) where
   length-at : (n ≡ 0 → ⊥) → getD (take n (drop at l)) 1 0 ≡ getD l (at + 1) 0
   length-at z = entry-byte l at n 1 (omega (arith, tag-head z))
 
-  module _ (k : ℕ) (t : Bool) (inv : goodRun (runOf tag (drop at l)) k ≡ t) where
+  -- k trade dates and i places were seen before.
+  module _ (k i : ℕ) (t : Bool) (inv : goodRun (runOf tag (drop at l)) k i ≡ t) where
     pub tags-stop : n ≡ 0 → at < length l → false ≡ t
     tags-stop z h = rw (run-over tag some-tag l at n e z, not-ended l at h) at inv
 
-    pub tags-end : n ≡ 0 → length l ≤ at → leb k 1 ≡ t
+    pub tags-end : n ≡ 0 → length l ≤ at → (leb k 1 && leb i 1) ≡ t
     tags-end z h = rw (run-over tag some-tag l at n e z, is-ended l at h) at inv
 
     pub tags-wrong : (n ≡ 0 → ⊥) → (r : Bool) → r ≡ lengthRight (getD l at 0) (getD l (at + 1) 0) → r ≡ false
@@ -66,11 +68,12 @@ module _ (l : List ℕ) (at n : ℕ) (e : n ≡ front tag (drop at l)) where
         sym (and-false (ended (runOf tag (drop (at + n) l))))
         ∙ (rw (run-next tag some-tag l at n e z, kind-at z, length-at z, ← q, w) at inv)
 
-    pub tags-turn : (m : ℕ) → (n ≡ 0 → ⊥) → (r : Bool) → r ≡ lengthRight (getD l at 0) (getD l (at + 1) 0) → r ≡ true
-        → m ≡ countDate (getD l at 0) k → goodRun (runOf tag (drop (at + n) l)) m ≡ t
-    tags-turn m z r q w d =
-        good-behind (take n (drop at l)) (runOf tag (drop (at + n) l)) k m (getD l at 0) (getD l (at + 1) 0) t
-        (kind-at z) (length-at z) (sym q ∙ w) d
+    pub tags-turn : (m j : ℕ) → (n ≡ 0 → ⊥) → (r : Bool) → r ≡ lengthRight (getD l at 0) (getD l (at + 1) 0)
+        → r ≡ true → m ≡ countKind 0x05 (getD l at 0) k → j ≡ countKind 0x70 (getD l at 0) i
+        → goodRun (runOf tag (drop (at + n) l)) m j ≡ t
+    tags-turn m j z r q w d p =
+        good-behind (take n (drop at l)) (runOf tag (drop (at + n) l)) k m i j (getD l at 0) (getD l (at + 1) 0) t
+        (kind-at z) (length-at z) (sym q ∙ w) d p
         (rw (run-next tag some-tag l at n e z) at inv)
 
   module _ (kind : ℕ) (t : TagPlace) (inv : tagIn at (runOf tag (drop at l) .entries) kind ≡ t) where

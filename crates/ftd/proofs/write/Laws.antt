@@ -10,12 +10,12 @@ use lib.ListN.{length, getD, take, drop, length-append, length-take, length-drop
 use lib.Seq.{drop-at, take-length, take-add, drop-drop, getD-drop, take-append-seam}
 use lib.Dec.{ltb, eqb}
 use Rattle.ftd.specs.Bytes.{be16Of, be32Of, part, Bytes, bytes16, bytes32}
-use Rattle.ftd.specs.Tags.{goodTags, tradeDateOf}
+use Rattle.ftd.specs.Tags.{goodTags, tradeDateOf, packetPlaceOf}
 use Rattle.ftd.specs.Fields.{exactRun}
 use Rattle.ftd.specs.Packet.{kindOf, extensionLength, bodyLength, saidLength, extensionOf, versionOf, tidOf}
 use Rattle.ftd.specs.Packet.{letterOf, seriesOf, messageNumberOf, fieldCountOf, contentLengthOf, contentOf}
 use Rattle.ftd.specs.Packet.{wrongBody, isSkipped, isLetter, chainOf, chainLetter, span, headerOf, acceptedOf}
-use Rattle.ftd.specs.Packet.{messageOf, wholeOf, readOf, withDate, datedOf, isShort, notOnePacket}
+use Rattle.ftd.specs.Packet.{messageOf, wholeOf, readOf, withTags, datedOf, isShort, notOnePacket}
 use Rattle.ftd.specs.Packet.{noMessagePacket}
 use Rattle.ftd.specs.Packet.Helpers.{SaysLengths}
 use Rattle.ftd.specs.Write.{frameHead, packetBytes, headerBytes, messageBytes, Verdict, fine, refuse, other}
@@ -438,8 +438,9 @@ module _ (h : Header) (extension content : List ℕ) where
       ≡ record {
         packet = Message h (span 4 (length extension)) (span (4 + length extension + 16) (length content));
         date = tradeDateOf extension;
+        place = packetPlaceOf extension;
       }
-  unfolding datedOf withDate
+  unfolding datedOf withTags
   dated-back q v = rw (message-back q v, extension-read q)
 
   -- It is one packet, and a message packet.

@@ -14,7 +14,7 @@ use Rattle.ftd.specs.Write.{frameHead, packetBytes, headerBytes, message
 use Rattle.ftd.specs.Write.{other, writtenAnswer, writtenOutput}
 use Rattle.ftd.specs.declared.refusal.Refusal.{Refusal}
 use Rattle.ftd.specs.declared.refusal.Refusal.the-variants.{TooSmall}
-use Rattle.ftd.specs.Tags.{extensionBytes, tagsFor}
+use Rattle.ftd.specs.Tags.{extensionBytes, tagBytes, tagsFor, placeTag}
 use Rattle.ftd.specs.Resume.{resumeBytes}
 use Rattle.ftd.specs.declared.tags.TradeDate.the-variants.{At}
 use Rattle.ftd.specs.declared.write.Written.{Written}
@@ -163,6 +163,13 @@ pub date-put : (l o1 o2 o3 : List ℕ) (to d : ℕ) → to ≤ length l → o1 �
 date-put l o1 o2 o3 to d h b1 b2 b3 =
     then l o2 o3 to (to + 2) (5 ∷ 4 ∷ []) (bytes32 d) h refl (then l o1 o2 to (to + 1) (5 ∷ []) (4 ∷ []) h refl b1 b2)
     b3
+
+-- The packet's place.
+pub place-put : (l o1 o2 o3 : List ℕ) (to j : ℕ) → to + 4 ≤ length l → o1 ≡ put l to (0x70 ∷ [])
+    → o2 ≡ put o1 (to + 1) (2 ∷ []) → o3 ≡ put o2 (to + 2) (bytes16 j) → o3 ≡ put l to (tagBytes (placeTag j))
+place-put l o1 o2 o3 to j h b1 b2 b3 =
+    then l o2 o3 to (to + 2) (0x70 ∷ 2 ∷ []) (bytes16 j) (omega arith) refl
+    (then l o1 o2 to (to + 1) (0x70 ∷ []) (2 ∷ []) (omega arith) refl b1 b2) b3
 
 -- The start field.
 pub resume-put : (l o1 o2 o3 o4 : List ℕ) (to series number : ℕ) → to ≤ length l → o1 ≡ put l to (bytes32 4)

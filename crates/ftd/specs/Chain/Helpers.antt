@@ -37,25 +37,26 @@ pub record NextPiece (content : List ℕ) (at : ℕ) (c : Cut) : Type 0 where
   pub left : shapely (runOf field (drop (c .end) content)) ≡ shapely (runOf field (drop at content))
   pub stuck : c .end ≡ at → c .end < length content → shapely (runOf field (drop at content)) ≡ false
 
--- Piece i of a content starts at a place and is the first piece from there on; or there are no more than i.
+-- Piece i of a content starts at a place and is the first piece from there on, and each piece before it has a byte; or
+-- there are no more than i.
 abbrev pub FoundPiece : List ℕ → ℕ → PiecePlace → Type 0
 FoundPiece content i NoPiece = length (piecesOf content) ≤ i
 FoundPiece content i (Found at c) =
     NextPiece content at c × (shapely (runOf field (drop at content)) ≡ true)
-    × (drop i (piecesOf content) ≡ piecesOf (drop at content))
+    × (drop i (piecesOf content) ≡ piecesOf (drop at content)) × (i ≤ at)
 
--- The packets of a content from a place on, at a place of the output: how far they reach, 0 where the content is not
--- shapely from there on; they are put where they fit, and otherwise the output stays.
-abbrev pub restOf : Message → Bool → List ℕ → ℕ → List ℕ
-restOf m first content at = joined (framed m first (piecesOf (drop at content)))
+-- The packets of a content from a place on, packet j first, at a place of the output: how far they reach, 0 where the
+-- content is not shapely from there on; they are put where they fit, and otherwise the output stays.
+abbrev pub restOf : Message → ℕ → List ℕ → ℕ → List ℕ
+restOf m j content at = joined (framed m j (piecesOf (drop at content)))
 
-pub record PutRest (m : Message) (first : Bool) (content : List ℕ) (at to : ℕ) (before after : List ℕ)
+pub record PutRest (m : Message) (j : ℕ) (content : List ℕ) (at to : ℕ) (before after : List ℕ)
     (reach : ℕ) : Type 0 where
   pub broken : shapely (runOf field (drop at content)) ≡ false → (reach ≡ 0) × (after ≡ before)
-  pub reaches : shapely (runOf field (drop at content)) ≡ true → reach ≡ to + length (restOf m first content at)
+  pub reaches : shapely (runOf field (drop at content)) ≡ true → reach ≡ to + length (restOf m j content at)
   pub stays : shapely (runOf field (drop at content)) ≡ true → length before < reach → after ≡ before
   pub puts : shapely (runOf field (drop at content)) ≡ true → reach ≤ length before
-      → after ≡ put before to (restOf m first content at)
+      → after ≡ put before to (restOf m j content at)
 
 -- The bytes of packets with an extension of so many: four, the extension, the header's sixteen and the piece.
 abbrev pub sizeOf : ℕ → List Piece → ℕ

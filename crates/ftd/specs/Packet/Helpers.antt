@@ -5,6 +5,10 @@ use mathlib.Core.List.{List}
 use Rattle.ftd.specs.Packet.{extensionLength, bodyLength}
 use Rattle.ftd.specs.declared.fields.FieldPlace.{FieldPlace}
 use Rattle.ftd.specs.declared.fields.FieldPlace.the-variants.{NoField, Field}
+use Rattle.ftd.specs.declared.tags.TradeDate.the-variants.{None}
+use Rattle.ftd.specs.declared.tags.PacketPlace.the-variants.{NoPlace}
+use Rattle.ftd.specs.declared.packet.Packet.{Packet}
+use Rattle.ftd.specs.declared.packet.Dated.{Dated}
 
 -- The lengths of extension and body are those that the four say.
 abbrev pub SaysLengths : List ℕ → ℕ → ℕ → Type 0
@@ -13,3 +17,7 @@ SaysLengths p ext body = (ext ≡ extensionLength p) × (body ≡ bodyLength p)
 abbrev pub FitsIn : ℕ → FieldPlace → Type 0
 FitsIn room NoField = Unit
 FitsIn room (Field fid start len) = start + len ≤ room
+
+-- What bears neither trade date nor place.
+abbrev pub untagged : Packet → Dated
+untagged packet = record { packet = packet; date = None; place = NoPlace }

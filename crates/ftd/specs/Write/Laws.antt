@@ -7,7 +7,7 @@ use mathlib.Core.List.{List, [], _++_}
 use mathlib.Core.Bool.{false, cond}
 use lib.ListN.{length, take}
 use Rattle.ftd.specs.Bytes.{Bytes, part}
-use Rattle.ftd.specs.Tags.{tradeDateOf}
+use Rattle.ftd.specs.Tags.{tradeDateOf, packetPlaceOf}
 use Rattle.ftd.specs.Packet.{saidLength, notOnePacket, noMessagePacket, isSkipped, span, readOf, datedOf}
 use Rattle.ftd.specs.Write.{packetBytes, messageBytes, fine, refuse, plainVerdict, messageVerdict}
 use Rattle.ftd.specs.declared.refusal.Refusal.{Refusal}
@@ -33,12 +33,13 @@ pub record WriteLaws : Type 0 where
   pub message-places : (h : Header) (extension content q : List ℕ)
       → (part (messageBytes h extension content ++ q) 4 (length extension) ≡ extension)
       × (part (messageBytes h extension content ++ q) (4 + length extension + 16) (length content) ≡ content)
-  -- The same with the trade date, as one answer; and what was written is one packet, and a message packet.
+  -- The same with the trade date and the place, as one answer; and what was written is one packet, and a message packet.
   pub dated-back : (h : Header) (extension content q : List ℕ) → messageVerdict h extension content ≡ fine
       → datedOf (messageBytes h extension content ++ q)
       ≡ record {
         packet = Message h (span 4 (length extension)) (span (4 + length extension + 16) (length content));
         date = tradeDateOf extension;
+        place = packetPlaceOf extension;
       }
   pub one-packet : (h : Header) (extension content : List ℕ) → messageVerdict h extension content ≡ fine
       → (notOnePacket (messageBytes h extension content) ≡ false)

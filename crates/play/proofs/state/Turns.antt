@@ -14,7 +14,7 @@ use Rattle.listing.proofs.Numbers.{digits-most}
 use Rattle.listing.proofs.Texts.{wrote-both, put-none}
 use Rattle.play.specs.Lines.{numbered, none}
 use Rattle.play.specs.State.{dateText, linesUpTo, shownPlaces, nextText, outWord, loginText, isIn, isOut}
-use Rattle.play.specs.State.{chainText, chainWord, noChain}
+use Rattle.play.specs.State.{heldText, chainText, noChain}
 
 -- A number of eight bytes has at most 20 digits.
 pub decimal-fits : (x at m : ℕ) → x < 18446744073709551616 → at + 20 ≤ m → at + length (decimalOf x) ≤ m
@@ -47,14 +47,15 @@ module _ {l o : List ℕ} {at to : ℕ} where
   unfolding loginText
   login-out b e q = rw e q
 
-  pub chain-held : (b : Bool) (n : ℕ) → b ≡ true → WroteText l at (numbered chainWord n) o to
-      → WroteText l at (chainText b n) o to
+  pub chain-held : (b : Bool) (n m : ℕ) → b ≡ true → WroteText l at (heldText n m) o to
+      → WroteText l at (chainText b n m) o to
   unfolding chainText
-  chain-held b n e q = rw e q
+  chain-held b n m e q = rw e q
 
-  pub chain-none : (b : Bool) (n : ℕ) → b ≡ false → WroteText l at noChain o to → WroteText l at (chainText b n) o to
+  pub chain-none : (b : Bool) (n m : ℕ) → b ≡ false → WroteText l at noChain o to
+      → WroteText l at (chainText b n m) o to
   unfolding chainText
-  chain-none b n e q = rw e q
+  chain-none b n m e q = rw e q
 
 -- ─── Line behind line ───
 

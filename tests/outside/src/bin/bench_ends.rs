@@ -4,7 +4,7 @@
 use outside::bench::Bench;
 use outside::ends::{Receiver, Sender, HANDED_ON, SEVERAL_END};
 use outside::several::record;
-use reader::cut::{write_message, Header};
+use reader::cut::{write_sent, Header};
 use reader::generate::{known_field_bytes, raw_field, Random};
 use reader::items::known_field;
 use reader::packet::{said_length, u16_at, u32_at};
@@ -123,7 +123,7 @@ fn day(messages: u32, tid: u32, content: &[u8], next: u64) -> Day {
 /// The packets of a message.
 fn packets(number: u32, content: &[u8]) -> Vec<Vec<u8>> {
     let mut out = vec![];
-    write_message(&mut out, &Header { tid: TID, series: 2, number, mark: Some(DAY) }, content).expect("content");
+    write_sent(&mut out, &Header { tid: TID, series: 2, number, mark: Some(DAY) }, content).expect("content");
     let (mut rest, mut all) = (&out[..], vec![]);
     while let Some(length) = said_length(rest) {
         all.push(rest[..length].to_vec());

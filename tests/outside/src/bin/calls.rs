@@ -34,6 +34,7 @@ fn main() {
         lists.calls as f64 / seconds
     );
     println!("messages sent packet by packet, and what broke the others off: {:?}", lists.transmissions);
+    println!("single packets of the message wanted next, in honest lists: {:?}", lists.singles);
     for ((call, name, row), n) in &lists.answers {
         match row {
             0 => println!("  {call}: {name} {n}"),

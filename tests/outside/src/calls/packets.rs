@@ -1,7 +1,7 @@
 //! One packet a call in the lists (document 02, No. 4): messages sent packet by packet, finished and broken off, with calls of the
 //! serving end between; what the line then has of them; and logs that are altered between two packets.
 
-use super::{plain, room, Bytes, Kind, Lists, Transmission};
+use super::{plain, room, Bytes, Kind, Lists, Transmission, MOST_OUTPUT, MOST_PACKET};
 use crate::history::Delivery;
 use reader::generate::Random;
 use reader::packet::{fields, u16_at, u32_at, FIELD_HEADER};
@@ -70,14 +70,14 @@ impl Lists {
         };
         self.note("Send packet", name, &answer);
         self.none_left(series, matches!(answer, Ok(None)))?;
-        if answer == Err(20) && start.send(series, &self.world.logs[0][..log], &mut [0; 33_210]).refusal == 0 {
+        if answer == Err(20) && start.send(series, &self.world.logs[0][..log], &mut [0; MOST_OUTPUT]).refusal == 0 {
             *self.transmissions.entry("20 for want of the packet").or_default() += 1;
         }
         let Ok(Some(OnePacket { number, last })) = answer else { return Ok(false) };
         let (packet, place): (Bytes, usize) = (self.world.written[..].into(), self.line.messages.len());
         let (place, _) = self.line.unfinished.entry(series).or_insert_with(|| {
             // The library's own whole Send, in place of this packet.
-            let mut whole = vec![0; 33_210];
+            let mut whole = vec![0; MOST_OUTPUT];
             let sent = start.send(series, &self.world.logs[0], &mut whole);
             whole.truncate(sent.bytes);
             (place, whole.into())
@@ -170,7 +170,7 @@ impl Lists {
         let place = self.line.messages.len();
         let most = if by_packets == 2 { usize::MAX } else { by_packets };
         for i in 0..most {
-            if !self.send_packet_with(series, log, 4106)? {
+            if !self.send_packet_with(series, log, MOST_PACKET)? {
                 return Ok(false);
             }
             self.hand_over_with(place, i, all)?;
@@ -179,7 +179,7 @@ impl Lists {
             }
         }
         let place = self.line.messages.len();
-        if !self.send_with(series, log, 33_210)? {
+        if !self.send_with(series, log, MOST_OUTPUT)? {
             return Ok(false);
         }
         let Transmission { packets, sent } = self.line.messages[place].clone();

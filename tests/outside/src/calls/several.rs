@@ -22,14 +22,15 @@ impl Lists {
         self.note(call, NAMES[usize::from(answer)], &said);
     }
 
-    /// What a line brings: messages that were sent, some broken off, and other packets between them; where packets are damaged or
-    /// made up, such ones too. Gives the bytes, and what is delivered with them.
+    /// What a line brings: messages that were sent, some broken off, single packets, and other packets between them; where packets
+    /// are damaged or made up, such ones too. Gives the bytes, and what is delivered with them.
     fn brought(&self, r: &mut Random) -> (Vec<u8>, Vec<Delivery>) {
         let (mut bytes, mut whole) = (vec![], vec![]);
         for _ in 0..r.within(1, 5) {
             match r.below(8) {
                 0 => bytes.extend(r.pick(&[&[0, 2, 0, 0, 4, 0][..], &[1, 0, 0, 0], &[7, 0, 0, 1, 0]])),
                 1 | 2 if self.kind != Kind::Honest => bytes.extend(self.made_up_packet(r)),
+                3 => bytes.extend(self.single_packets(r).concat()),
                 _ => {
                     let Some(one) = late(r, &self.line.messages) else { continue };
                     let count = if r.once_in(5) { r.below(one.packets.len() + 1) } else { one.packets.len() };

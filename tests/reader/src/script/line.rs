@@ -1,12 +1,13 @@
 //! Both ends over a faulty line: what one end printed is given to the other, lost, repeated, late, out of order, broken off.
-//! Packets that are given are copies of printed ones, those of a message as a run from its first on. Messages are sent whole
-//! or packet by packet; the packets of an unfinished one are given as soon as they are printed.
+//! Packets that are given are copies of printed ones: those of a message as a run from its first on, or single ones in any
+//! order and number, of all transmissions of the message (02, No. 10). Messages are sent whole or packet by packet; the
+//! packets of an unfinished one are given as soon as they are printed.
 
 use super::parts::*;
 use super::receiving::SERIES;
 use super::{Script, ROOM};
 use crate::generate::Random;
-use crate::packet::said_length;
+use crate::packet::{read, said_length, Packet};
 use std::collections::BTreeMap;
 
 /// What the line has seen: login packets, answers with the series of their login, messages sent as lists of packets, of
@@ -61,7 +62,7 @@ fn late<T: Clone>(r: &mut Random, all: &[T]) -> Option<T> {
 /// Days from a first mark on, over one receiving end, which is opened if it isn't yet. At the end of each day all has
 /// arrived.
 pub fn faulty_line(s: &mut Script, first: u32) {
-    let mut r = Random::new(34);
+    let mut r = Random::new(197);
     let mut line = Line::default();
     if s.receiving.open.is_empty() {
         // Before the receiving end has its series, nothing arrives.
@@ -89,10 +90,10 @@ pub fn faulty_line(s: &mut Script, first: u32) {
     }
 }
 
-/// A call, or a run of packets, by chance.
+/// A call, a run of packets or some single ones, by chance.
 fn a_step(s: &mut Script, r: &mut Random, line: &mut Line, series: &[u16]) {
     let one = series[r.below(series.len())];
-    match r.below(20) {
+    match r.below(21) {
         0..=2 => publish(s, r, one),
         3..=4 => ask(s, line, one),
         5..=6 => {
@@ -116,6 +117,7 @@ fn a_step(s: &mut Script, r: &mut Random, line: &mut Line, series: &[u16]) {
             }
         }
         18 => refused(s, r, one),
+        19 => singles(s, r, line),
         // A whole login without a fault.
         _ => whole_login(s, line, one),
     }
@@ -189,6 +191,51 @@ fn run(s: &mut Script, r: &mut Random, line: &mut Line) {
         if r.once_in(12) {
             let series = s.serving.day.expect("a day").open[0].series;
             between(s, r, line, series);
+        }
+    }
+}
+
+/// Single packets of a message of several, of any of its transmissions: lost, repeated, late, and mostly the next one. Often
+/// it is the message that is wanted next.
+fn singles(s: &mut Script, r: &mut Random, line: &mut Line) {
+    let wanted = |packet: &[u8]| match read(packet) {
+        Packet::Message(one) => s.receiving.open.iter().any(|kept| {
+            kept.series == one.series && kept.mark == one.mark && kept.last + 1 == one.number && kept.logged_in
+        }),
+        _ => false,
+    };
+    let long: Vec<usize> = (0..line.messages.len()).filter(|&place| line.messages[place].1.len() > 1).collect();
+    let next: Vec<usize> = long.iter().copied().filter(|&place| wanted(&line.messages[place].1[0])).collect();
+    let of = if next.is_empty() || r.once_in(4) { long } else { next };
+    let Some((series, first)) =
+        late_place(r, of.len()).map(|i| &line.messages[of[i]]).map(|of| (of.0, of.1[0].clone()))
+    else {
+        return;
+    };
+    let mut next = 0usize;
+    for _ in 0..r.within(2, 7) {
+        match r.below(9) {
+            0 => next += 1,
+            1 => next = next.saturating_sub(1),
+            2 => next = r.below(next + 3),
+            _ => {}
+        }
+        let of: Vec<&Vec<Vec<u8>>> = line.messages.iter().map(|of| &of.1).filter(|of| of[0] == first).collect();
+        let Some(packet) = of[r.below(of.len())].get(next).cloned() else { continue };
+        s.received(&packet);
+        next += 1;
+        match r.below(20) {
+            0 => between(s, r, line, series),
+            1 => ask(s, line, series),
+            // A packet of another series.
+            2 => {
+                let others: Vec<&Vec<u8>> =
+                    line.messages.iter().filter(|of| of.0 != series).map(|of| &of.1[0]).collect();
+                if let Some(packet) = late_place(r, others.len()).map(|i| others[i].clone()) {
+                    s.received(&packet);
+                }
+            }
+            _ => {}
         }
     }
 }

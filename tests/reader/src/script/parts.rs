@@ -2,7 +2,7 @@
 
 use crate::generate::{known_field_bytes, raw_field, Random};
 use crate::items::known_field;
-use crate::packet::{FIELD_HEADER, TRADE_DATE};
+use crate::packet::{FIELD_HEADER, PLACE, TRADE_DATE};
 use crate::serving::LOGIN;
 use crate::start::start_field_bytes;
 
@@ -76,6 +76,13 @@ impl Parts {
     /// A packet of a message of unknown TID.
     pub fn piece(mark: Option<u32>, series: u16, number: u32, chain: u8, content: &[Vec<u8>]) -> Self {
         Parts { tid: STRANGE, series, number, chain, ..Parts::new(mark, None).with(content) }
+    }
+
+    /// With a place (02, No. 10) behind the other tags.
+    pub fn placed(mut self, place: u16) -> Self {
+        self.extension.extend([PLACE, 2]);
+        self.extension.extend(place.to_be_bytes());
+        self
     }
 
     /// Other content, with the counts that belong to it.

@@ -397,7 +397,7 @@ fn kept_chains(s: &mut Script) {
     s.receive(&part(3, b'C', 6), "held 0");
     s.states(
         "serving 20041234 39\nseries 1 published 2 next 3 piece 0\nreceiving 4\nseries 7 none last 0 out chain none\n\
-         series 1 501 last 0 in chain 20\nseries 3 501 last 0 in chain 22\nseries 9 7 last 1 in chain none",
+         series 1 501 last 0 in chain 20 2\nseries 3 501 last 0 in chain 22 2\nseries 9 7 last 1 in chain none",
     );
     s.receive(&part(9, b'S', 1), "again 1");
     s.receive(&part(7, b'F', 1), "refused 14");

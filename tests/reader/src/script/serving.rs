@@ -50,7 +50,7 @@ fn openings(s: &mut Script) {
     s.open(4, &[], "refused 11");
     s.open(6, &[0], "refused 11");
     // A refused opening leaves day, log and logins.
-    s.send(300, ROOM, "sent 35");
+    s.send(300, ROOM, "sent 39");
     s.send(300, ROOM, "none");
     s.publish(300, STRANGE, &[], "published 2");
     // An opening empties log and logins; a series that it doesn't name is closed.
@@ -60,8 +60,8 @@ fn openings(s: &mut Script) {
     s.publish(300, STRANGE, &[], "published 1");
 }
 
-/// The biggest message there is (02, No. 5): each field a packet of its own, 17 packets of 33,210 bytes together; an output of one
-/// byte less is too small.
+/// The biggest message there is (02, No. 5): each field a packet of its own, 17 packets of 33,278 bytes together with
+/// their places; an output of one byte less is too small.
 pub fn biggest(s: &mut Script) {
     let answer = right(ANSWER);
     let mut content: Vec<u8> = (0..8).flat_map(|_| [plain(0), plain(4069)].concat()).collect();
@@ -69,9 +69,9 @@ pub fn biggest(s: &mut Script) {
     s.open(1_000_000_000, &[9], "opened");
     s.publish(9, STRANGE, &content, "published 1");
     s.login(9, ROOM, &asking(None, Some((9, 1))), &answer, &format!("login {}", 26 + answer.len()));
-    s.send(9, 33_209, "refused 18");
-    s.send(9, 33_210, "sent 33210");
-    s.send(9, 33_210, "none");
+    s.send(9, 33_277, "refused 18");
+    s.send(9, 33_278, "sent 33278");
+    s.send(9, 33_278, "none");
 }
 
 /// Marks up to the highest; no day comes behind it.
@@ -151,22 +151,22 @@ fn login_starts(s: &mut Script) {
     s.login(1, ROOM, &asking(Some(DAY), Some((1, u32::MAX))), &answer, "refused 19");
     // Next 1, in the middle, and the last one; a login again moves the start.
     s.login(1, ROOM, &asking(Some(DAY), Some((1, 1))), &answer, &taken);
-    s.send(1, ROOM, "sent 32");
-    s.login(1, ROOM, &asking(Some(DAY), Some((1, 3))), &answer, &taken);
-    s.send(1, ROOM, "sent 35");
     s.send(1, ROOM, "sent 36");
+    s.login(1, ROOM, &asking(Some(DAY), Some((1, 3))), &answer, &taken);
+    s.send(1, ROOM, "sent 39");
+    s.send(1, ROOM, "sent 40");
     s.send(1, ROOM, "none");
     s.login(1, ROOM, &asking(None, Some((1, 4))), &answer, &taken);
-    s.send(1, ROOM, "sent 36");
+    s.send(1, ROOM, "sent 40");
     s.login(1, ROOM, &asking(Some(DAY), None), &answer, &taken);
-    s.send(1, ROOM, "sent 32");
+    s.send(1, ROOM, "sent 36");
     // A lower mark starts at 1, whatever the number says.
     for number in [0, 1, 3, 6, u32::MAX] {
         s.login(1, ROOM, &asking(Some(DAY - 1), Some((1, number))), &answer, &taken);
-        s.send(1, ROOM, "sent 32");
+        s.send(1, ROOM, "sent 36");
     }
     s.login(1, ROOM, &asking(Some(0), None), &answer, &taken);
-    s.send(1, ROOM, "sent 32");
+    s.send(1, ROOM, "sent 36");
     // A higher mark; the start field of another series, whatever the mark; a series that isn't open.
     s.login(1, ROOM, &asking(Some(DAY + 1), Some((1, 1))), &answer, "refused 15");
     s.login(1, ROOM, &asking(Some(u32::MAX), None), &answer, "refused 15");
@@ -178,8 +178,8 @@ fn login_starts(s: &mut Script) {
     // Another series has its own login.
     s.send(2, ROOM, "refused 14");
     s.login(2, ROOM, &asking(None, None), &answer, &taken);
-    s.send(2, ROOM, "sent 34");
-    s.send(1, ROOM, "sent 33");
+    s.send(2, ROOM, "sent 38");
+    s.send(1, ROOM, "sent 37");
 }
 
 /// Login's packet and content, wrong in one way each.
@@ -297,7 +297,7 @@ fn login_orders(s: &mut Script) {
     s.login(1, ROOM, &far.bytes(), &answer, "refused 16");
     s.login(2, ROOM, &asking(Some(DAY), Some((1, 99))), &answer, "refused 13");
     // What was refused changed nothing: the login of before stands.
-    s.send(1, ROOM, "sent 32");
+    s.send(1, ROOM, "sent 36");
 }
 
 fn sends(s: &mut Script) {
@@ -320,27 +320,27 @@ fn sends(s: &mut Script) {
     s.login(7, ROOM, &asking(None, None), &answer, &taken);
     s.send(7, 0, "none");
     // Short ones: an output one byte too small, then exactly as long.
-    s.send(1, 25, "refused 18");
-    s.send(1, 26, "sent 26");
+    s.send(1, 29, "refused 18");
+    s.send(1, 30, "sent 30");
     // P12: one packet, then two.
-    s.send(1, 4105, "refused 18");
-    s.send(1, 4106, "sent 4106");
-    s.send(1, 4132, "refused 18");
-    s.send(1, 4106, "refused 18");
-    s.send(1, 4133, "sent 4133");
+    s.send(1, 4109, "refused 18");
+    s.send(1, 4110, "sent 4110");
+    s.send(1, 4140, "refused 18");
+    s.send(1, 4110, "refused 18");
+    s.send(1, 4141, "sent 4141");
     // Three packets, F, C and L.
-    s.send(1, 8349, "refused 18");
+    s.send(1, 8361, "refused 18");
     s.send(1, 0, "refused 18");
-    s.send(1, ROOM, "sent 8350");
+    s.send(1, ROOM, "sent 8362");
     s.send(1, ROOM, "none");
     s.send(1, 0, "none");
     // A message published behind "none" is sent next; the other series goes its own way.
     s.publish(1, 0x2004, &[], "published 5");
-    s.send(1, ROOM, "sent 26");
+    s.send(1, ROOM, "sent 30");
     s.send(1, ROOM, "none");
     s.send(2, ROOM, "refused 14");
     s.login(2, ROOM, &asking(None, Some((2, 2))), &answer, &taken);
-    s.send(2, ROOM, &format!("sent {}", 26 + right(MATCH).len()));
+    s.send(2, ROOM, &format!("sent {}", 30 + right(MATCH).len()));
     s.send(2, ROOM, "none");
 }
 
@@ -351,8 +351,8 @@ fn full_log(s: &mut Script) {
     assert_eq!(largest.len(), 32_768);
     s.publish(1, STRANGE, &largest, "published 1");
     s.login(1, ROOM, &asking(None, None), &right(ANSWER), &format!("login {}", 26 + right(ANSWER).len()));
-    s.send(1, 32_768 + 9 * 26 - 1, "refused 18");
-    s.send(1, 32_768 + 9 * 26, "sent 33002");
+    s.send(1, 32_768 + 9 * 30 - 1, "refused 18");
+    s.send(1, 32_768 + 9 * 30, "sent 33038");
     // One byte too many for what is left, then exactly as many; then nothing fits.
     let left = LOG - 16 - largest.len();
     let fill = |n: usize| [plain(4074), plain(n - 16 - 4080 - 6)].concat();
@@ -365,13 +365,13 @@ fn full_log(s: &mut Script) {
     s.publish(1, MATCHES, &[], "refused 10");
     s.publish(3, STRANGE, &[], "refused 13");
     s.login(2, ROOM, &asking(None, None), &right(ANSWER), &format!("login {}", 26 + right(ANSWER).len()));
-    s.send(2, ROOM, &format!("sent {}", left - 16 + 52));
+    s.send(2, ROOM, &format!("sent {}", left - 16 + 60));
     s.send(2, ROOM, "none");
     // An opening empties it.
     s.open(DAY + 3, &[1], "opened");
     s.publish(1, STRANGE, &[], "published 1");
     s.login(1, ROOM, &asking(None, None), &right(ANSWER), &format!("login {}", 26 + right(ANSWER).len()));
-    s.send(1, ROOM, "sent 26");
+    s.send(1, ROOM, "sent 30");
 }
 
 /// Lines that are no call: words, numbers, bytes, counts of words, limits.
@@ -448,5 +448,5 @@ fn bad_lines(s: &mut Script) {
     // Small letters are read, and leading zeros.
     s.publish(1, 0xABCD, &[0, 0, 0xAB, 0xCD, 0, 1, 0xFF], "published 2");
     s.calls.last_mut().expect("a call").0 = "publish 0001 0000abcd 0000abcd0001fF".to_string();
-    s.send(1, ROOM, "sent 33");
+    s.send(1, ROOM, "sent 37");
 }

@@ -4,7 +4,8 @@ use lib.ListN.{length}
 use borrow.Author.Needs.{needs}
 use borrow.Fn.Kinds.{In}
 use borrow.Fn.PlainCycle.{Measures, is, falls, and}
-use Rattle.ftd.proofs.chain.Rest.{last-small, last-put, none-here, more-broken, more-fits, more-small, more-put}
+use Rattle.ftd.proofs.chain.Rest.{last-fits, last-small, last-put, none-here, more-broken, more-fits}
+use Rattle.ftd.proofs.chain.Rest.{more-small, more-put}
 use Rattle.ftd.proofs.chain.put_rest.Reads as put-rest
 use Rattle.ftd.proofs.chain.put_rest.Kinds as put-rest-kinds
 use Rattle.ftd.proofs.chain.+put_rest.Lts-put_rest as put-rest-lts
@@ -56,7 +57,7 @@ put-rest-returns : (t : ℕ) → put-rest-lts.Need-returns (claims t) (put-rest-
 put-rest-returns t c = search (needs, last-small)
 
 put-rest-put-piece-requires : (t : ℕ) → put-rest-lts.Need-put-piece-requires (claims t) (put-rest-at t) put-rest.Post
-put-rest-put-piece-requires t c κs = search needs
+put-rest-put-piece-requires t c κs = (search needs, search needs, search (needs, last-fits))
 
 put-rest-same-length : (t : ℕ) → put-rest-lts.Need-same-length (claims t) (put-rest-at t) put-rest.Post
 put-rest-same-length t c = search needs
@@ -66,6 +67,9 @@ put-rest-returns-2 t c = search (needs, last-put)
 
 put-rest-returns-3 : (t : ℕ) → put-rest-lts.Need-returns-3 (claims t) (put-rest-at t) put-rest.Post
 put-rest-returns-3 t c = search (needs, none-here)
+
+put-rest-add-put-rest : (t : ℕ) → put-rest-lts.Need-add-put-rest (claims t) (put-rest-at t) put-rest.Post
+put-rest-add-put-rest t c = search needs
 
 put-rest-put-rest-requires : (t : ℕ) → put-rest-lts.Need-put-rest-requires (claims t) (put-rest-at t) put-rest.Post
 put-rest-put-rest-requires t c κs = search needs
@@ -84,7 +88,15 @@ put-rest-returns-5 t c = search (needs, more-small)
 
 put-rest-put-piece-requires-2 : (t : ℕ) → put-rest-lts.Need-put-piece-requires-2 (claims t) (put-rest-at t)
     put-rest.Post
-put-rest-put-piece-requires-2 t c κs = (search needs, search (needs, more-fits))
+put-rest-put-piece-requires-2 t c κs =
+    let r = c .before .before .before .before .before in
+    let f = r .before .before .before in
+    let s = f .before .before .before .before in (
+      search needs,
+      search needs,
+      more-fits _ _ _ _ _ _ _ (f .before .next-piece .ensures) (search needs) _ (f .if1 .left) _ _ (r .put-rest .ensures)
+          (c .before .before .if4 .left) (c .before .if5 .left),
+    )
 
 put-rest-same-length-4 : (t : ℕ) → put-rest-lts.Need-same-length-4 (claims t) (put-rest-at t) put-rest.Post
 put-rest-same-length-4 t c = search needs
@@ -107,6 +119,7 @@ pub +put-rest-spec : {M : Type 1} → statement M
     (put-rest-same-length t)
     (put-rest-returns-2 t)
     (put-rest-returns-3 t)
+    (put-rest-add-put-rest t)
     (put-rest-put-rest-requires t)
     (put-rest-same-length-2 t)
     (put-rest-returns-4 t)

@@ -8,8 +8,8 @@ use Rattle.ftd.proofs.chain.chain_size.Tie as tie
 returns : tie.Need-returns
 returns c = search (needs, size-over)
 
-tags-len-requires : tie.Need-tags-len-requires
-tags-len-requires c κs = search needs
+message-tags-requires : tie.Need-message-tags-requires
+message-tags-requires c κs = search needs
 
 measure-requires : tie.Need-measure-requires
 measure-requires c κs = search needs
@@ -18,4 +18,4 @@ returns-2 : tie.Need-returns-2
 returns-2 c = c .measure .ensures ∙ search (needs, size-is)
 
 pub chain-size-spec : {M : Type 1} → statement M
-chain-size-spec = tie.close (tie.spec returns tags-len-requires measure-requires returns-2)
+chain-size-spec = tie.close (tie.spec returns message-tags-requires measure-requires returns-2)

@@ -8,7 +8,7 @@ use Rattle.ftd.proofs.chain.measure.Tie as tie
 
 abbrev Inv-loop : tie.InvT-loop
 Inv-loop content tags at₀ packets₀ bytes₀ at packets bytes =
-    (at ≤ length content) × (packets ≤ at) × (bytes ≤ 27 * at) × Counted content tags at packets bytes
+    (at ≤ length content) × (packets ≤ at) × (bytes ≤ 31 * at) × Counted content tags at packets bytes
 
 abbrev μ-loop : tie.MeasureT-loop
 μ-loop content tags at₀ packets₀ bytes₀ at packets bytes = length content - at

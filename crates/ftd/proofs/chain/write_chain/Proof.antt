@@ -12,8 +12,8 @@ returns : tie.Need-returns
 unfolding chainVerdict shaped
 returns c = by-refusal _ _ _ _ (rw (lt-leb _ _ (c .if1 .taken)))
 
-tags-len-requires : tie.Need-tags-len-requires
-tags-len-requires c κs = search needs
+message-tags-requires : tie.Need-message-tags-requires
+message-tags-requires c κs = search needs
 
 put-rest-requires : tie.Need-put-rest-requires
 put-rest-requires c κs = search needs
@@ -45,7 +45,7 @@ write-chain-spec =
     tie.close
     (tie.spec
     returns
-    tags-len-requires
+    message-tags-requires
     put-rest-requires
     same-length
     returns-2

@@ -1,6 +1,6 @@
 use native.Mathlib.Omega.{arith}
 use mathlib.Core.Path.{sym, _∙_}
-use Rattle.ftd.proofs.chain.Pieces.{shaped-facts}
+use Rattle.ftd.proofs.chain.Pieces.{shaped-facts, tags-long}
 use Rattle.ftd.proofs.chain.Places.{answers-broken, answers-none, answers-large, answers-written}
 use borrow.Author.Needs.{needs}
 use Rattle.ftd.proofs.chain.write_packet.Statement.{statement}
@@ -24,8 +24,8 @@ returns c =
 enum-known-at : tie.Need-enum-known-at
 enum-known-at c = search needs
 
-tags-len-requires : tie.Need-tags-len-requires
-tags-len-requires c κs = search needs
+message-tags-requires : tie.Need-message-tags-requires
+message-tags-requires c κs = search needs
 
 add-n : tie.Need-add-n
 add-n c = search needs
@@ -54,14 +54,18 @@ returns-2 c =
     let p = c .before .before .before .before .before in
     let f = rw (g .1) at (p .find-piece .ensures) in
     answers-large _ _ _ _ (sym (p .before .before .is-shaped .ensures) ∙ p .before .if1 .taken) _ _ f _
-    (c .before .tags-len .ensures .0) (c .if2 .taken)
+    (c .before .message-tags .ensures .0) (c .if2 .taken)
 
 put-piece-requires : tie.Need-put-piece-requires
 put-piece-requires c κs =
     let t = c .before .before in
     let g = t .before .before .at .given in
     let f = rw (g .1) at (t .before .before .before .before .find-piece .ensures) in
-    (f .0, rw (← (t .tags-len .ensures .0)) (omega arith))
+    let i = t .before .before .before .before .before in
+    let a = i .before .before .before .before .args in
+    let content = shaped-facts _ _ _ (i .before .is-shaped .ensures) (i .if1 .taken) .0 in
+    let size = tags-long (a .m) (a .i) in
+    (f .0, omega (arith, f .3, f .0 .low, f .0 .high), omega (arith, size, t .message-tags .ensures .0))
 
 same-length : tie.Need-same-length
 same-length c = search needs
@@ -74,7 +78,7 @@ returns-3 c =
     let p = t .before .before .before .before in
     let f = rw (g .1) at (p .find-piece .ensures) in
     answers-written _ _ _ _ (sym (p .before .before .is-shaped .ensures) ∙ p .before .if1 .taken) _ _ f _
-    (t .tags-len .ensures .0) (w .before .before .if2 .left) _ (w .put-piece .ensures)
+    (t .message-tags .ensures .0) (w .before .before .if2 .left) _ (w .put-piece .ensures)
 
 returns-4 : tie.Need-returns-4
 returns-4 c = answers-broken _ _ _ _ (sym (c .before .is-shaped .ensures) ∙ c .if1 .left)
@@ -88,7 +92,7 @@ write-packet-spec =
     enum-told
     returns
     enum-known-at
-    tags-len-requires
+    message-tags-requires
     add-n
     sub-n
     add-n-2

@@ -26,11 +26,17 @@ be16-requires c κs = search needs
 size16-requires : tie.Need-size16-requires
 size16-requires c κs = search needs
 
+untagged-requires : tie.Need-untagged-requires
+untagged-requires c κs = search needs
+
 returns-2 : tie.Need-returns-2
 returns-2 c = search (needs, dated-long)
 
 wrong-body-requires : tie.Need-wrong-body-requires
 wrong-body-requires c κs = search needs
+
+untagged-requires-2 : tie.Need-untagged-requires-2
+untagged-requires-2 c κs = search needs
 
 returns-3 : tie.Need-returns-3
 returns-3 c = search (needs, dated-body)
@@ -70,8 +76,10 @@ read-dated-spec =
     size8-requires
     be16-requires
     size16-requires
+    untagged-requires
     returns-2
     wrong-body-requires
+    untagged-requires-2
     returns-3
     add-if4
     add-if4-2

@@ -1,4 +1,6 @@
-use Rattle.ftd.proofs.packet.Verdicts.{version-wrong, letter-wrong, length-wrong, fields-wrong, message-good}
+-- `packet::read_message` meets its contract. Assumes nothing.
+use Rattle.ftd.proofs.packet.Verdicts.{version-wrong, letter-wrong, length-wrong, fields-wrong, message-tagged}
+use Rattle.ftd.proofs.packet.Dates.{refused-bare}
 use borrow.Author.Needs.{needs}
 use Rattle.ftd.proofs.packet.read_message.Statement.{statement}
 use Rattle.ftd.proofs.packet.read_message.Tie as tie
@@ -9,8 +11,11 @@ add-at c = search needs
 shared-slice-read-if1 : tie.Need-shared-slice-read-if1
 shared-slice-read-if1 c = search needs
 
+untagged-requires : tie.Need-untagged-requires
+untagged-requires c κs = search needs
+
 returns : tie.Need-returns
-returns c = search (needs, version-wrong)
+returns c = refused-bare _ _ _ _ _ (c .untagged .ensures) (search (needs, version-wrong))
 
 add-is-letter : tie.Need-add-is-letter
 add-is-letter c = search needs
@@ -33,8 +38,11 @@ size16-requires c κs = search needs
 add-if3 : tie.Need-add-if3
 add-if3 c = search needs
 
+untagged-requires-2 : tie.Need-untagged-requires-2
+untagged-requires-2 c κs = search needs
+
 returns-2 : tie.Need-returns-2
-returns-2 c = search (needs, length-wrong)
+returns-2 c = refused-bare _ _ _ _ _ (c .untagged2 .ensures) (search (needs, length-wrong))
 
 add-exact-run : tie.Need-add-exact-run
 add-exact-run c = search needs
@@ -64,13 +72,19 @@ accept-requires : tie.Need-accept-requires
 accept-requires c κs = search needs
 
 returns-3 : tie.Need-returns-3
-returns-3 c = search (needs, message-good)
+returns-3 c = search (needs, message-tagged)
+
+untagged-requires-3 : tie.Need-untagged-requires-3
+untagged-requires-3 c κs = search needs
 
 returns-4 : tie.Need-returns-4
-returns-4 c = search (needs, fields-wrong)
+returns-4 c = refused-bare _ _ _ _ _ (c .untagged3 .ensures) (search (needs, fields-wrong))
+
+untagged-requires-4 : tie.Need-untagged-requires-4
+untagged-requires-4 c κs = search needs
 
 returns-5 : tie.Need-returns-5
-returns-5 c = search (needs, letter-wrong)
+returns-5 c = refused-bare _ _ _ _ _ (c .untagged4 .ensures) (search (needs, letter-wrong))
 
 pub read-message-spec : {M : Type 1} → statement M
 read-message-spec =
@@ -78,6 +92,7 @@ read-message-spec =
     (tie.spec
     add-at
     shared-slice-read-if1
+    untagged-requires
     returns
     add-is-letter
     shared-slice-read-is-letter
@@ -86,6 +101,7 @@ read-message-spec =
     be16-requires
     size16-requires
     add-if3
+    untagged-requires-2
     returns-2
     add-exact-run
     add-exact-run-2
@@ -97,5 +113,7 @@ read-message-spec =
     exact-run-requires
     accept-requires
     returns-3
+    untagged-requires-3
     returns-4
+    untagged-requires-4
     returns-5)

@@ -1,7 +1,7 @@
 -- `packet::read_whole` meets its contract. Assumes nothing.
-use borrow.Author.Needs.{needs}
 use Rattle.ftd.proofs.packet.Verdicts.{body-least}
 use Rattle.ftd.proofs.packet.Dates.{dated-skipped, dated-broken, dated-link, dated-message}
+use borrow.Author.Needs.{needs}
 use Rattle.ftd.proofs.packet.read_whole.Statement.{statement}
 use Rattle.ftd.proofs.packet.read_whole.Tie as tie
 
@@ -10,6 +10,9 @@ add-at c = search needs
 
 is-skipped-requires : tie.Need-is-skipped-requires
 is-skipped-requires c κs = search needs
+
+untagged-requires : tie.Need-untagged-requires
+untagged-requires c κs = search needs
 
 returns : tie.Need-returns
 returns c = search (needs, dated-skipped)
@@ -29,6 +32,9 @@ read-tags-requires c κs = search needs
 enum-told : tie.Need-enum-told
 enum-told c = search needs
 
+untagged-requires-2 : tie.Need-untagged-requires-2
+untagged-requires-2 c κs = search needs
+
 enum-known-date : tie.Need-enum-known-date
 enum-known-date c = search needs
 
@@ -37,9 +43,6 @@ returns-2 c = search (needs, dated-link)
 
 read-message-requires : tie.Need-read-message-requires
 read-message-requires c κs = search (needs, body-least)
-
-with-date-requires : tie.Need-with-date-requires
-with-date-requires c κs = search needs
 
 returns-3 : tie.Need-returns-3
 returns-3 c = search (needs, dated-broken)
@@ -53,15 +56,16 @@ read-whole-spec =
     (tie.spec
     add-at
     is-skipped-requires
+    untagged-requires
     returns
     sub-read-tags
     part-read-tags-start
     part-read-tags-end
     read-tags-requires
     enum-told
+    untagged-requires-2
     enum-known-date
     returns-2
     read-message-requires
-    with-date-requires
     returns-3
     returns-4)

@@ -1,24 +1,102 @@
 -- `tags::good_tags` meets its contract. Assumes nothing.
-use mathlib.Core.Path.{sym}
+use Prim.Native.Nat.{_-_, _≤_}
+use mathlib.Core.Path.{_≡_, refl}
+use native.Mathlib.Omega.{arith}
 use borrow.Author.Needs.{needs}
-use Rattle.ftd.proofs.tags.Walk.{run-broken, run-good}
+use lib.ListN.{length, drop}
+use Rattle.ftd.specs.Runs.{runOf}
+use Rattle.ftd.specs.Tags.{tag, goodRun, goodTags}
+use Rattle.ftd.proofs.tags.Turns.{tag-head, tags-stop, tags-wrong, tags-turn}
+use Rattle.ftd.proofs.tags.Walk.{good-dates, good-places}
 use Rattle.ftd.proofs.tags.good_tags.Statement.{statement}
 use Rattle.ftd.proofs.tags.good_tags.Tie as tie
 
-read-tags-requires : tie.Need-read-tags-requires
-read-tags-requires c κs = search needs
+abbrev Inv-loop : tie.InvT-loop
+Inv-loop extension at₀ dates₀ places₀ at dates places =
+    (at ≤ length extension) × (dates ≤ at) × (places ≤ at)
+    × (goodRun (runOf tag (drop at extension)) dates places ≡ goodTags extension)
 
-enum-told : tie.Need-enum-told
-enum-told c = search needs
+abbrev μ-loop : tie.MeasureT-loop
+μ-loop extension at₀ dates₀ places₀ at dates places = length extension - at
 
-enum-told-2 : tie.Need-enum-told-2
-enum-told-2 c = search needs
+loop-holds : tie.Need-loop-holds Inv-loop μ-loop
+unfolding goodTags
+loop-holds c = (search needs, search needs, search needs, refl)
 
-returns : tie.Need-returns
-returns c = sym (run-broken _ _ (c .before .before .read-tags .ensures) (c .enum-told .given .1))
+tag-size-requires : tie.Need-tag-size-requires Inv-loop μ-loop
+tag-size-requires c κs = search needs
 
-returns-2 : tie.Need-returns-2
-returns-2 c = sym (run-good _ _ _ (c .before .before .read-tags .ensures) (c .enum-told2 .given .1))
+returns : tie.Need-returns Inv-loop μ-loop
+returns c = search (needs, tags-stop)
+
+returns-2 : tie.Need-returns-2 Inv-loop μ-loop
+returns-2 c = search (needs, good-dates)
+
+returns-3 : tie.Need-returns-3 Inv-loop μ-loop
+returns-3 c = search (needs, good-places)
+
+shared-slice-read-kind : tie.Need-shared-slice-read-kind Inv-loop μ-loop
+shared-slice-read-kind c = search needs
+
+add-length-right : tie.Need-add-length-right Inv-loop μ-loop
+add-length-right c = search needs
+
+shared-slice-read-length-right : tie.Need-shared-slice-read-length-right Inv-loop μ-loop
+shared-slice-read-length-right c =
+    let h : 2 ≤ c .before .before .before .tag-size .result = search (needs, tag-head) in
+    omega arith
+
+length-right-requires : tie.Need-length-right-requires Inv-loop μ-loop
+length-right-requires c κs = search needs
+
+count-kind-requires : tie.Need-count-kind-requires Inv-loop μ-loop
+count-kind-requires c κs = search needs
+
+count-kind-requires-2 : tie.Need-count-kind-requires-2 Inv-loop μ-loop
+count-kind-requires-2 c κs = search needs
+
+add-at : tie.Need-add-at Inv-loop μ-loop
+add-at c = search needs
+
+loop-less : tie.Need-loop-less Inv-loop μ-loop
+loop-less c = search needs
+
+loop-again : tie.Need-loop-again Inv-loop μ-loop
+loop-again c =
+    let k = c .before in
+    let t = k .before in
+    let r = t .before in
+    let f = r .before .before .before in
+    let g = f .before in
+    let i = g .before .loop .inv in (
+      search needs,
+      search needs,
+      search needs,
+      tags-turn _ _ _ (g .tag-size .ensures .0) _ _ _ (i .3) _ _ (f .if1 .left) _ (r .length-right .ensures)
+          (t .if4 .taken) (k .count-kind .ensures .0) (c .count-kind2 .ensures .0),
+    )
+
+returns-4 : tie.Need-returns-4 Inv-loop μ-loop
+returns-4 c = search (needs, tags-wrong)
 
 pub good-tags-spec : {M : Type 1} → statement M
-good-tags-spec = tie.close (tie.spec read-tags-requires enum-told enum-told-2 returns returns-2)
+good-tags-spec =
+    tie.close
+    (tie.spec
+    Inv-loop
+    μ-loop
+    loop-holds
+    tag-size-requires
+    returns
+    returns-2
+    returns-3
+    shared-slice-read-kind
+    add-length-right
+    shared-slice-read-length-right
+    length-right-requires
+    count-kind-requires
+    count-kind-requires-2
+    add-at
+    loop-less
+    loop-again
+    returns-4)

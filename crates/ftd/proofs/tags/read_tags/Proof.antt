@@ -7,22 +7,30 @@ use lib.ListN.{length, drop}
 use Rattle.ftd.specs.Runs.{runOf}
 use Rattle.ftd.specs.Tags.{tag, goodRun, goodTags}
 use Rattle.ftd.proofs.tags.Turns.{tag-head, tags-turn}
-use Rattle.ftd.proofs.tags.Walk.{Seen, seen-none, seen-room, seen-turn, run-stop, run-undated, run-dated}
-use Rattle.ftd.proofs.tags.Walk.{run-twice, run-wrong}
+use Rattle.ftd.proofs.tags.Walk.{Seen, seen-none, seen-turn, seen-all, date-sized, place-sized}
+use Rattle.ftd.proofs.tags.Walk.{run-stop, run-dates, run-places, run-whole, run-wrong}
 use Rattle.ftd.proofs.tags.read_tags.Statement.{statement}
 use Rattle.ftd.proofs.tags.read_tags.Tie as tie
 
 abbrev Inv-loop : tie.InvT-loop
-Inv-loop extension at₀ dates₀ place₀ at dates place =
-    (at ≤ length extension) × (dates ≤ at) × (goodRun (runOf tag (drop at extension)) dates ≡ goodTags extension)
-    × Seen extension at dates place
+Inv-loop extension at₀ dates₀ date₀ places₀ place₀ at dates date places place =
+    (at ≤ length extension) × (dates ≤ at) × (places ≤ at)
+    × (goodRun (runOf tag (drop at extension)) dates places ≡ goodTags extension)
+    × Seen extension 0x05 4 at dates date × Seen extension 0x70 2 at places place
 
 abbrev μ-loop : tie.MeasureT-loop
-μ-loop extension at₀ dates₀ place₀ at dates place = length extension - at
+μ-loop extension at₀ dates₀ date₀ places₀ place₀ at dates date places place = length extension - at
 
 loop-holds : tie.Need-loop-holds Inv-loop μ-loop
 unfolding goodTags
-loop-holds c = (search needs, search needs, refl, seen-none (c .before .args .extension .now))
+loop-holds c = (
+  search needs,
+  search needs,
+  search needs,
+  refl,
+  seen-none (c .before .args .extension .now) _ _,
+  seen-none (c .before .args .extension .now) _ _,
+)
 
 tag-size-requires : tie.Need-tag-size-requires Inv-loop μ-loop
 tag-size-requires c κs = search needs
@@ -31,42 +39,45 @@ returns : tie.Need-returns Inv-loop μ-loop
 returns c = search (needs, run-stop)
 
 returns-2 : tie.Need-returns-2 Inv-loop μ-loop
-returns-2 c = search (needs, run-undated)
-
-be32-requires : tie.Need-be32-requires Inv-loop μ-loop
-be32-requires c κs = search (needs, seen-room)
+returns-2 c = search (needs, run-dates)
 
 returns-3 : tie.Need-returns-3 Inv-loop μ-loop
-returns-3 c = search (needs, run-dated)
+returns-3 c = search (needs, run-places)
+
+seen-date-requires : tie.Need-seen-date-requires Inv-loop μ-loop
+seen-date-requires c κs = (search (needs, seen-all, date-sized), search needs)
+
+seen-place-requires : tie.Need-seen-place-requires Inv-loop μ-loop
+seen-place-requires c κs = (search (needs, seen-all, place-sized), search needs)
 
 returns-4 : tie.Need-returns-4 Inv-loop μ-loop
-returns-4 c = search (needs, run-twice)
+returns-4 c = search (needs, run-whole)
 
-shared-slice-read-length-right : tie.Need-shared-slice-read-length-right Inv-loop μ-loop
-shared-slice-read-length-right c = search needs
+shared-slice-read-kind : tie.Need-shared-slice-read-kind Inv-loop μ-loop
+shared-slice-read-kind c = search needs
 
 add-length-right : tie.Need-add-length-right Inv-loop μ-loop
 add-length-right c = search needs
 
-shared-slice-read-length-right-2 : tie.Need-shared-slice-read-length-right-2 Inv-loop μ-loop
-shared-slice-read-length-right-2 c =
+shared-slice-read-length-right : tie.Need-shared-slice-read-length-right Inv-loop μ-loop
+shared-slice-read-length-right c =
     let h : 2 ≤ c .before .before .before .tag-size .result = search (needs, tag-head) in
     omega arith
 
 length-right-requires : tie.Need-length-right-requires Inv-loop μ-loop
 length-right-requires c κs = search needs
 
-shared-slice-read-count-date : tie.Need-shared-slice-read-count-date Inv-loop μ-loop
-shared-slice-read-count-date c = search needs
+count-kind-requires : tie.Need-count-kind-requires Inv-loop μ-loop
+count-kind-requires c κs = search needs
 
-count-date-requires : tie.Need-count-date-requires Inv-loop μ-loop
-count-date-requires c κs = search needs
+data-place-requires : tie.Need-data-place-requires Inv-loop μ-loop
+data-place-requires c κs = search needs
 
-shared-slice-read-date-place : tie.Need-shared-slice-read-date-place Inv-loop μ-loop
-shared-slice-read-date-place c = search needs
+count-kind-requires-2 : tie.Need-count-kind-requires-2 Inv-loop μ-loop
+count-kind-requires-2 c κs = search needs
 
-date-place-requires : tie.Need-date-place-requires Inv-loop μ-loop
-date-place-requires c κs = search needs
+data-place-requires-2 : tie.Need-data-place-requires-2 Inv-loop μ-loop
+data-place-requires-2 c κs = search needs
 
 add-at : tie.Need-add-at Inv-loop μ-loop
 add-at c = search needs
@@ -76,19 +87,23 @@ loop-less c = search needs
 
 loop-again : tie.Need-loop-again Inv-loop μ-loop
 loop-again c =
-    let d = c .before .before in
-    let t = d .before .before in
+    let p = c .before in
+    let d = p .before in
+    let k = d .before in
+    let t = k .before in
     let r = t .before in
     let f = r .before .before .before in
     let g = f .before in
     let i = g .before .loop .inv in (
       search needs,
       search needs,
-      tags-turn _ _ _ (g .tag-size .ensures .0) _ _ (i .2) _ (f .if1 .left) _ (r .length-right .ensures) (t .if5 .taken)
-          (d .count-date .ensures .0),
-      seen-turn _ _ _ (g .tag-size .ensures .0) _ _ (i .3) _ _ (f .if1 .left) (g .tag-size .ensures .1) _
-          (r .length-right .ensures) (t .if5 .taken)
-          (d .count-date .ensures .0) (c .date-place .ensures),
+      search needs,
+      tags-turn _ _ _ (g .tag-size .ensures .0) _ _ _ (i .3) _ _ (f .if1 .left) _ (r .length-right .ensures)
+          (t .if5 .taken) (k .count-kind .ensures .0) (p .count-kind2 .ensures .0),
+      seen-turn _ _ _ (g .tag-size .ensures .0) _ _ date-sized _ _ (i .4) _ _ (f .if1 .left) (g .tag-size .ensures .1) _
+          (r .length-right .ensures) (t .if5 .taken) (k .count-kind .ensures .0) (d .data-place .ensures),
+      seen-turn _ _ _ (g .tag-size .ensures .0) _ _ place-sized _ _ (i .5) _ _ (f .if1 .left) (g .tag-size .ensures .1) _
+          (r .length-right .ensures) (t .if5 .taken) (p .count-kind2 .ensures .0) (c .data-place2 .ensures),
     )
 
 returns-5 : tie.Need-returns-5 Inv-loop μ-loop
@@ -104,17 +119,18 @@ read-tags-spec =
     tag-size-requires
     returns
     returns-2
-    be32-requires
     returns-3
+    seen-date-requires
+    seen-place-requires
     returns-4
-    shared-slice-read-length-right
+    shared-slice-read-kind
     add-length-right
-    shared-slice-read-length-right-2
+    shared-slice-read-length-right
     length-right-requires
-    shared-slice-read-count-date
-    count-date-requires
-    shared-slice-read-date-place
-    date-place-requires
+    count-kind-requires
+    data-place-requires
+    count-kind-requires-2
+    data-place-requires-2
     add-at
     loop-less
     loop-again

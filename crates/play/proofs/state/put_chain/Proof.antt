@@ -4,11 +4,8 @@ use Rattle.play.proofs.state.Turns.{chain-held, chain-none}
 use Rattle.play.proofs.state.put_chain.Statement.{statement}
 use Rattle.play.proofs.state.put_chain.Tie as tie
 
-slice-aggregate-put-numbered : tie.Need-slice-aggregate-put-numbered
-slice-aggregate-put-numbered c = search needs
-
-put-numbered-requires : tie.Need-put-numbered-requires
-put-numbered-requires c κs = search needs
+put-held-requires : tie.Need-put-held-requires
+put-held-requires c κs = search needs
 
 same-length : tie.Need-same-length
 same-length c = search needs
@@ -32,8 +29,7 @@ pub put-chain-spec : {M : Type 1} → statement M
 put-chain-spec =
     tie.close
     (tie.spec
-    slice-aggregate-put-numbered
-    put-numbered-requires
+    put-held-requires
     same-length
     returns
     slice-aggregate-put-word

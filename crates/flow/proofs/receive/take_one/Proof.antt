@@ -1,20 +1,8 @@
--- `receive::take_at` meets its contract. Assumes nothing.
+-- `receive::take_one` meets its contract. Assumes nothing.
 use borrow.Author.Needs.{needs}
-use Rattle.flow.proofs.receive.Rows.{take-outside, take-day, take-line, take-again, take-next}
-use Rattle.flow.proofs.receive.take_at.Statement.{statement}
-use Rattle.flow.proofs.receive.take_at.Tie as tie
-
-mul-one : tie.Need-mul-one
-mul-one c = search needs
-
-element-copy-out-one : tie.Need-element-copy-out-one
-element-copy-out-one c = search needs
-
-mul-live : tie.Need-mul-live
-mul-live c = search needs
-
-element-copy-out-live : tie.Need-element-copy-out-live
-element-copy-out-live c = search needs
+use Rattle.flow.proofs.receive.Rows.{take-day, take-line, take-again, take-next, take-outside}
+use Rattle.flow.proofs.receive.take_one.Statement.{statement}
+use Rattle.flow.proofs.receive.take_one.Tie as tie
 
 differs-requires : tie.Need-differs-requires
 differs-requires c κs = search needs
@@ -52,14 +40,10 @@ returns-4 c = search (needs, take-next)
 returns-5 : tie.Need-returns-5
 returns-5 c = search (needs, take-outside)
 
-pub take-at-spec : {M : Type 1} → statement M
-take-at-spec =
+pub take-one-spec : {M : Type 1} → statement M
+take-one-spec =
     tie.close
     (tie.spec
-    mul-one
-    element-copy-out-one
-    mul-live
-    element-copy-out-live
     differs-requires
     drop-chain-requires
     returns
