@@ -88,7 +88,7 @@ fn write(date: u32, series: u16, number: u32, tid: u32, content: &[u8], out: &mu
         count += 1;
     }
     pieces.push((from, at, count));
-    let size = pieces.iter().map(|p| 26 + p.1 - p.0).sum();
+    let size = pieces.iter().map(|p| 30 + p.1 - p.0).sum();
     if out.len() < size {
         return None;
     }
@@ -101,19 +101,21 @@ fn write(date: u32, series: u16, number: u32, tid: u32, content: &[u8], out: &mu
             (false, true) => b'L',
             _ => b'C',
         };
-        let p = &mut out[to..to + 26 + end - from];
-        p[..2].copy_from_slice(&[1, 6]);
+        let p = &mut out[to..to + 30 + end - from];
+        p[..2].copy_from_slice(&[1, 10]);
         p[2..4].copy_from_slice(&body.to_be_bytes());
         p[4..6].copy_from_slice(&[5, 4]);
         p[6..10].copy_from_slice(&date.to_be_bytes());
-        p[10] = 1;
-        p[11..15].copy_from_slice(&tid.to_be_bytes());
-        p[15] = letter;
-        p[16..18].copy_from_slice(&series.to_be_bytes());
-        p[18..22].copy_from_slice(&number.to_be_bytes());
-        p[22..24].copy_from_slice(&count.to_be_bytes());
-        p[24..26].copy_from_slice(&(body - 16).to_be_bytes());
-        p[26..].copy_from_slice(&content[from..end]);
+        p[10..12].copy_from_slice(&[0x70, 2]);
+        p[12..14].copy_from_slice(&(i as u16).to_be_bytes());
+        p[14] = 1;
+        p[15..19].copy_from_slice(&tid.to_be_bytes());
+        p[19] = letter;
+        p[20..22].copy_from_slice(&series.to_be_bytes());
+        p[22..26].copy_from_slice(&number.to_be_bytes());
+        p[26..28].copy_from_slice(&count.to_be_bytes());
+        p[28..30].copy_from_slice(&(body - 16).to_be_bytes());
+        p[30..].copy_from_slice(&content[from..end]);
         to += p.len();
     }
     Some(size)
