@@ -2,11 +2,12 @@
  * packets.
  *
  * The serving process publishes messages of two series, answers logins and sends: the private series packet by packet,
- * as a slow line takes them, the broadcast one in whole messages. The first line breaks within a message of five
- * packets; on the second, single packets are lost, repeated and late, as where packets go their own ways: by their
- * places, which both ends write and compare, that is noticed, and nothing wrong is handed on. On each line both sides
- * go on where the one before it left them, and the message is sent anew; the third brings all. The receiving process
- * reads what is there, wherever that cuts a packet, hands it over and keeps the rest; it prints what it is handed.
+ * as a slow line takes them, the broadcast one in whole messages. Of the log it reserves what the private series needs:
+ * a bulletin too many is turned down, a trade return never. The first line breaks within a message of five packets; on
+ * the second, single packets are lost, repeated and late, as where packets go their own ways: by their places, which
+ * both ends write and compare, that is noticed, and nothing wrong is handed on. On each line both sides go on where the
+ * one before it left them, and the message is sent anew; the third brings all. The receiving process reads what is
+ * there, wherever that cuts a packet, hands it over and keeps the rest; it prints what it is handed.
  * Where there are three socket pairs here a driver has its sockets; the rest can be taken over.
  *
  *     make example && target/example/driver
@@ -34,12 +35,17 @@ enum {
     BULLETIN_FIELD = 0x0001,
     OTHER = 0x7777, /* TID and FID of a message that the standard doesn't have: its bytes are free */
     OTHER_FIELD = 0x7001,
-    LOG_SIZE = 1 << 20, /* bytes for the day's messages: content and FTD_LOG_HEAD of each */
-    RECORDS = 1 << 16,  /* bytes for messages that are published together: content and FTD_RECORD_HEAD of each */
-    SLOW = 1500         /* so many bytes are written at most where the line is slow; only here to show it */
+    TRADES = 4,          /* so many private messages are expected on the day at most */
+    TRADE_BYTES = 20100, /* and so many bytes of content in each */
+    PRIVATE_SHARE = TRADES * (TRADE_BYTES + FTD_LOG_HEAD), /* bytes of the log for them */
+    LOG_SIZE = PRIVATE_SHARE + 1500, /* bytes for the day's messages; so few for bulletins only to show a full log */
+    RECORDS = 1 << 16, /* bytes for messages that are published together: content and FTD_RECORD_HEAD of each */
+    SLOW = 1500        /* so many bytes are written at most where the line is slow; only here to show it */
 };
 
 static const uint16_t open_series[SERIES] = {PRIVATE, BROADCAST};
+/* What is reserved of the log for each: the private messages must go in, and the others have the rest. */
+static const size_t reserves[SERIES] = {PRIVATE_SHARE, 0};
 
 /* ---- Refusals ---- */
 
@@ -348,6 +354,20 @@ static void publish(struct ftd_sender *end, uint16_t series, uint32_t tid) {
     *end = published.end;
 }
 
+/* Publishes a bulletin, if there is still room that isn't reserved; 0: there is none. (Private messages within their
+ * reserve are never refused for want of room.) */
+static int publish_bulletin(struct ftd_sender *end, const char *text) {
+    struct ftd_published published;
+
+    bulletin_content(&content, text);
+    published = ftd_publish(*end, BROADCAST, BULLETIN, content.bytes, content.used, day_log, sizeof day_log);
+    *end = published.end;
+    if (published.refusal == FTD_TOO_SMALL)
+        return 0;
+    must("ftd_publish", published.refusal);
+    return 1;
+}
+
 static void put_number(uint8_t *bytes, size_t count, uint32_t number) {
     while (count > 0) {
         bytes[--count] = (uint8_t)number;
@@ -476,7 +496,8 @@ static void serve_line(struct ftd_sender *end, struct line *line) {
 }
 
 static void serve(struct line lines[LINES]) {
-    struct ftd_sender_opened opened = ftd_sender_open(ftd_sender_fresh(), TRADE_DATE, open_series, SERIES);
+    struct ftd_sender_opened opened = ftd_sender_open(ftd_sender_fresh(), TRADE_DATE, open_series, SERIES, reserves,
+                                                      SERIES, day_log, sizeof day_log);
     struct ftd_sender end = opened.end;
     size_t used = 0, i;
 
@@ -488,6 +509,10 @@ static void serve(struct line lines[LINES]) {
     bulletin_content(&content, "Margins as of today: 7 percent");
     used = add_record(used, BROADCAST, BULLETIN);
     publish_records(&end, used);
+    if (publish_bulletin(&end, "One bulletin too many")) {
+        fprintf(stderr, "a bulletin lies in what is reserved\n");
+        exit(1);
+    }
 
     serve_line(&end, &lines[0]);
     close(lines[0].socket);

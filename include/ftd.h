@@ -82,8 +82,9 @@ enum ftd_refusal {
                                 to 9999 */
     FTD_COMPOSITION = 10,    /* make-up: a data field occurs too seldom or too often for its message; in a login also:
                                 another TID than 0x0016, not one packet (S), a start field too many */
-    FTD_OPENING = 11,        /* not 1 to 8 differing series from 1 up, a trade date that isn't above the present one, a
-                                receiving end that is open already */
+    FTD_OPENING = 11,        /* not 1 to 8 differing series from 1 up, a trade date that isn't above the present one,
+                                not as many reserves as series, reserves together above the log's length; a receiving
+                                end that is open already */
     FTD_NOT_ONE_PACKET = 12, /* not exactly the bytes of one packet; in a login also: no message packet */
     FTD_UNKNOWN_SERIES = 13, /* the series isn't open; ftd_login also: the start field is of another series */
     FTD_NOT_LOGGED_IN = 14,  /* no login of the series */
@@ -92,7 +93,8 @@ enum ftd_refusal {
     FTD_OUT_OF_LINE = 16,    /* ftd_receive: number 0, above last + 1 or above 1000000; in a login: series and number of
                                 the packet aren't 0 */
     FTD_BROKEN_CHAIN = 17,   /* C or L without its chain; a place (tag 0x70) that isn't the count of the packets held */
-    FTD_TOO_SMALL = 18,      /* the output, the log or the reassembly buffer has too few bytes, or a chain too many */
+    FTD_TOO_SMALL = 18,      /* the output or the reassembly buffer has too few bytes, or a chain too many; ftd_publish:
+                                the shares of all series (ftd_sender_open) would pass the log's length */
     FTD_WRONG_START = 19,    /* the login wants number 0, or one above those published and the next */
     FTD_DAMAGED_LOG = 20,    /* the log isn't as the last call left it */
     FTD_DAY_FULL = 21,       /* 1000000 messages are published in the series */
@@ -283,13 +285,15 @@ enum ftd_mode {
 struct ftd_served {
     uint64_t next;      /* the number that is sent next, where logged in */
     uint64_t piece;     /* how many packets of that message ftd_send_packet has written; 0: none is under way */
+    size_t reserve;     /* bytes of the log that the day's opening has reserved for the series */
+    size_t used;        /* bytes of the log that its messages have, with FTD_LOG_HEAD for each */
     uint32_t published; /* how many messages were published, so the last one's number */
     uint16_t series;
     uint8_t login; /* not 0: logged in */
 };
 
 struct ftd_sender {
-    size_t used;                               /* bytes of the log in use, from its start */
+    size_t used;                               /* bytes of the log in use, from its start; of all series together */
     struct ftd_served series[FTD_MOST_SERIES]; /* the first `count` are open, in the opening's order */
     size_t count;
     uint32_t date; /* the day's trade date, unless dated is 0 */
@@ -624,14 +628,31 @@ struct ftd_sender ftd_sender_fresh(void);
 
 /* Opening of a day: a trade date above the present one, if any, and 1 to 8 differing series from 1 up, in any order. It
  * empties log and logins (the log's bytes stay, and are overwritten). `count` is how many series are lent.
+ * Each series has a reserve in bytes of the log, in the series' order; `reserve_count` is `count`. Together they are at
+ * most `log_len`. The log is only measured: not a byte of it is read or changed.
+ *
+ * A series' share of the log is the larger of its bytes used and its reserve, and what is published may not bring the
+ * shares of all series together above the log's length (18). So what is reserved for a series can't be filled by the
+ * others: a message that keeps its series within its reserve is never refused with 18, however much the others publish.
+ * That holds while every call is lent a log of one length, that of the opening; in a shorter one, or where the others
+ * have filled one that was longer for a while, it doesn't. Beyond its reserve a series takes what no other series has
+ * reserved or used. Reserves say nothing of where a message lies in the log. With reserves of 0 it is as it was without
+ * them: whichever series publishes first fills the log.
+ *
+ * What to reserve: for the private flow, whose trade returns must not be turned down because quotations have filled the
+ * log, as many messages as are expected on the day at most, times the bytes of a content and FTD_LOG_HEAD. For the
+ * quotations 0, and a log that has room for them besides.
  * Refusal: 11. */
-struct ftd_sender_opened ftd_sender_open(struct ftd_sender end, uint32_t date, const uint16_t *series, size_t count);
+struct ftd_sender_opened ftd_sender_open(struct ftd_sender end, uint32_t date, const uint16_t *series, size_t count,
+                                         const size_t *reserves, size_t reserve_count,
+                                         const uint8_t *log, size_t log_len);
 
 /* Publish: the message gets the next number of its series, and goes into the log behind the used part, FTD_LOG_HEAD
  * bytes more than its content. All series share one log; every call is lent the same bytes, as the last call left them
  * (the log may be moved or lengthened in between). The content is checked as one that is sent down; the fields that a
  * message needs: Appendix E, crates/ftd/specs/Composition.antt.
- * Refusals: 7, 8, 9, 10, 13, 20, 18, 21. */
+ * Refusals: 7, 8, 9, 10, 13, 20, 18 (with the message the shares of all series, see ftd_sender_open, would be above the
+ * log's length, or it doesn't fit behind `used`), 21. */
 struct ftd_published ftd_publish(struct ftd_sender end, uint16_t series, uint32_t tid,
                                  const uint8_t *content, size_t count, uint8_t *log, size_t log_len);
 

@@ -126,6 +126,15 @@ expect "the count of a chain's packets wraps" "$root/target/lib" calls
 fresh_reader
 change "$work/tests/reader/src/serving.rs" 'write_sent_packet(out, &header, &parts, i);' 'write_packet(out, &header, crate::cut::chain_letter(i, parts.len()), parts[i]);'
 expect "the form of Send that writes one packet writes no place" "$root/target/lib" calls
+fresh_reader
+change "$work/tests/reader/src/serving.rs" 'used(i).max(self.open[i].reserve as u128)' 'used(i)'
+expect "only the total of the log is checked, and reserves keep nobody out" "$root/target/lib" calls
+fresh_reader
+change "$work/tests/reader/src/serving.rs" 'used(i).max(self.open[i].reserve as u128)' 'used(i) + self.open[i].reserve as u128'
+expect "a share is bytes used and reserve together, not the larger" "$root/target/lib" calls
+fresh_reader
+change "$work/tests/reader/src/serving.rs" 'day.shares(place, size) > room' 'day.shares(place, content.len()) > room'
+expect "the head of an entry isn't counted in its series' share" "$root/target/lib" calls
 
 # A copy of the repository's library with one thing changed in code and definition, proved and built.
 fresh_library() {

@@ -35,15 +35,17 @@ static void sizes(void) {
     EXPECT(sizeof(struct ftd_step) == 16);
     EXPECT(sizeof(struct ftd_item) == 32);
     EXPECT(sizeof(struct ftd_resume) == 8);
-    EXPECT(sizeof(struct ftd_served) == 24 && offsetof(struct ftd_served, piece) == 8);
-    EXPECT(sizeof(struct ftd_sender) == 216);
-    EXPECT(sizeof(struct ftd_sender_opened) == 224);
-    EXPECT(sizeof(struct ftd_published) == 224);
-    EXPECT(sizeof(struct ftd_published_several) == 240);
-    EXPECT(sizeof(struct ftd_logged_in) == 232);
-    EXPECT(sizeof(struct ftd_sent) == 232);
-    EXPECT(sizeof(struct ftd_sent_packet) == 232 && offsetof(struct ftd_sent_packet, number) == 224);
-    EXPECT(offsetof(struct ftd_sent_packet, answer) == 228 && offsetof(struct ftd_sent_packet, last) == 230);
+    EXPECT(sizeof(struct ftd_served) == 40 && offsetof(struct ftd_served, piece) == 8);
+    EXPECT(offsetof(struct ftd_served, reserve) == 16 && offsetof(struct ftd_served, used) == 24);
+    EXPECT(offsetof(struct ftd_served, published) == 32 && offsetof(struct ftd_served, login) == 38);
+    EXPECT(sizeof(struct ftd_sender) == 344);
+    EXPECT(sizeof(struct ftd_sender_opened) == 352);
+    EXPECT(sizeof(struct ftd_published) == 352);
+    EXPECT(sizeof(struct ftd_published_several) == 368);
+    EXPECT(sizeof(struct ftd_logged_in) == 360);
+    EXPECT(sizeof(struct ftd_sent) == 360);
+    EXPECT(sizeof(struct ftd_sent_packet) == 360 && offsetof(struct ftd_sent_packet, number) == 352);
+    EXPECT(offsetof(struct ftd_sent_packet, answer) == 356 && offsetof(struct ftd_sent_packet, last) == 358);
     EXPECT(offsetof(struct ftd_packet, place) == 64 && offsetof(struct ftd_packet, answer) == 66);
     EXPECT(offsetof(struct ftd_packet, dated) == 70 && offsetof(struct ftd_packet, placed) == 71);
     EXPECT(sizeof(struct ftd_kept) == 32 && offsetof(struct ftd_kept, pieces) == 20);
@@ -233,16 +235,27 @@ static void make_contents(void) {
     EXPECT(ftd_check(0x16, FTD_DOWN, answer, sizeof answer, FTD_PACKET_CONTENT) == 0);
 }
 
+/* The first of the series opened, so many, with these reserves of the log. */
+static struct ftd_sender_opened day_open(struct ftd_sender end, uint32_t date, size_t count, size_t first,
+                                         size_t second) {
+    size_t reserves[2];
+
+    reserves[0] = first;
+    reserves[1] = second;
+    return ftd_sender_open(end, date, series, count, reserves, count, day_log, sizeof day_log);
+}
+
 /* Both series opened at trade date 100; in series 3 a short message and one of three packets. */
 static struct ftd_sender serving(void) {
     struct ftd_sender fresh = ftd_sender_fresh();
-    struct ftd_sender_opened opened = ftd_sender_open(fresh, 100, series, 2);
+    struct ftd_sender_opened opened = day_open(fresh, 100, 2, 0, 0);
     struct ftd_published first, second;
 
     EXPECT(fresh.count == 0 && fresh.dated == 0 && fresh.used == 0);
     EXPECT(opened.refusal == 0 && opened.end.count == 2 && opened.end.dated == 1 && opened.end.date == 100);
     EXPECT(opened.end.series[0].series == 7 && opened.end.series[1].series == 3 && opened.end.series[1].login == 0);
-    EXPECT(ftd_sender_open(opened.end, 100, series, 2).refusal == FTD_OPENING);
+    EXPECT(opened.end.series[0].reserve == 0 && opened.end.series[1].reserve == 0);
+    EXPECT(day_open(opened.end, 100, 2, 0, 0).refusal == FTD_OPENING);
     EXPECT(ftd_publish(opened.end, 5, 0x7777, large, 4006, day_log, sizeof day_log).refusal == FTD_UNKNOWN_SERIES);
     first = ftd_publish(opened.end, 3, 0x7777, large, 4006, day_log, sizeof day_log);
     EXPECT(first.refusal == 0 && first.number == 1 && first.end.used == 4006 + FTD_LOG_HEAD);
@@ -250,6 +263,7 @@ static struct ftd_sender serving(void) {
     EXPECT(memcmp(day_log + FTD_LOG_HEAD, large, 4006) == 0);
     second = ftd_publish(first.end, 3, 0x7778, large, sizeof large, day_log, sizeof day_log);
     EXPECT(second.refusal == 0 && second.number == 2 && second.end.series[1].published == 2);
+    EXPECT(second.end.series[1].used == second.end.used && second.end.series[0].used == 0);
     EXPECT(ftd_publish(second.end, 3, 0x2003, large, 4006, day_log, sizeof day_log).refusal == FTD_COMPOSITION);
     return second.end;
 }
@@ -475,9 +489,9 @@ static void packets_ended(void) {
     EXPECT(sent.end.series[1].next == 3 && sent.end.series[1].piece == 0);
     EXPECT(packet_of(sent.end, PACKET).answer == FTD_SEND_NONE);
     /* An opening. */
-    opened = ftd_sender_open(second.end, 100, series, 2);
+    opened = day_open(second.end, 100, 2, 0, 0);
     EXPECT(opened.refusal == FTD_OPENING && opened.end.series[1].piece == 2);
-    opened = ftd_sender_open(second.end, 101, series, 2);
+    opened = day_open(second.end, 101, 2, 0, 0);
     EXPECT(opened.refusal == 0 && opened.end.series[1].piece == 0);
     EXPECT(packet_of(opened.end, PACKET).refusal == FTD_NOT_LOGGED_IN);
 }
@@ -813,7 +827,7 @@ static struct ftd_published_several publish_records(struct ftd_sender end, size_
 
 /* Two records, a refused one and another: those before the refused one are in, and it is taken. */
 static void several_published(void) {
-    struct ftd_sender sender = ftd_sender_open(ftd_sender_fresh(), 100, series, 2).end;
+    struct ftd_sender sender = day_open(ftd_sender_fresh(), 100, 2, 0, 0).end;
     struct ftd_published_several got;
     struct ftd_published one;
     size_t second = record_at(0, 3, 0x7777, 4006), third = record_at(second, 7, 0x7778, 0);
@@ -836,7 +850,7 @@ static void several_published(void) {
 /* Short comes before 7, which comes when the bytes are there. */
 static void several_records_short(void) {
     static const uint8_t most[FTD_RECORD_HEAD] = {0, 3, 0, 0, 0x77, 0x77, 255, 255, 255, 255};
-    struct ftd_sender sender = ftd_sender_open(ftd_sender_fresh(), 100, series, 2).end;
+    struct ftd_sender sender = day_open(ftd_sender_fresh(), 100, 2, 0, 0).end;
     struct ftd_published_several got;
     size_t i, second = record_at(0, 3, 0x7777, 4006), end = record_at(second, 3, 0x7777, FTD_MOST_CONTENT + 1);
 
@@ -854,6 +868,96 @@ static void several_records_short(void) {
     EXPECT(got.refusal == FTD_FIELD_RUN && got.taken == end && got.end.series[1].published == 1);
     got = ftd_publish_several(sender, most, sizeof most, day_log, sizeof day_log);
     EXPECT(got.answer == FTD_SEVERAL_SHORT && got.missing == UINT32_MAX && got.taken == 0);
+}
+
+/* ---- A share of the log for each series (02, No. 11) ---- */
+
+/* Openings: as many reserves as series, together at most the log's length; sums that pass the type are no less. */
+static void reserves_opened(void) {
+    static uint8_t before[sizeof day_log];
+    const size_t all = sizeof day_log, half = SIZE_MAX / 2 + 1, three[3] = {0, 0, 0};
+    struct ftd_sender fresh = ftd_sender_fresh();
+    struct ftd_sender_opened opened;
+
+    memset(day_log, 0x5A, sizeof day_log);
+    memcpy(before, day_log, sizeof before);
+    opened = day_open(fresh, 100, 2, all - 40, 40);
+    EXPECT(opened.refusal == 0 && opened.end.series[0].reserve == all - 40 && opened.end.series[1].reserve == 40);
+    EXPECT(opened.end.series[0].used == 0 && opened.end.series[1].used == 0 && opened.end.used == 0);
+    EXPECT(day_open(fresh, 100, 1, all, 0).refusal == 0 && day_open(fresh, 100, 1, all + 1, 0).refusal == FTD_OPENING);
+    EXPECT(day_open(fresh, 100, 2, all - 40, 41).refusal == FTD_OPENING);
+    EXPECT(day_open(fresh, 100, 2, 0, all + 1).refusal == FTD_OPENING);
+    EXPECT(day_open(fresh, 100, 2, SIZE_MAX, 1).refusal == FTD_OPENING);
+    EXPECT(day_open(fresh, 100, 2, half, half).refusal == FTD_OPENING);
+    EXPECT(ftd_sender_open(fresh, 100, series, 2, three, 1, day_log, all).refusal == FTD_OPENING);
+    EXPECT(ftd_sender_open(fresh, 100, series, 2, three, 3, day_log, all).refusal == FTD_OPENING);
+    /* A refused opening leaves the reserves; a new day brings new ones. */
+    opened = day_open(opened.end, 101, 2, all, 1);
+    EXPECT(opened.refusal == FTD_OPENING && opened.end.date == 100 && opened.end.series[0].reserve == all - 40);
+    opened = day_open(opened.end, 101, 2, 1, all - 1);
+    EXPECT(opened.refusal == 0 && opened.end.series[0].reserve == 1 && opened.end.series[1].reserve == all - 1);
+    EXPECT(memcmp(day_log, before, sizeof before) == 0);
+}
+
+/* The accounts of both series are the same. */
+static int same_accounts(const struct ftd_sender *a, const struct ftd_sender *b) {
+    int i, same = a->used == b->used;
+
+    for (i = 0; i < 2; i++)
+        same = same && a->series[i].used == b->series[i].used && a->series[i].reserve == b->series[i].reserve &&
+               a->series[i].published == b->series[i].published;
+    return same;
+}
+
+/* An entry of so many bytes for a series, in a log of so many. Where it is refused, the accounts stay. */
+static uint8_t entry(struct ftd_sender *end, uint16_t of, size_t bytes, size_t log_len) {
+    uint8_t content[128] = {0, 0, 0x70, 1, 0, 0};
+    struct ftd_published published;
+
+    content[5] = (uint8_t)(bytes - FTD_LOG_HEAD - 6);
+    published = ftd_publish(*end, of, 0x7777, content, bytes - FTD_LOG_HEAD, day_log, log_len);
+    EXPECT(published.refusal == 0 || same_accounts(&published.end, end));
+    *end = published.end;
+    return published.refusal;
+}
+
+/* 100 bytes of log, 60 of them reserved for series 3: series 7 has 40, and series 3 its 60 whatever series 7 does. */
+static void shares_published(void) {
+    const size_t reserves[2] = {0, 60};
+    struct ftd_sender end = ftd_sender_open(ftd_sender_fresh(), 100, series, 2, reserves, 2, day_log, 100).end, full;
+
+    EXPECT(entry(&end, 7, 41, 100) == FTD_TOO_SMALL && entry(&end, 7, 40, 100) == 0);
+    EXPECT(end.used == 40 && end.series[0].used == 40 && end.series[1].used == 0);
+    EXPECT(entry(&end, 7, 22, 100) == FTD_TOO_SMALL && entry(&end, 3, 61, 100) == FTD_TOO_SMALL);
+    EXPECT(entry(&end, 3, 38, 100) == 0 && end.used == 78 && end.series[1].used == 38);
+    /* The log has 22 bytes left; they are reserved. */
+    EXPECT(entry(&end, 7, 22, 100) == FTD_TOO_SMALL && entry(&end, 3, 23, 100) == FTD_TOO_SMALL);
+    /* In a shorter one 18 meets series 3 too, below the used part it is 20; in a longer one there is more room. */
+    full = end;
+    EXPECT(entry(&end, 3, 22, 99) == FTD_TOO_SMALL && entry(&end, 3, 22, 78) == FTD_TOO_SMALL);
+    EXPECT(entry(&end, 3, 22, 77) == FTD_DAMAGED_LOG && entry(&full, 7, 22, 122) == 0 && full.series[0].used == 62);
+    EXPECT(entry(&end, 3, 22, 100) == 0 && end.used == 100 && end.series[1].used == 60);
+    EXPECT(entry(&end, 3, 22, 100) == FTD_TOO_SMALL);
+}
+
+/* Beyond its reserve a series has what the others' shares leave; a full series keeps its reserve; 18 before 21. */
+static void shares_beyond(void) {
+    const size_t reserves[2] = {30, 20};
+    struct ftd_sender end = ftd_sender_open(ftd_sender_fresh(), 100, series, 2, reserves, 2, day_log, 100).end;
+
+    EXPECT(entry(&end, 7, 81, 100) == FTD_TOO_SMALL && entry(&end, 7, 58, 100) == 0);
+    EXPECT(entry(&end, 7, 23, 100) == FTD_TOO_SMALL && entry(&end, 7, 22, 100) == 0 && end.series[0].used == 80);
+    EXPECT(end.series[0].reserve == 30);
+    end.series[1].published = FTD_MOST_MESSAGES;
+    EXPECT(ftd_publish(end, 3, 0x7777, NULL, 0, day_log, 100).refusal == FTD_DAY_FULL);
+    EXPECT(entry(&end, 3, 22, 100) == FTD_TOO_SMALL);
+    EXPECT(ftd_publish(end, 7, 0x7777, NULL, 0, day_log, 100).refusal == FTD_TOO_SMALL);
+    /* Accounts that no call left, up to the type's limit. */
+    end.series[0].reserve = end.series[1].reserve = SIZE_MAX / 2 + 1;
+    EXPECT(ftd_publish(end, 7, 0x7777, NULL, 0, day_log, sizeof day_log).refusal == FTD_TOO_SMALL);
+    end.series[0].reserve = end.series[1].reserve = 0;
+    end.series[0].used = SIZE_MAX;
+    EXPECT(ftd_publish(end, 7, 0x7777, NULL, 0, day_log, sizeof day_log).refusal == FTD_TOO_SMALL);
 }
 
 /* ---- The trading calendar ---- */
@@ -1457,12 +1561,15 @@ static void nulls_at_the_ends(void) {
     struct ftd_sender sender = serving();
     struct ftd_receiver receiver = receiving();
     struct ftd_published empty;
+    const size_t none[2] = {0, 0};
 
-    EXPECT(ftd_sender_open(sender, 101, NULL, 0).refusal == FTD_OPENING);
+    EXPECT(ftd_sender_open(sender, 101, NULL, 0, NULL, 0, NULL, 0).refusal == FTD_OPENING);
+    EXPECT(ftd_sender_open(sender, 101, series, 2, NULL, 0, NULL, 0).refusal == FTD_OPENING);
+    EXPECT(ftd_sender_open(sender, 101, series, 2, none, 2, NULL, 0).refusal == 0);
     EXPECT(ftd_receiver_open(ftd_receiver_fresh(), NULL, 0).refusal == FTD_OPENING);
     empty = ftd_publish(sender, 7, 0x7777, NULL, 0, day_log, sizeof day_log);
     EXPECT(empty.refusal == 0 && empty.number == 1 && empty.end.used == sender.used + FTD_LOG_HEAD);
-    EXPECT(ftd_publish(ftd_sender_open(sender, 101, series, 1).end, 7, 0x7777, NULL, 0, NULL, 0).refusal ==
+    EXPECT(ftd_publish(day_open(sender, 101, 1, 0, 0).end, 7, 0x7777, NULL, 0, NULL, 0).refusal ==
            FTD_TOO_SMALL);
     EXPECT(ftd_request_login(receiver, 3, NULL, 0, login, sizeof login).refusal == FTD_COMPOSITION);
     EXPECT(ftd_request_login(receiver, 3, request, sizeof request, NULL, 0).refusal == FTD_TOO_SMALL);
@@ -1532,7 +1639,7 @@ static void any_state(void) {
     EXPECT(ftd_send_packet(sender, 65535, day_log, sizeof day_log, output, sizeof output).answer == FTD_SEND_NONE);
     EXPECT(ftd_login(sender, 65535, login, login_bytes, answer, sizeof answer, output, sizeof output).refusal ==
            FTD_UNKNOWN_SERIES);
-    EXPECT(ftd_sender_open(sender, 5, series, 2).refusal == FTD_OPENING);
+    EXPECT(day_open(sender, 5, 2, 0, 0).refusal == FTD_OPENING);
     EXPECT(ftd_receiver_open(receiver, series, 2).refusal == FTD_OPENING);
     EXPECT(ftd_receive(receiver, bytes, sizeof bytes, buffer, sizeof buffer).refusal == FTD_OTHER_DAY);
     EXPECT(ftd_receive_several(receiver, bytes, sizeof bytes, buffer, sizeof buffer).refusal == FTD_OTHER_DAY);
@@ -1579,6 +1686,9 @@ int main(void) {
     several_short();
     several_published();
     several_records_short();
+    reserves_opened();
+    shares_published();
+    shares_beyond();
     calendar_set();
     calendar_asked();
     marks();

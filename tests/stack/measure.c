@@ -18,6 +18,7 @@ static uint8_t log_bytes[LOG], output[FTD_MOST_OUTPUT], packet[8192], buffer[FTD
 static uint8_t quotes[FTD_MOST_CONTENT];
 static size_t filled, texts, logins, quoted;
 static const uint16_t series[] = {1, 2, 3, 4, 5, 6, 7, 8};
+static const size_t reserves[] = {1000, 1000, 1000, 1000, 1000, 1000, 1000, 40000};
 static struct ftd_sender sender;
 static struct ftd_receiver receiver;
 static struct ftd_book book;
@@ -79,7 +80,7 @@ static void broken(void)
 }
 static void open_sender(void)
 {
-    opened = ftd_sender_open(sender, 20040101, series, 8);
+    opened = ftd_sender_open(sender, 20040101, series, 8, reserves, 8, log_bytes, sizeof log_bytes);
     refusal = opened.refusal;
 }
 static void open_receiver(void)

@@ -164,10 +164,10 @@ said-eight n h =
     record { series = length-map (n .series) daySeriesFor ∙ h; places = length-map (n .series) placeFor ∙ h }
 
 module _ (e : Sender) (z : SenderEight e) where
-  opened-is : (date : ℕ) (ss : List ℕ) (r : Left Sender Opened) → OpenDone e date ss r
+  opened-is : (date : ℕ) (ss rs log : List ℕ) (r : Left Sender Opened) → OpenDone e date ss rs log r
       → SenderIs (dayOpenedNumbers r .end) (r .end)
-  opened-is date ss r (open-refused q) = sender-is e z
-  opened-is date ss r (open-taken q h) = sender-is (openedSender date ss) (opened-eight date ss q)
+  opened-is date ss rs log r (open-refused q) = sender-is e z
+  opened-is date ss rs log r (open-taken q h g k) = sender-is (openedSender date ss rs) (opened-eight date ss rs q)
 
   published-eight : (s tid : ℕ) (content log : List ℕ) (r : Wrote Sender Published)
       → PublishDone e s tid content log r → SenderEight (r .end)
@@ -227,9 +227,11 @@ module _ (n : FtdSender) (e : Sender) (h : SenderIs n e) where
   eight-of : SenderEight e
   eight-of = rw (h .0) at (said-eight n (h .1))
 
-  open-day : (date : ℕ) (ss : List ℕ)
-      → SenderIs (dayOpenedNumbers (openDayOf (senderFor n) date ss) .end) (openDayOf e date ss .end)
-  open-day date ss = rw (h .0) (opened-is e eight-of date ss (openDayOf e date ss) (open-cases e date ss))
+  open-day : (date : ℕ) (ss rs log : List ℕ)
+      → SenderIs (dayOpenedNumbers (openDayOf (senderFor n) date ss rs log) .end) (openDayOf e date ss rs log .end)
+  open-day date ss rs log =
+      rw (h .0)
+      (opened-is e eight-of date ss rs log (openDayOf e date ss rs log) (open-cases e date ss rs log))
 
   publish : (s tid : ℕ) (content log : List ℕ)
       → SenderIs (publishedNumbers (publishOf (senderFor n) s tid content log) .end)

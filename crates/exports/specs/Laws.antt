@@ -33,8 +33,8 @@ pub record EndLaws : Type 0 where
   -- So calls one behind the other, each given the numbers that the last one left, are the calls of `flow` one behind
   -- the other: a fresh end is one, and where the numbers given are an end, those left are the end that the call leaves.
   pub fresh-sender : SenderIs (senderNumbers freshSender) freshSender
-  pub open-day : (n : FtdSender) (e : Sender) → SenderIs n e → (date : ℕ) (ss : List ℕ)
-      → SenderIs (dayOpenedNumbers (openDayOf (senderFor n) date ss) .end) (openDayOf e date ss .end)
+  pub open-day : (n : FtdSender) (e : Sender) → SenderIs n e → (date : ℕ) (ss rs log : List ℕ)
+      → SenderIs (dayOpenedNumbers (openDayOf (senderFor n) date ss rs log) .end) (openDayOf e date ss rs log .end)
   pub publish : (n : FtdSender) (e : Sender) → SenderIs n e → (s tid : ℕ) (content log : List ℕ)
       → SenderIs (publishedNumbers (publishOf (senderFor n) s tid content log) .end)
       (publishOf e s tid content log .end)

@@ -38,7 +38,8 @@ use Rattle.exports.specs.declared.serving.FtdSentPacket.{FtdSentPacket}
 -- ─── The end that numbers say: any number but 0 is true, and a trade date unless dated is 0 ───
 
 abbrev pub daySeriesFor : FtdServed → DaySeries
-daySeriesFor x = record { series = x .series; published = x .published }
+daySeriesFor x =
+    record { series = x .series; published = x .published; reserve = x .reserve; used = x .used }
 
 abbrev pub placeFor : FtdServed → Place
 placeFor x = record { login = not (eqb (x .login) 0); next = x .next; piece = x .piece }
@@ -54,6 +55,8 @@ servedNumbers d p =
     record {
       next = p .next;
       piece = p .piece;
+      reserve = d .reserve;
+      used = d .used;
       published = d .published;
       series = d .series;
       login = flag (p .login);

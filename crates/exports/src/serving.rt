@@ -22,12 +22,14 @@ use flow::sender::Sent;
 use flow::sender::SentPacket;
 use ftd::refusal::number;
 
-// A series: the number that is sent next, how many packets of that message were written one by one, how many were
-// published, and whether it is logged in.
+// A series: the number that is sent next, how many packets of that message were written one by one, its reserve of the
+// log and how many bytes its entries take, how many were published, and whether it is logged in.
 #[repr(C)]
 pub struct FtdServed {
     pub next: u64,
     pub piece: u64,
+    pub reserve: usize,
+    pub used: usize,
     pub published: u32,
     pub series: u16,
     pub login: u8,
@@ -90,6 +92,8 @@ pub(crate) fn sender_for(s: FtdSender) -> Sender
     let mut series = [DaySeries {
         series: 0,
         published: 0,
+        reserve: 0,
+        used: 0,
     }; 8];
     let mut places = [Place {
         login: false,
@@ -102,6 +106,8 @@ pub(crate) fn sender_for(s: FtdSender) -> Sender
         series[i] = DaySeries {
             series: one.series,
             published: one.published,
+            reserve: one.reserve,
+            used: one.used,
         };
         places[i] = Place {
             login: one.login != 0,
@@ -128,6 +134,8 @@ fn served(d: DaySeries, p: Place) -> FtdServed
     FtdServed {
         next: p.next,
         piece: p.piece as u64,
+        reserve: d.reserve,
+        used: d.used,
         published: d.published,
         series: d.series,
         login: flag_of(p.login),
@@ -144,6 +152,8 @@ pub(crate) fn sender_numbers(e: Sender) -> FtdSender
     let mut all = [FtdServed {
         next: 0,
         piece: 0,
+        reserve: 0,
+        used: 0,
         published: 0,
         series: 0,
         login: 0,
@@ -180,12 +190,19 @@ pub(crate) fn opened(a: Opened) -> u8
     }
 }
 
-// Opening: a trade date and the series.
+// Opening: a trade date, the series and a reserve of the log for each; of the log only the length counts.
 #[no_mangle]
-pub extern "C" fn ftd_sender_open(end: FtdSender, date: u32, series: &[u16]) -> FtdSenderOpened
-    ensures { λ r. ⌜ r ≡ dayOpenedNumbers (openDayOf (senderFor end) date (now (series .entry))) ⌝ }
+pub extern "C" fn ftd_sender_open(
+    end: FtdSender,
+    date: u32,
+    series: &[u16],
+    reserves: &[usize],
+    log: &[u8],
+) -> FtdSenderOpened
+    ensures { λ r. ⌜ r ≡ dayOpenedNumbers (openDayOf (senderFor end) date (now (series .entry))
+        (now (reserves .entry)) (now (log .entry))) ⌝ }
 {
-    let step = sender_for(end).open(date, series);
+    let step = sender_for(end).open(date, series, reserves, log);
     let after = step.end;
     let answer = step.answer;
     FtdSenderOpened {

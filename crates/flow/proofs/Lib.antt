@@ -15,6 +15,7 @@ pub mod numbers
 pub mod Agreement
 pub mod PacketByPacket
 pub mod EveryPiece
+pub mod Shares
 pub mod Follows
 pub mod bench
 pub mod Biggest

@@ -46,7 +46,8 @@ use Rattle.flow.proofs.source.Sources.{Source, move-source, freshSide, 
 
 pub record SourceLaws : Type 0 where
   -- Each call is a move: nothing, or what the call does that was taken (`Move`). In any state, of any arguments.
-  pub open-moves : (v : SenderSide) (date : ℕ) (ss : List ℕ) → Move v (afterOpen v date (openDayOf (v .end) date ss))
+  pub open-moves : (v : SenderSide) (date : ℕ) (ss rs : List ℕ)
+      → Move v (afterOpen v date (openDayOf (v .end) date ss rs (v .log)))
   pub publish-moves : (v : SenderSide) (s tid : ℕ) (content : List ℕ)
       → Move v (afterPublish v s tid content (publishOf (v .end) s tid content (v .log)))
   pub login-moves : (v : SenderSide) (s : ℕ) (p content out : List ℕ)

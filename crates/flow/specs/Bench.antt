@@ -82,7 +82,7 @@ receivesRow k =
 unfoldable pub four : World
 four =
     run (start (space 100) [])
-    (openSender 7 (1 ∷ []) ∷ publish 1 tid (note 1 3) ∷ publish 1 tid [] ∷ publish 1 tid [] ∷ publish 1 tid [] ∷ [])
+    (openSender 7 (1 ∷ []) (0 ∷ []) ∷ publish 1 tid (note 1 3) ∷ publish 1 tid [] ∷ publish 1 tid [] ∷ publish 1 tid [] ∷ [])
 
 -- A login by the packet that Ask writes at a last number; next is one above.
 abbrev pub logsIn : ℕ → Wrote Sender LoggedIn

@@ -41,7 +41,7 @@ abbrev pub reaches : ℕ → ℕ → Bool
 reaches packets bytes =
     same
     (numbers
-    (publishedSaid (publishOf (openDayOf freshSender 7 (1 ∷ []) .end) 1 tid biggestContent (space 32784) .answer)))
+    (publishedSaid (publishOf (openDayOf freshSender 7 (1 ∷ []) (0 ∷ []) [] .end) 1 tid biggestContent (space 32784) .answer)))
     (numbers (published 1))
     && eqb (length (packetsOf biggestMessage biggestContent)) packets
     && eqb (length (joined (packetsOf biggestMessage biggestContent))) bytes

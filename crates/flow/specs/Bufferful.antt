@@ -117,7 +117,7 @@ pub record OneByOne {E A B : Type 0} (R : Repeated E A B) : Type 0 where
 
 -- A Receive that hands on no message.
 abbrev pub unheard : World → Event → Bool
-unheard w (openSender date ss) = false
+unheard w (openSender date ss rs) = false
 unheard w (publish s tid content) = false
 unheard w (login s i content out) = false
 unheard w (send s out) = false

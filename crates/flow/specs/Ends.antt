@@ -121,8 +121,17 @@ isDay d (At e) = eqb e d
 
 -- ─── The serving end ───
 
-abbrev pub newSeries : ℕ → DaySeries
-newSeries s = record { series = s; published = 0 }
+abbrev pub newSeries : ℕ → ℕ → DaySeries
+newSeries s reserve = record { series = s; published = 0; reserve = reserve; used = 0 }
+
+abbrev pub noSeries : DaySeries
+noSeries = newSeries 0 0
+
+-- The series of an opening, each with its reserve; 0 where none is given.
+abbrev pub openedSeries : List ℕ → List ℕ → List DaySeries
+openedSeries [] rs = []
+openedSeries (s ∷ ss) [] = newSeries s 0 ∷ openedSeries ss []
+openedSeries (s ∷ ss) (r ∷ rs) = newSeries s r ∷ openedSeries ss rs
 
 abbrev pub noPlace : Place
 noPlace = record { login = false; next = 0; piece = 0 }
@@ -137,7 +146,7 @@ sender date count series used places =
 
 -- A fresh end holds no series, no day and no login.
 unfoldable pub freshSender : Sender
-freshSender = sender None 0 (replicate mostSeries (newSeries 0)) 0 (replicate mostSeries noPlace)
+freshSender = sender None 0 (replicate mostSeries noSeries) 0 (replicate mostSeries noPlace)
 
 -- The open series, in the opening's order.
 unfoldable pub daySeries : Sender → List ℕ
@@ -147,17 +156,50 @@ unfoldable pub isServed : Sender → ℕ → Bool
 isServed e s = member s (daySeries e)
 
 unfoldable pub publishedOf : Sender → ℕ → ℕ
-publishedOf e s = getD (e .day .series) (indexOf s (daySeries e)) (newSeries 0) .published
+publishedOf e s = getD (e .day .series) (indexOf s (daySeries e)) noSeries .published
+
+-- Its reserve, and the bytes that its entries take (02, No. 11).
+unfoldable pub reserveOf : Sender → ℕ → ℕ
+reserveOf e s = getD (e .day .series) (indexOf s (daySeries e)) noSeries .reserve
+
+unfoldable pub usedOf : Sender → ℕ → ℕ
+usedOf e s = getD (e .day .series) (indexOf s (daySeries e)) noSeries .used
 
 unfoldable pub placeOf : Sender → ℕ → Place
 placeOf e s = getD (e .seat .places) (indexOf s (daySeries e)) noPlace
+
+-- The series with one more published, in an entry of so many bytes.
+abbrev pub grownSeries : Sender → ℕ → ℕ → DaySeries
+grownSeries e s size =
+    record {
+      series = s;
+      published = publishedOf e s + 1;
+      reserve = reserveOf e s;
+      used = usedOf e s + size;
+    }
 
 -- One more is published in a series, in an entry of so many bytes.
 unfoldable pub withEntry : Sender → ℕ → ℕ → Sender
 withEntry e s size =
     sender (e .day .date) (e .day .count)
-    (set (e .day .series) (indexOf s (daySeries e)) (record { series = s; published = publishedOf e s + 1 }))
+    (set (e .day .series) (indexOf s (daySeries e)) (grownSeries e s size))
     (e .day .used + size) (e .seat .places)
+
+-- ─── Shares of the log (02, No. 11) ───
+
+abbrev pub sumOf : List ℕ → ℕ
+sumOf [] = 0
+sumOf (n ∷ l) = n + sumOf l
+
+abbrev pub larger : ℕ → ℕ → ℕ
+larger a b = cond (ltb a b) b a
+
+-- A series takes the larger of the bytes used and its reserve; all open ones together take so many.
+abbrev pub shareOf : DaySeries → ℕ
+shareOf x = larger (x .used) (x .reserve)
+
+unfoldable pub sharesOf : Sender → ℕ
+sharesOf e = sumOf (map shareOf (take (e .day .count) (e .day .series)))
 
 -- Logged in to a series, with a number next, of which so many packets were written one by one.
 unfoldable pub withPlace : Sender → ℕ → ℕ → ℕ → Sender

@@ -49,7 +49,7 @@ heldNow w =
 -- A message of four packets, F, C, C, L, is published; the receiving end logs in; it is sent.
 abbrev pub fourPackets : List Event
 fourPackets =
-    openSender 7 (1 ∷ [])
+    openSender 7 (1 ∷ []) (0 ∷ [])
     ∷ openReceiver (1 ∷ [])
     ∷ publish 1 tid (note 1 2100 ++ (note 2 2100 ++ (note 3 2100 ++ note 4 2100)))
     ∷ requestLogin 1 reqLogin (space 200)

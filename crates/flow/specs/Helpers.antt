@@ -12,6 +12,9 @@ use Rattle.ftd.specs.declared.refusal.Refusal.{Refusal}
 use Rattle.flow.specs.declared.series.SeriesPlace.{SeriesPlace}
 use Rattle.flow.specs.declared.series.SeriesPlace.the-variants.{Unknown, At}
 use Rattle.flow.specs.declared.sender.Sender.{Sender}
+use Rattle.ftd.specs.declared.refusal.Refusal.the-variants.{Opening}
+use Rattle.flow.specs.declared.sender.Opened.the-variants.{Refused as NotOpened}
+use Rattle.flow.specs.declared.sender.OpenStep.{OpenStep}
 use Rattle.flow.specs.declared.sender.Published.the-variants.{Refused}
 use Rattle.flow.specs.declared.sender.PublishStep.{PublishStep}
 use Rattle.flow.specs.declared.receiver.KeptSeries.{KeptSeries}
@@ -30,6 +33,10 @@ use Rattle.flow.specs.Log.{entrySeries, entryNumber, strangeSeries, nonz
 abbrev pub Finds : Sender → ℕ → SeriesPlace → Type 0
 Finds e s Unknown = isServed e s ≡ false
 Finds e s (At i) = (isServed e s ≡ true) × (i ≡ indexOf s (daySeries e)) × (i < 8)
+
+-- A refused Opening leaves the end.
+abbrev pub unopened : Sender → OpenStep
+unopened e = record { end = e; answer = NotOpened Opening }
 
 -- A refused Publish leaves the end.
 abbrev pub unpublished : Sender → Refusal → PublishStep

@@ -8,6 +8,7 @@ pub mod World
 pub mod Agreement
 pub mod PacketByPacket
 pub mod EveryPiece
+pub mod Shares
 pub mod Bench
 pub mod Follows
 pub mod Biggest
@@ -15,6 +16,7 @@ pub mod Several
 pub mod Bufferful
 pub mod SeveralHelpers
 pub mod Helpers
+pub mod ShareHelpers
 pub mod LoginHelpers
 pub mod SendHelpers
 pub mod ReceiveHelpers

@@ -21,7 +21,7 @@ use Rattle.flow.specs.declared.sender.Sender.{Sender}
 use Rattle.flow.specs.declared.sender.LoggedIn.{LoggedIn}
 use Rattle.flow.specs.declared.sender.LoggedIn.the-variants.{Wrote as Answered}
 use Rattle.flow.specs.declared.sender.LoggedIn.the-variants.{Refused as NotIn}
-use Rattle.flow.specs.Ends.{_when_else_, Wrote, wrote, over, before, newSeries}
+use Rattle.flow.specs.Ends.{_when_else_, Wrote, wrote, over, before, noSeries}
 use Rattle.flow.specs.Serving.{wrongRun, noLogin, notZero, startElsewhere}
 use Rattle.flow.specs.Helpers.{placedAt}
 
@@ -57,5 +57,5 @@ unfoldable pub loginAnswer : Sender → ℕ → ℕ → List ℕ → List ℕ �
 loginAnswer e i next content out =
     let answer = loginBytes (e .day .date) content in
     wrote e (NotIn TooSmall) out when ltb (length out) (length answer) else
-    wrote e (NotIn WrongStart) out when startOutside (getD (e .day .series) i (newSeries 0) .published) next else
+    wrote e (NotIn WrongStart) out when startOutside (getD (e .day .series) i noSeries .published) next else
     wrote (placedAt e i next 0) (Answered (length answer)) (over answer out)

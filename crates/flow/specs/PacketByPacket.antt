@@ -136,7 +136,7 @@ shown w =
 -- received.
 abbrev pub begins2 : List Event
 begins2 =
-    openSender 7 (1 ∷ [])
+    openSender 7 (1 ∷ []) (0 ∷ [])
     ∷ openReceiver (1 ∷ [])
     ∷ publish 1 tid (note 1 2034 ++ note 2 2035)
     ∷ publish 1 tid (note 3 3)

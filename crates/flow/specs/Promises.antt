@@ -29,9 +29,9 @@ Answers said given meant = (said given ≡ said meant) × (given ≡ meant)
 
 -- ─── The serving end ───
 
-abbrev pub OpensDay : Sender → ℕ → List ℕ → OpenDayStep → Type 0
-OpensDay e date series r =
-    let meant = openDayOf e date series in
+abbrev pub OpensDay : Sender → ℕ → List ℕ → List ℕ → List ℕ → OpenDayStep → Type 0
+OpensDay e date series reserves log r =
+    let meant = openDayOf e date series reserves log in
     (r .end ≡ meant .end) × Answers openedSaid (r .answer) (meant .answer)
 
 abbrev pub Publishes : Sender → ℕ → ℕ → List ℕ → List ℕ → PublishStep → List ℕ → Type 0

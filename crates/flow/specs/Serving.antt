@@ -2,7 +2,7 @@
 -- the table's order and then what the call does. It gives the answer, the end, and every byte of the buffer that the
 -- call may write.
 use Prim.Native.Nat.{ℕ, suc, _+_}
-use mathlib.Core.List.{List, [], map}
+use mathlib.Core.List.{List, []}
 use mathlib.Core.Bool.{Bool, true, false, cond, not, _||_}
 use mathlib.Core.Option.{Option, none, some}
 use lib.ListN.{length, replicate, getD}
@@ -48,21 +48,25 @@ use Rattle.flow.specs.declared.sender.SentPacket.the-variants.{Drained a
 use Rattle.flow.specs.declared.sender.SentPacket.the-variants.{Wrote as Packet-sent}
 use Rattle.flow.specs.declared.sender.SentPacket.the-variants.{Refused as NotPacket}
 use Rattle.flow.specs.Ends.{_when_else_, Left, Wrote, left, wrote, over, mostMessages, mostSeries, wrongSeries}
-use Rattle.flow.specs.Ends.{filled, before, upTo, newSeries, noPlace, sender, isServed, publishedOf, placeOf}
+use Rattle.flow.specs.Ends.{filled, before, upTo, noSeries, openedSeries, sumOf, sharesOf, noPlace, sender, isServed, publishedOf, placeOf}
 use Rattle.flow.specs.Ends.{withEntry, withPlace}
 use Rattle.flow.specs.Log.{entryBytes, entryTid, entryContent, logShort, entryFits, entryOf}
 
--- ─── Opening: a trade date above the present one, if any, and the series ───
+-- ─── Opening: a trade date above the present one, if any, the series and their reserves; the log's length ───
 
--- 11: against the opening's rule.
-abbrev pub wrongDayOpening : Sender → ℕ → List ℕ → Bool
-wrongDayOpening e date ss = wrongSeries ss || upTo date (e .day .date)
+-- 11: against the opening's rule; not one reserve for each series, or reserves above the log's length together (02, No.
+-- 11). Of the log only the length counts.
+abbrev pub wrongReserves : List ℕ → List ℕ → List ℕ → Bool
+wrongReserves ss rs log = not (eqb (length rs) (length ss)) || ltb (length log) (sumOf rs)
+
+abbrev pub wrongDayOpening : Sender → ℕ → List ℕ → List ℕ → List ℕ → Bool
+wrongDayOpening e date ss rs log = wrongSeries ss || upTo date (e .day .date) || wrongReserves ss rs log
 
 -- It empties log and logins.
-unfoldable pub openDayOf : Sender → ℕ → List ℕ → Left Sender Opened
-openDayOf e date ss =
-    left e (Refused Opening) when wrongDayOpening e date ss else
-    left (sender (At date) (length ss) (filled (newSeries 0) (map newSeries ss)) 0 (replicate mostSeries noPlace)) Done
+unfoldable pub openDayOf : Sender → ℕ → List ℕ → List ℕ → List ℕ → Left Sender Opened
+openDayOf e date ss rs log =
+    left e (Refused Opening) when wrongDayOpening e date ss rs log else
+    left (sender (At date) (length ss) (filled noSeries (openedSeries ss rs)) 0 (replicate mostSeries noPlace)) Done
 
 -- ─── Content that is given to a call, rows 7 to 10 ───
 
@@ -72,6 +76,12 @@ wrongRun content limit = not (shaped content limit)
 
 -- ─── Publish: series, TID and content; the log is written ───
 
+-- 18: with the entry the larger of bytes used and reserve, summed over all series, would pass the log's length (02, No. 11).
+-- That is never less than the bytes used (`Shares`), so that in an end that calls have made it decides alone; in any other
+-- the entry must fit the log too.
+abbrev pub overShares : Sender → ℕ → List ℕ → List ℕ → Bool
+overShares e s log content = ltb (length log) (sharesOf (withEntry e s (16 + length content)))
+
 unfoldable pub publishOf : Sender → ℕ → ℕ → List ℕ → List ℕ → Wrote Sender Published
 publishOf e s tid content log =
     refused FieldRun when wrongRun content mostContent else
@@ -80,7 +90,7 @@ publishOf e s tid content log =
     refused Composition when not (composed tid Down content) else
     refused UnknownSeries when not (isServed e s) else
     refused DamagedLog when logShort e log else
-    refused TooSmall when not (entryFits e log content) else
+    refused TooSmall when not (entryFits e log content) || overShares e s log content else
     refused DayFull when leb mostMessages (publishedOf e s) else
     wrote (withEntry e s (16 + length content)) (Number number)
     (put log (e .day .used) (entryBytes s tid number content))

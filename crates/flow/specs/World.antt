@@ -64,7 +64,7 @@ only false x = []
 -- What the line hands over is named by its place among all that the line was ever given, from 0; a place that names
 -- nothing is no call.
 pub data Event : Type 0 where
-  openSender : ℕ → List ℕ → Event  -- the serving end's Opening: trade date, series
+  openSender : ℕ → List ℕ → List ℕ → Event  -- the serving end's Opening: trade date, series, reserves
   publish : ℕ → ℕ → List ℕ → Event  -- series, TID, content
   login : ℕ → ℕ → List ℕ → List ℕ → Event  -- series, place of the login packet, the answer's content, output
   send : ℕ → List ℕ → Event  -- series, output
@@ -408,7 +408,8 @@ with w (some x) f = f x
 
 -- Each call gets the log and the buffer that the last one left.
 abbrev pub step : World → Event → World
-step w (openSender date ss) = serves w (afterOpen (w .serving) date (openDayOf (w .serving .end) date ss))
+step w (openSender date ss rs) =
+    serves w (afterOpen (w .serving) date (openDayOf (w .serving .end) date ss rs (w .serving .log)))
 step w (publish s tid content) =
     serves w (afterPublish (w .serving) s tid content (publishOf (w .serving .end) s tid content (w .serving .log)))
 step w (login s i content out) = with w (getElem? (w .receiving .requests) i) λ p.

@@ -6,6 +6,7 @@ ghost use Rattle.flow.specs.Bufferful.{Bufferful};
 ghost use Rattle.flow.specs.Follows.{NumbersFollow};
 ghost use Rattle.flow.specs.PacketByPacket.{PacketByPacket};
 ghost use Rattle.flow.specs.EveryPiece.{EveryPiece};
+ghost use Rattle.flow.specs.Shares.{Shares};
 
 pub mod limits; // the limits of both
 pub mod series; // series in a list
@@ -13,6 +14,7 @@ mod days; // trade dates compared
 mod header; // tests on a login packet
 mod log; // the log of the serving end
 mod login; // the serving end's Login
+mod room; // the room of the log that the series share
 mod confirm; // the receiving end's Answer
 pub mod sender; // the serving end
 mod receive; // the receiving end's Receive
@@ -32,6 +34,11 @@ pub fn keeps_packet_by_packet()
 // Every piece counted, as a promise.
 pub fn keeps_every_piece()
     ensures { λ _. ⌜ EveryPiece ⌝ }
+{}
+
+// A share of the log for each series, as a promise.
+pub fn keeps_shares()
+    ensures { λ _. ⌜ Shares ⌝ }
 {}
 
 // The bench examples P1 to P12, as a promise: the definitions answer what the paper says.

@@ -1,5 +1,4 @@
 // The serving end (01, "The serving end"): its state by value, and what its calls answer.
-ghost use mathlib.Core.List.{map};
 ghost use mathlib.Core.Option.{some};
 ghost use mathlib.Core.Path.{_≡_};
 ghost use Prim.Native.Nat.{_≤_, _<_};
@@ -9,9 +8,9 @@ ghost use Rattle.ftd.specs.declared.composition.Direction.the-variants.{Down};
 ghost use Rattle.ftd.specs.declared.items.Checked.the-variants.{Passed};
 ghost use Rattle.ftd.specs.Fields.{mostContent};
 ghost use Rattle.flow.specs.declared.series.SeriesPlace.the-variants.{At};
-ghost use Rattle.flow.specs.Ends.{freshSender, senderLimits, filled, newSeries};
+ghost use Rattle.flow.specs.Ends.{freshSender, senderLimits, filled, noSeries, openedSeries};
 ghost use Rattle.flow.specs.Biggest.{senderMost};
-ghost use Rattle.flow.specs.Helpers.{Finds, unpublished, placedAt};
+ghost use Rattle.flow.specs.Helpers.{Finds, unopened, unpublished, placedAt};
 ghost use Rattle.flow.specs.SendHelpers.{Leaves, FindsNext, EntryNext, headed, steppedAt};
 ghost use Rattle.flow.specs.Promises.{OpensDay, Publishes, Sends, SendsPacket, LogsIn};
 ghost use Rattle.flow.specs.Serving.{sendEntry, sendPacketEntry};
@@ -23,6 +22,8 @@ use crate::log::EntryPlace;
 use crate::log::find_entry;
 use crate::log::put_entry;
 use crate::login::log_in;
+use crate::room::over_shares;
+use crate::room::wrong_reserves;
 use crate::series::SeriesPlace;
 use crate::series::wrong_series;
 use ftd::bytes::be32;
@@ -39,10 +40,13 @@ use ftd::refusal::Refusal;
 use ftd::tags::TradeDate;
 use ftd::write::Written;
 
-// A series of the day, and how many messages were published in it.
+// A series of the day, how many messages were published in it, its reserve of the log in bytes, and how many bytes its
+// entries take (02, No. 11).
 pub struct DaySeries {
     pub series: u16,
     pub published: u32,
+    pub reserve: usize,
+    pub used: usize,
 }
 
 // The day: its trade date (01: mark), how many series are open, these in the opening's order, and how many bytes of the
@@ -145,20 +149,24 @@ pub(crate) enum NextMessage {
     },
 }
 
-// The day's places: the series of an opening, with no message published; the others empty.
-fn new_places(series: &[u16]) -> [DaySeries; 8]
-    requires { ⌜ length (now series) ≤ 8 ⌝ }
-    ensures { λ r. ⌜ r ≡ filled (newSeries 0) (map newSeries (now (series .entry))) ⌝ }
+// The day's places: the series of an opening, each with its reserve and no message published; the others empty.
+fn new_places(series: &[u16], reserves: &[usize]) -> [DaySeries; 8]
+    requires { ⌜ (length (now series) ≤ 8) × (length (now reserves) ≡ length (now series)) ⌝ }
+    ensures { λ r. ⌜ r ≡ filled noSeries (openedSeries (now (series .entry)) (now (reserves .entry))) ⌝ }
 {
     let mut all = [DaySeries {
         series: 0,
         published: 0,
+        reserve: 0,
+        used: 0,
     }; 8];
     let mut i: usize = 0;
     while i < series.len() {
         all[i] = DaySeries {
             series: series[i],
             published: 0,
+            reserve: reserves[i],
+            used: 0,
         };
         i += 1;
     }
@@ -217,6 +225,8 @@ impl Sender {
                 series: [DaySeries {
                     series: 0,
                     published: 0,
+                    reserve: 0,
+                    used: 0,
                 }; 8],
                 used: 0,
             },
@@ -249,30 +259,38 @@ impl Sender {
         SeriesPlace::Unknown
     }
 
-    // Opening: a trade date above the present one, if any, and the series; 11. It empties log and logins.
-    pub fn open(self, date: u32, series: &[u16]) -> OpenStep
-        ensures { λ r. ⌜ OpensDay self date (now (series .entry)) r ⌝ }
+    // A refused Opening leaves the end.
+    fn not_opened(self) -> OpenStep
+        ensures { λ r. ⌜ r ≡ unopened self ⌝ }
+    {
+        OpenStep {
+            end: self,
+            answer: Opened::Refused(Refusal::Opening),
+        }
+    }
+
+    // Opening: a trade date above the present one, if any, the series and their reserves, and the log, of which the length
+    // alone is read; 11. It empties log and logins.
+    pub fn open(self, date: u32, series: &[u16], reserves: &[usize], log: &[u8]) -> OpenStep
+        ensures { λ r. ⌜ OpensDay self date (now (series .entry)) (now (reserves .entry)) (now (log .entry)) r ⌝ }
     {
         let day = self.day;
         if wrong_series(series) {
-            return OpenStep {
-                end: self,
-                answer: Opened::Refused(Refusal::Opening),
-            };
+            return self.not_opened();
         }
         let present = day.date;
         if is_up_to(date, present) {
-            return OpenStep {
-                end: self,
-                answer: Opened::Refused(Refusal::Opening),
-            };
+            return self.not_opened();
+        }
+        if wrong_reserves(series, reserves, log) {
+            return self.not_opened();
         }
         OpenStep {
             end: Sender {
                 day: Day {
                     date: TradeDate::At(date),
                     count: series.len(),
-                    series: new_places(series),
+                    series: new_places(series, reserves),
                     used: 0,
                 },
                 seat: Seat {
@@ -319,6 +337,9 @@ impl Sender {
         if log.len() - day.used < size {
             return self.not_published(Refusal::TooSmall);
         }
+        if over_shares(day, at, size, log.len()) {
+            return self.not_published(Refusal::TooSmall);
+        }
         if one.published >= Sender::MOST_MESSAGES {
             return self.not_published(Refusal::DayFull);
         }
@@ -327,6 +348,8 @@ impl Sender {
         day.series[at] = DaySeries {
             series: series,
             published: number,
+            reserve: one.reserve,
+            used: one.used + size,
         };
         day.used = day.used + size;
         PublishStep {

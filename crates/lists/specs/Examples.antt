@@ -77,7 +77,8 @@ refusalWith f none = []
 refusalWith f (some x) = refusal (f x)
 
 abbrev pub refusalBy : World → Event → List ℕ
-refusalBy w (openSender date ss) = refusal (openedSaid (openDayOf (w .serving .end) date ss .answer))
+refusalBy w (openSender date ss rs) =
+    refusal (openedSaid (openDayOf (w .serving .end) date ss rs (w .serving .log) .answer))
 refusalBy w (publish s t content) =
     refusal (publishedSaid (publishOf (w .serving .end) s t content (w .serving .log) .answer))
 refusalBy w (login s i content out) =
@@ -107,7 +108,7 @@ refusals w (e ∷ es) = refusalBy w e ++ refusals (step w e) es
 unfoldable pub twoDays : List Event
 twoDays =
     publish 1 tid a1  -- refused 13
-    ∷ openSender 7 (3 ∷ 1 ∷ [])  -- the first day
+    ∷ openSender 7 (3 ∷ 1 ∷ []) (0 ∷ 0 ∷ [])  -- the first day
     ∷ openReceiver (1 ∷ 3 ∷ [])  -- in the other order
     ∷ openReceiver (1 ∷ 3 ∷ [])  -- refused 11
     ∷ publish 1 tid a1
@@ -138,8 +139,8 @@ twoDays =
     ∷ receive 2 0  -- a3
     ∷ receive 3 0  -- b1
     ∷ requestLogin 1 reqLogin (space 200)  -- login packet 2: of day 7, next 4
-    ∷ openSender 8 (3 ∷ 1 ∷ [])  -- the second day
-    ∷ openSender 8 (1 ∷ [])  -- refused 11
+    ∷ openSender 8 (3 ∷ 1 ∷ []) (0 ∷ 0 ∷ [])  -- the second day
+    ∷ openSender 8 (1 ∷ []) (0 ∷ [])  -- refused 11
     ∷ publish 1 tid c1
     ∷ connect
     ∷ receive 0 0  -- refused 14
@@ -178,12 +179,12 @@ twoDaysShown w =
 unfoldable pub early : List Event
 early =
     publish 1 tid a1  -- refused 13: no day
-    ∷ openSender 6 (1 ∷ [])
+    ∷ openSender 6 (1 ∷ []) (0 ∷ [])
     ∷ openReceiver (1 ∷ 3 ∷ [])
     ∷ requestLogin 5 reqLogin (space 200)  -- refused 13
     ∷ requestLogin 1 reqLogin (space 200)  -- login packet 0: next 1, no trade date
     ∷ login 1 0 rspLogin (space 200)  -- answer 0, of day 6
-    ∷ openSender 7 (3 ∷ 1 ∷ [])  -- in the other order than the receiving end
+    ∷ openSender 7 (3 ∷ 1 ∷ []) (0 ∷ 0 ∷ [])  -- in the other order than the receiving end
     ∷ publish 1 tid a1
     ∷ publish 1 tid c2  -- two packets
     ∷ publish 3 tid d1  -- two packets
@@ -232,7 +233,7 @@ lastOfThree = login 3 2 rspLogin (space 200)
 
 unfoldable pub late : List Event
 late =
-    openSender 7 (1 ∷ [])  -- refused 11
+    openSender 7 (1 ∷ []) (0 ∷ [])  -- refused 11
     ∷ openReceiver (1 ∷ [])  -- refused 11
     ∷ login 1 9 rspLogin (space 200)  -- no such login packet: no call
     ∷ send 1 (space 50)  -- message 4: a3
@@ -287,7 +288,7 @@ twoLoginsShown w =
 -- c2 and d1 take two packets each, of 2,070 and 2,071 bytes. Up to the last login.
 unfoldable pub singly : List Event
 singly =
-    openSender 7 (1 ∷ [])
+    openSender 7 (1 ∷ []) (0 ∷ [])
     ∷ openReceiver (1 ∷ [])
     ∷ publish 1 tid c2  -- number 1
     ∷ sendPacket 3 (space 2070)  -- refused 13
@@ -301,7 +302,7 @@ singly =
     ∷ sendPacket 1 (space 2070)  -- refused 18: the second packet has one byte more
     ∷ send 1 (space 4140)  -- refused 18: the whole message takes 4,141
     ∷ login 3 0 rspLogin (space 200)  -- refused 13
-    ∷ openSender 7 (1 ∷ [])  -- refused 11; none of these ends it
+    ∷ openSender 7 (1 ∷ []) (0 ∷ [])  -- refused 11; none of these ends it
     ∷ sendPacket 1 (space 2071)  -- its second packet: c2 is sent
     ∷ receive 0 1  -- c2
     ∷ sendPacket 1 (space 50)  -- transmission 1: a1, in one packet

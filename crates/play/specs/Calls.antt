@@ -21,7 +21,7 @@ use Rattle.play.specs.declared.calls.Call.the-variants.{Connect, Ask, An
 use Rattle.play.specs.declared.calls.Call.the-variants.{SetCalendar, AskTime, MarkDate, ReceiveAll, PublishAll}
 use Rattle.play.specs.declared.calls.Call.the-variants.{StartBook, TakeMessage, ShowLevel, ShowMean}
 use Rattle.play.specs.Words.{endOf, numberIn, tidIn, sameWord, argument, hasForm, mostNamed, seriesCount}
-use Rattle.play.specs.Words.{mostTimes, mostDates, mostListed, wordCount}
+use Rattle.play.specs.Words.{mostTimes, mostDates, mostListed, wordCount, shareCount}
 
 -- ─── The first word ───
 
@@ -72,7 +72,7 @@ unfoldable pub buffersWith : Bool → ℕ → ℕ → Call
 buffersWith right log chain =
     cond right (cond (ltb 1048576 log) Bad (cond (ltb 262144 chain) Bad (Buffers log chain))) Bad
 
--- A trade date of four bytes, and so many series.
+-- A trade date of four bytes, and so many series with their reserves.
 unfoldable pub openDayWith : ℕ → ℕ → Call
 openDayWith date count = cond (ltb 4294967295 date) Bad (cond (ltb mostNamed count) Bad (OpenDay date count))
 
@@ -139,7 +139,7 @@ numberAt line i = numberIn 10 (argument line i)
 abbrev pub namedCall : List ℕ → Verb → Call
 namedCall line Unknown = Bad
 namedCall line NamesBuffers = buffersWith (hasForm line 2 0) (numberAt line 0) (numberAt line 1)
-namedCall line NamesOpenDay = openDayWith (numberAt line 0) (seriesCount line 1)
+namedCall line NamesOpenDay = openDayWith (numberAt line 0) (shareCount line 1)
 namedCall line NamesPublish = publishWith (hasForm line 2 1) (numberAt line 0) (tidIn (argument line 1))
 namedCall line NamesLogin = loginCallWith (hasForm line 2 2) (numberAt line 0) (numberAt line 1)
 namedCall line NamesSend = sendWith (hasForm line 2 0) (numberAt line 0) (numberAt line 1) false

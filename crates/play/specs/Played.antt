@@ -23,7 +23,7 @@ use Rattle.play.specs.declared.calls.Call.the-variants.{Bad, Buffers, Op
 use Rattle.play.specs.declared.calls.Call.the-variants.{Connect, Ask, Answer, Receive, State}
 use Rattle.play.specs.declared.calls.Call.the-variants.{SetCalendar, AskTime, MarkDate, ReceiveAll, PublishAll}
 use Rattle.play.specs.declared.calls.Call.the-variants.{StartBook, TakeMessage, ShowLevel, ShowMean}
-use Rattle.play.specs.Words.{argument, saidBytes, seriesFrom, wordsFrom}
+use Rattle.play.specs.Words.{argument, saidBytes, seriesFrom, reservesFrom, wordsFrom}
 use Rattle.play.specs.Calls.{callOf, Limited}
 use Rattle.play.specs.Lines.{wordLine, numbered, openedLine, publishedLine, loginAnswerLine, sentLine, sentPacketLine}
 use Rattle.play.specs.Lines.{connected, requestedLine, confirmedLine, receivedLine, setLine, timeLine, dateLine}
@@ -144,9 +144,9 @@ Shows player lines r before after =
 
 -- ─── The calls, each in the buffers that it is lent ───
 
-abbrev pub ShowsOpenDay : Player → ℕ → List ℕ → Played → List ℕ → List ℕ → Type 0
-ShowsOpenDay p date series r before after =
-    let m = openDayOf (p .sender) date series in
+abbrev pub ShowsOpenDay : Player → ℕ → List ℕ → List ℕ → List ℕ → Played → List ℕ → List ℕ → Type 0
+ShowsOpenDay p date series reserves log r before after =
+    let m = openDayOf (p .sender) date series reserves log in
     Shows (withSender p (m .end)) (openedLine (m .answer)) r before after
 
 -- The log becomes `log′`.
@@ -270,6 +270,12 @@ layoutTurn p size part log chain =
     (cond (ltb (length chain) part) (badTurn p log chain)
     (turn (laidOut p size part) okLine (within size (replicate size 0) log) (within part (replicate part 0) chain)))
 
+-- The series of an opening, each with its reserve, from argument 1 on; the log stays.
+abbrev pub openDayTurn : Player → List ℕ → ℕ → ℕ → List ℕ → List ℕ → Turn
+openDayTurn p line date count log chain =
+    let m = openDayOf (p .sender) date (seriesFrom line 1 count) (reservesFrom line 1 count) (take (p .log) log) in
+    turn (withSender p (m .end)) (openedLine (m .answer)) log chain
+
 abbrev pub publishTurn : Player → ℕ → ℕ → List ℕ → List ℕ → List ℕ → Turn
 publishTurn p s tid content log chain =
     let m = publishOf (p .sender) s tid content (take (p .log) log) in
@@ -330,9 +336,7 @@ publishAllTurn p records log chain =
 abbrev pub readyTurn : Player → List ℕ → List ℕ → List ℕ → Call → Turn
 readyTurn p line log chain Bad = badTurn p log chain
 readyTurn p line log chain (Buffers size part) = badTurn p log chain
-readyTurn p line log chain (OpenDay date count) =
-    let m = openDayOf (p .sender) date (seriesFrom line 1 count) in
-    turn (withSender p (m .end)) (openedLine (m .answer)) log chain
+readyTurn p line log chain (OpenDay date count) = openDayTurn p line date count log chain
 readyTurn p line log chain (Publish s tid) = publishTurn p s tid (saidBytes (argument line 2)) log chain
 readyTurn p line log chain (Login s room) =
     loginTurn p s (saidBytes (argument line 2)) (saidBytes (argument line 3)) room log chain
@@ -421,6 +425,11 @@ Plays t r before after log chain =
     Shows (t .player) (t .said) r before after × (log ≡ t .log) × (chain ≡ t .chain)
 
 -- ─── The same of the buffers that a call is lent ───
+
+abbrev pub PlaysOpenDay : Player → List ℕ → ℕ → ℕ → List ℕ → Played → List ℕ → List ℕ → Type 0
+PlaysOpenDay p line date count log r before after =
+    let t = openDayTurn p line date count log [] in
+    Shows (t .player) (t .said) r before after
 
 abbrev pub PlaysPublish : Player → ℕ → ℕ → List ℕ → List ℕ → List ℕ → Played → List ℕ → List ℕ → Type 0
 PlaysPublish p s tid content log log′ r before after =

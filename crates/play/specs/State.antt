@@ -12,7 +12,7 @@ use Rattle.flow.specs.declared.sender.Sender.{Sender}
 use Rattle.flow.specs.declared.receiver.KeptSeries.{KeptSeries}
 use Rattle.flow.specs.declared.receiver.LiveSeries.{LiveSeries}
 use Rattle.flow.specs.declared.receiver.Receiver.{Receiver}
-use Rattle.flow.specs.Ends.{newSeries, noPlace, newKept, noLive}
+use Rattle.flow.specs.Ends.{noSeries, noPlace, newKept, noLive}
 use Rattle.listing.specs.Text.{decimalOf}
 use Rattle.play.specs.Lines.{gap, wordLine, numbered, none}
 
@@ -29,6 +29,12 @@ series = 115 ∷ 101 ∷ 114 ∷ 105 ∷ 101 ∷ 115 ∷ []
 
 abbrev pub publishedWord : List ℕ
 publishedWord = 112 ∷ 117 ∷ 98 ∷ 108 ∷ 105 ∷ 115 ∷ 104 ∷ 101 ∷ 100 ∷ []
+
+abbrev pub usedWord : List ℕ
+usedWord = 32 ∷ 117 ∷ 115 ∷ 101 ∷ 100 ∷ 32 ∷ []
+
+abbrev pub reserveWord : List ℕ
+reserveWord = 32 ∷ 114 ∷ 101 ∷ 115 ∷ 101 ∷ 114 ∷ 118 ∷ 101 ∷ 32 ∷ []
 
 abbrev pub lastWord : List ℕ
 lastWord = 108 ∷ 97 ∷ 115 ∷ 116 ∷ []
@@ -82,13 +88,20 @@ nextText place = cond (place .login) (decimalOf (place .next)) outWord
 unfoldable pub placeText : Place → List ℕ
 placeText place = nextWord ++ nextText place ++ pieceWord ++ decimalOf (place .piece)
 
--- `series S published P next N piece K`.
+-- ` used U reserve R`: the bytes that its entries take, and its reserve (02, No. 11).
+unfoldable pub shareText : DaySeries → List ℕ
+shareText one = usedWord ++ decimalOf (one .used) ++ reserveWord ++ decimalOf (one .reserve)
+
+-- `series S published P`.
+unfoldable pub servedText : DaySeries → List ℕ
+servedText one = numbered series (one .series) ++ gap ++ numbered publishedWord (one .published)
+
+-- `series S published P used U reserve R next N piece K`.
 unfoldable pub servedLine : DaySeries → Place → List ℕ
-servedLine one place =
-    wordLine (numbered series (one .series) ++ gap ++ numbered publishedWord (one .published) ++ placeText place)
+servedLine one place = wordLine (servedText one ++ shareText one ++ placeText place)
 
 abbrev pub servedAt : List DaySeries → List Place → ℕ → List ℕ
-servedAt series places i = servedLine (getD series i (newSeries 0)) (getD places i noPlace)
+servedAt series places i = servedLine (getD series i noSeries) (getD places i noPlace)
 
 unfoldable pub servedLines : Sender → List ℕ
 servedLines e = linesUpTo (servedAt (e .day .series) (e .seat .places)) (shownPlaces (e .day .count))

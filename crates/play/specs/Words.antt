@@ -4,6 +4,8 @@ use mathlib.Core.List.{List, [], _∷_, _++_}
 use mathlib.Core.Bool.{Bool, true, false, cond}
 use lib.ListN.{length, getD, take, drop}
 use lib.Dec.{ltb, leb, eqb}
+use Rattle.play.specs.declared.words.Wide.{Wide}
+use Rattle.play.specs.declared.words.Wide.the-variants.{Missing, Number}
 
 -- ─── Where a word ends ───
 
@@ -46,6 +48,46 @@ numberIn base word = cond (eqb (length word) 0) noNumber (digitsFrom base 0 word
 -- A TID has eight hexadecimal digits.
 unfoldable pub tidIn : List ℕ → ℕ
 tidIn word = cond (eqb (length word) 8) (numberIn 16 word) noNumber
+
+-- A number n and the decimal digits behind it; one that eight bytes do not hold is none.
+unfoldable pub wideFrom : ℕ → List ℕ → Wide
+wideFrom n [] = Number n
+wideFrom n (x ∷ l) =
+    cond (leb 10 (digitValue x)) Missing
+    (cond (ltb 18446744073709551615 (n * 10 + digitValue x)) Missing (wideFrom (n * 10 + digitValue x) l))
+
+-- A word as a decimal number of eight bytes: one digit at least.
+unfoldable pub wideIn : List ℕ → Wide
+wideIn word = cond (eqb (length word) 0) Missing (wideFrom 0 word)
+
+abbrev pub isNumber : Wide → Bool
+isNumber Missing = false
+isNumber (Number n) = true
+
+-- Where the word says none, 0.
+abbrev pub wideNumber : Wide → ℕ
+wideNumber Missing = 0
+wideNumber (Number n) = n
+
+-- ─── A series and its reserve: `SERIES`, or `SERIES:RESERVE` ───
+
+-- How many bytes stand before the first colon, or before the end.
+unfoldable pub upToColon : List ℕ → ℕ
+upToColon [] = 0
+upToColon (x ∷ l) = cond (eqb x 58) 0 (suc (upToColon l))
+
+-- The number before the colon; of a word without one it is the word's.
+unfoldable pub seriesIn : List ℕ → ℕ
+seriesIn word = numberIn 10 (take (upToColon word) word)
+
+-- All that stands behind the first colon is the reserve; without a colon it is 0.
+unfoldable pub reserveIn : List ℕ → Wide
+reserveIn word =
+    cond (ltb (upToColon word) (length word)) (wideIn (drop (upToColon word + 1) word)) (Number 0)
+
+-- A series of two bytes, and a reserve of eight.
+unfoldable pub saysShare : List ℕ → Bool
+saysShare word = cond (ltb 65535 (seriesIn word)) false (isNumber (reserveIn word))
 
 -- ─── Bytes ───
 
@@ -123,10 +165,14 @@ numberCount top most line i = numbersBehind top most line i 0 (most + 1)
 unfoldable pub numberUpTo : ℕ → List ℕ → ℕ → ℕ
 numberUpTo top line i = let x = numberIn 10 (argument line i) in cond (ltb top x) 0 x
 
+-- The n values from place i on.
+unfoldable pub listFrom : (ℕ → ℕ) → ℕ → ℕ → List ℕ
+listFrom value i zero = []
+listFrom value i (suc n) = listFrom value i n ++ (value (i + n) ∷ [])
+
 -- The n numbers from argument i on.
-unfoldable pub numbersFrom : ℕ → List ℕ → ℕ → ℕ → List ℕ
-numbersFrom top line i zero = []
-numbersFrom top line i (suc n) = numbersFrom top line i n ++ (numberUpTo top line (i + n) ∷ [])
+abbrev pub numbersFrom : ℕ → List ℕ → ℕ → ℕ → List ℕ
+numbersFrom top line i n = listFrom (numberUpTo top line) i n
 
 -- The series of an opening: at most 64, of two bytes each.
 abbrev pub mostNamed : ℕ
@@ -135,8 +181,28 @@ mostNamed = 64
 abbrev pub seriesCount : List ℕ → ℕ → ℕ
 seriesCount line i = numberCount 65535 mostNamed line i
 
+-- The series that argument i says, before its colon where it has one; where it says none, 0.
+unfoldable pub seriesAt : List ℕ → ℕ → ℕ
+seriesAt line i = let x = seriesIn (argument line i) in cond (ltb 65535 x) 0 x
+
 abbrev pub seriesFrom : List ℕ → ℕ → ℕ → List ℕ
-seriesFrom line i n = numbersFrom 65535 line i n
+seriesFrom line i n = listFrom (seriesAt line) i n
+
+-- The same with reserves: how many there are behind n of them, looking at so many more, and their reserves.
+unfoldable pub sharesBehind : List ℕ → ℕ → ℕ → ℕ → ℕ
+sharesBehind line i n zero = mostNamed + 1
+sharesBehind line i n (suc more) =
+    cond (hasArguments line (i + n)) n
+    (cond (saysShare (argument line (i + n))) (sharesBehind line i (n + 1) more) (mostNamed + 1))
+
+unfoldable pub shareCount : List ℕ → ℕ → ℕ
+shareCount line i = sharesBehind line i 0 (mostNamed + 1)
+
+unfoldable pub reserveAt : List ℕ → ℕ → ℕ
+reserveAt line i = wideNumber (reserveIn (argument line i))
+
+abbrev pub reservesFrom : List ℕ → ℕ → ℕ → List ℕ
+reservesFrom line i n = listFrom (reserveAt line) i n
 
 -- The numbers of a calendar, of four bytes each: at most 16 sessions of three, and 64 holidays.
 abbrev pub mostTimes : ℕ

@@ -11,6 +11,7 @@ use crate::words::is_word;
 use crate::words::number_count;
 use crate::words::read_number;
 use crate::words::read_tid;
+use crate::words::share_count;
 use crate::words::word_end;
 
 // The first word of a line.
@@ -47,7 +48,7 @@ pub enum Call {
         log: usize,
         chain: usize,
     },
-    // Opening of the serving end, with so many series.
+    // Opening of the serving end, with so many series and their reserves.
     OpenDay {
         date: u32,
         count: usize,
@@ -222,7 +223,7 @@ fn buffers_with(right: bool, log: u64, chain: u64) -> Call
     Call::Bad
 }
 
-// A date within four bytes, and so many series.
+// A date within four bytes, and so many series with their reserves.
 fn open_day_with(date: u64, count: usize) -> Call
     ensures { λ r. ⌜ r ≡ openDayWith date count ⌝ }
 {
@@ -455,7 +456,7 @@ fn named_call(line: &[u8], verb: Verb) -> Call
         Verb::Buffers => {
             buffers_with(has_form(line, 2, 0), number_at(line, 0), number_at(line, 1))
         }
-        Verb::OpenDay => open_day_with(number_at(line, 0), number_count(line, 1, 65535, 64)),
+        Verb::OpenDay => open_day_with(number_at(line, 0), share_count(line, 1)),
         Verb::Publish => publish_with(
             has_form(line, 2, 1),
             number_at(line, 0),

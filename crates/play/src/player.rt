@@ -265,7 +265,7 @@ impl Player {
         match call {
             Call::Bad => self.bad_line(text),
             Call::Buffers { log: _, chain: _ } => self.bad_line(text),
-            Call::OpenDay { date, count } => play_open_day(self, date, count, line, text),
+            Call::OpenDay { date, count } => play_open_day(self, date, count, line, log, text),
             Call::Publish { series, tid } => {
                 play_publish(self, series, tid, line, log, bytes, text)
             }

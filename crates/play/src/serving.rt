@@ -2,9 +2,9 @@
 ghost use mathlib.Core.Path.{_≡_};
 ghost use Prim.Native.Nat.{_+_, _*_, _≤_};
 ghost use lib.ListN.{length};
-ghost use Rattle.play.specs.Words.{argument as argumentOf, saidBytes, seriesFrom};
+ghost use Rattle.play.specs.Words.{argument as argumentOf, saidBytes};
 ghost use Rattle.play.specs.Played.{ShowsOpenDay, ShowsPublish, ShowsLogin, ShowsSend, ShowsSendPacket};
-ghost use Rattle.play.specs.Played.{PlaysPublish, PlaysLogin, PlaysSend};
+ghost use Rattle.play.specs.Played.{PlaysOpenDay, PlaysPublish, PlaysLogin, PlaysSend};
 use crate::player::Played;
 use crate::player::Player;
 use crate::player::clear;
@@ -16,15 +16,24 @@ use crate::text::sent_packet_line;
 use crate::words::argument;
 use crate::words::put_bytes;
 use crate::words::put_two;
+use crate::words::read_reserves;
 use crate::words::read_series;
 
 // Opening.
-fn open_day(player: Player, date: u32, series: &[u16], text: &mut [u8]) -> Played
+fn open_day(
+    player: Player,
+    date: u32,
+    series: &[u16],
+    reserves: &[usize],
+    log: &[u8],
+    text: &mut [u8],
+) -> Played
     requires { ⌜ 64 ≤ length (now text) ⌝ }
-    ensures { λ r. ⌜ ShowsOpenDay player date (now (series .entry)) r (now (text .entry)) (now (text .exit)) ⌝ }
+    ensures { λ r. ⌜ ShowsOpenDay player date (now (series .entry)) (now (reserves .entry)) (now (log .entry)) r
+        (now (text .entry)) (now (text .exit)) ⌝ }
 {
     let sender = player.sender;
-    let step = sender.open(date, series);
+    let step = sender.open(date, series, reserves, log);
     let answer = step.answer;
     let end = step.end;
     let len = opened_line(text, answer);
@@ -34,21 +43,32 @@ fn open_day(player: Player, date: u32, series: &[u16], text: &mut [u8]) -> Playe
     }
 }
 
-// Opening, with the series that a line says.
+// Opening, with the series and reserves that a line says, and the log's part.
 pub(crate) fn play_open_day(
     player: Player,
     date: u32,
     count: usize,
     line: &[u8],
+    log: &[u8],
     text: &mut [u8],
 ) -> Played
-    requires { ⌜ (64 ≤ length (now text)) × (count ≤ 64) ⌝ }
-    ensures { λ r. ⌜ ShowsOpenDay player date (seriesFrom (now (line .entry)) 1 count) r (now (text .entry))
+    requires { ⌜ (64 ≤ length (now text)) × (count ≤ 64) × (player .log ≤ length (now log)) ⌝ }
+    ensures { λ r. ⌜ PlaysOpenDay player (now (line .entry)) date count (now (log .entry)) r (now (text .entry))
         (now (text .exit)) ⌝ }
 {
+    let size = player.log;
     let mut list = [0u16; 64];
     read_series(line, 1, count, &mut list);
-    open_day(player, date, &list[..count], text)
+    let mut shares = [0usize; 64];
+    read_reserves(line, 1, count, &mut shares);
+    open_day(
+        player,
+        date,
+        &list[..count],
+        &shares[..count],
+        &log[..size],
+        text,
+    )
 }
 
 // Publish.

@@ -4,6 +4,7 @@ ghost use Prim.Native.Nat.{_+_, _≤_};
 ghost use lib.ListN.{length};
 ghost use Rattle.listing.specs.Text.{WroteText, decimalOf};
 ghost use Rattle.play.specs.State.{dateText, shownPlaces, servingLine, nextText, placeText, servedLine, servedLines};
+ghost use Rattle.play.specs.State.{shareText, servedText};
 ghost use Rattle.play.specs.State.{receivingLine, loginText, heldText, chainText, keptText, liveText, keptLine};
 ghost use Rattle.play.specs.State.{keptLines, stateLines};
 use crate::text::put_numbered;
@@ -86,22 +87,42 @@ fn put_place(out: &mut [u8], at: usize, place: Place) -> usize
     put_number(out, n, place.piece)
 }
 
-// A series of the serving end.
-fn put_served(out: &mut [u8], at: usize, one: DaySeries, place: Place) -> usize
-    requires { ⌜ at + 136 ≤ length (now out) ⌝ }
-    ensures { λ r. ⌜ WroteText (now (out .entry)) at (servedLine one place) (now (out .exit)) r × (r ≤ at + 136) ⌝ }
+// The bytes of the log that a series uses, and its reserve.
+fn put_share(out: &mut [u8], at: usize, one: DaySeries) -> usize
+    requires { ⌜ at + 55 ≤ length (now out) ⌝ }
+    ensures { λ r. ⌜ WroteText (now (out .entry)) at (shareText one) (now (out .exit)) r × (r ≤ at + 55) ⌝ }
+{
+    let n = put_word(out, at, b" used ");
+    let n = put_number(out, n, one.used);
+    let n = put_word(out, n, b" reserve ");
+    put_number(out, n, one.reserve)
+}
+
+// A series, and how many messages were published in it.
+fn put_served_text(out: &mut [u8], at: usize, one: DaySeries) -> usize
+    requires { ⌜ at + 81 ≤ length (now out) ⌝ }
+    ensures { λ r. ⌜ WroteText (now (out .entry)) at (servedText one) (now (out .exit)) r × (r ≤ at + 81) ⌝ }
 {
     let n = put_numbered(out, at, b"series", size16(one.series));
     let n = put_byte(out, n, 32);
-    let n = put_numbered(out, n, b"published", size32(one.published));
+    put_numbered(out, n, b"published", size32(one.published))
+}
+
+// A series of the serving end.
+fn put_served(out: &mut [u8], at: usize, one: DaySeries, place: Place) -> usize
+    requires { ⌜ at + 190 ≤ length (now out) ⌝ }
+    ensures { λ r. ⌜ WroteText (now (out .entry)) at (servedLine one place) (now (out .exit)) r × (r ≤ at + 190) ⌝ }
+{
+    let n = put_served_text(out, at, one);
+    let n = put_share(out, n, one);
     let n = put_place(out, n, place);
     put_byte(out, n, 10)
 }
 
 // The series of the serving end.
 fn put_all_served(out: &mut [u8], at: usize, sender: Sender) -> usize
-    requires { ⌜ at + 1088 ≤ length (now out) ⌝ }
-    ensures { λ r. ⌜ WroteText (now (out .entry)) at (servedLines sender) (now (out .exit)) r × (r ≤ at + 1088) ⌝ }
+    requires { ⌜ at + 1520 ≤ length (now out) ⌝ }
+    ensures { λ r. ⌜ WroteText (now (out .entry)) at (servedLines sender) (now (out .exit)) r × (r ≤ at + 1520) ⌝ }
 {
     let day = sender.day;
     let seat = sender.seat;

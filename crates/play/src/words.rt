@@ -8,6 +8,8 @@ ghost use Rattle.ftd.specs.Bytes.{put};
 ghost use Rattle.play.specs.Words.{endOf, digitValue, numberIn, tidIn, allHex, saysBytes, pairOf, saidBytes, sameWord};
 ghost use Rattle.play.specs.Words.{nextEnd, endAt, argument as argumentOf, hasArguments, allBytes, hasForm};
 ghost use Rattle.play.specs.Words.{numberCount, numberUpTo, seriesFrom, wordsFrom};
+ghost use Rattle.play.specs.Words.{wideIn, isNumber, upToColon, seriesIn, reserveIn, saysShare};
+ghost use Rattle.play.specs.Words.{shareCount, seriesAt, reserveAt, reservesFrom};
 
 // A number above all that four bytes hold stands for a word that says none.
 pub const NO_NUMBER: u64 = 4294967296;
@@ -99,6 +101,111 @@ pub(crate) fn read_tid(word: &[u8]) -> u64
         return read_number(word, 16);
     }
     NO_NUMBER
+}
+
+// A number of eight bytes, or none.
+enum Wide {
+    Missing,
+    Number(usize),
+}
+
+// A number with a decimal digit behind it is above eight bytes.
+fn too_wide(n: usize, d: usize) -> bool
+    requires { ⌜ d < 10 ⌝ }
+    ensures { λ r. ⌜ r ≡ ltb 18446744073709551615 (n * 10 + d) ⌝ }
+{
+    (18446744073709551615 - d) / 10 < n
+}
+
+// A number with a decimal digit behind it, within eight bytes.
+fn wide_behind(n: usize, d: usize) -> usize
+    requires { ⌜ n * 10 + d ≤ 18446744073709551615 ⌝ }
+    ensures { λ r. ⌜ r ≡ n * 10 + d ⌝ }
+{
+    n * 10 + d
+}
+
+// A digit as a size.
+fn size_digit(x: u8) -> usize
+    ensures { λ r. ⌜ (r ≡ digitValue x) × (r ≤ 16) ⌝ }
+{
+    digit(x) as usize
+}
+
+// The decimal number that a word's digits say.
+fn read_wide(word: &[u8]) -> Wide
+    ensures { λ r. ⌜ r ≡ wideIn (now (word .entry)) ⌝ }
+{
+    if word.len() == 0 {
+        return Wide::Missing;
+    }
+    let mut n: usize = 0;
+    let mut i: usize = 0;
+    while i < word.len() {
+        let d = size_digit(word[i]);
+        if 10 <= d {
+            return Wide::Missing;
+        }
+        if too_wide(n, d) {
+            return Wide::Missing;
+        }
+        n = wide_behind(n, d);
+        i += 1;
+    }
+    Wide::Number(n)
+}
+
+// There is a number.
+fn is_number(x: Wide) -> bool
+    ensures { λ r. ⌜ r ≡ isNumber x ⌝ }
+{
+    match x {
+        Wide::Missing => false,
+        Wide::Number(_) => true,
+    }
+}
+
+// How many bytes of a word stand before its first colon, or before its end.
+fn colon_at(word: &[u8]) -> usize
+    ensures { λ r. ⌜ (r ≡ upToColon (now (word .entry))) × (r ≤ length (now (word .entry))) ⌝ }
+{
+    let mut i: usize = 0;
+    while i < word.len() {
+        if word[i] == 58 {
+            return i;
+        }
+        i += 1;
+    }
+    i
+}
+
+// The number before a word's colon.
+fn read_named(word: &[u8]) -> u64
+    ensures { λ r. ⌜ (r ≡ seriesIn (now (word .entry))) × (r ≤ 4294967296) ⌝ }
+{
+    let e = colon_at(word);
+    read_number(&word[..e], 10)
+}
+
+// The reserve behind a word's colon; 0 without one.
+fn read_reserve(word: &[u8]) -> Wide
+    ensures { λ r. ⌜ r ≡ reserveIn (now (word .entry)) ⌝ }
+{
+    let e = colon_at(word);
+    if e < word.len() {
+        return read_wide(&word[e + 1..]);
+    }
+    Wide::Number(0)
+}
+
+// The word says a series, and behind a colon its reserve.
+fn says_share(word: &[u8]) -> bool
+    ensures { λ r. ⌜ r ≡ saysShare (now (word .entry)) ⌝ }
+{
+    if read_named(word) > 65535 {
+        return false;
+    }
+    is_number(read_reserve(word))
 }
 
 // All bytes of a word are hexadecimal digits.
@@ -298,6 +405,17 @@ fn number_up_to(line: &[u8], i: usize, top: u64) -> u64
     x
 }
 
+// The series that argument i says, before its colon where it has one; 0 where it says none.
+fn series_at(line: &[u8], i: usize) -> u64
+    ensures { λ r. ⌜ (r ≡ seriesAt (now (line .entry)) i) × (r ≤ 65535) ⌝ }
+{
+    let x = read_named(argument(line, i));
+    if x > 65535 {
+        return 0;
+    }
+    x
+}
+
 // The n series from argument i on are put into a list.
 pub(crate) fn read_series(line: &[u8], i: usize, n: usize, list: &mut [u16])
     requires { ⌜ (i ≤ 1) × (n ≤ length (now list)) ⌝ }
@@ -305,7 +423,48 @@ pub(crate) fn read_series(line: &[u8], i: usize, n: usize, list: &mut [u16])
 {
     let mut k: usize = 0;
     while k < n {
-        list[k] = number_up_to(line, i + k, 65535) as u16;
+        list[k] = series_at(line, i + k) as u16;
+        k += 1;
+    }
+}
+
+// How many series with their reserves the arguments from i on are; 65 where they are too many, or one is none.
+pub(crate) fn share_count(line: &[u8], i: usize) -> usize
+    requires { ⌜ i ≤ 1 ⌝ }
+    ensures { λ r. ⌜ (r ≡ shareCount (now (line .entry)) i) × (r ≤ 65) ⌝ }
+{
+    let mut n: usize = 0;
+    while n <= 64 {
+        if has_arguments(line, i + n) {
+            return n;
+        }
+        if says_share(argument(line, i + n)) {
+            n += 1;
+        } else {
+            return 65;
+        }
+    }
+    65
+}
+
+// The reserve that argument i says; 0 where it says none.
+fn reserve_at(line: &[u8], i: usize) -> usize
+    ensures { λ r. ⌜ r ≡ reserveAt (now (line .entry)) i ⌝ }
+{
+    match read_reserve(argument(line, i)) {
+        Wide::Missing => 0,
+        Wide::Number(n) => n,
+    }
+}
+
+// The n reserves from argument i on are put into a list.
+pub(crate) fn read_reserves(line: &[u8], i: usize, n: usize, list: &mut [usize])
+    requires { ⌜ (i ≤ 1) × (n ≤ length (now list)) ⌝ }
+    ensures { λ _. ⌜ now (list .exit) ≡ reservesFrom (now (line .entry)) i n ++ drop n (now (list .entry)) ⌝ }
+{
+    let mut k: usize = 0;
+    while k < n {
+        list[k] = reserve_at(line, i + k);
         k += 1;
     }
 }

@@ -19,10 +19,14 @@ fn end_at(published: u32, used: usize, login: bool, next: u64, piece: usize) -> 
     let mut series = [DaySeries {
         series: 0,
         published: 0,
+        reserve: 0,
+        used: 0,
     }; 8];
     series[0] = DaySeries {
         series: 1,
         published: published,
+        reserve: 0,
+        used: used,
     };
     let mut places = [Place {
         login: false,

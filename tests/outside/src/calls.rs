@@ -2,6 +2,7 @@
 //! single one may be lost, repeated and late; demand 3 is checked on it. In a wild one packets are damaged or made up, logs altered,
 //! and states set that no call made. Messages are sent whole and packet by packet.
 
+use crate::accounts::Accounts;
 use crate::ends::HANDED_ON;
 use crate::history::{Delivery, History};
 use crate::world::World;
@@ -18,9 +19,11 @@ use std::rc::Rc;
 mod packets;
 mod pieces;
 mod several;
+mod shares;
 
 use packets::any_piece;
 use pieces::any_count;
+use shares::{any_bytes, some_reserves};
 
 const REQUEST: u32 = 0x0023;
 const ANSWER: u32 = 0x0027;
@@ -166,6 +169,8 @@ pub struct Lists {
     contents: Contents,
     line: Line,
     history: History,
+    /// Where the log keeps its length: what each series has of it.
+    pub accounts: Accounts,
     kind: Kind,
     /// Series that the list is about.
     about: Vec<u16>,
@@ -280,6 +285,7 @@ impl Default for Lists {
             contents: Contents::new(),
             line: Line::default(),
             history: History::default(),
+            accounts: Accounts::default(),
             kind: Kind::Honest,
             about: vec![],
             answers: BTreeMap::new(),
@@ -330,6 +336,7 @@ impl Lists {
         self.kind = r.pick(&[Kind::Honest, Kind::Honest, Kind::Damaged, Kind::Wild]);
         self.line = Line::default();
         self.history = History::default();
+        self.accounts.fresh();
         let many = if r.once_in(10) { 8 } else { r.within(1, 3) };
         self.about = (0..many as u16).map(|i| i + 1).collect();
         if r.once_in(4) {
@@ -348,6 +355,9 @@ impl Lists {
         let until = self.calls + calls as u64;
         if !r.once_in(8) {
             self.open_day(r)?;
+            if self.world.serving.day.is_none() {
+                self.open_day(r)?;
+            }
             self.open_end(r)?;
         }
         while self.calls < until {
@@ -406,6 +416,7 @@ impl Lists {
             _ if self.kind == Kind::Honest => self.run(r),
             95..=96 => self.made_up_chain(r),
             97 if self.kind == Kind::Wild => self.counted_chain(r),
+            98 if self.kind == Kind::Wild && r.once_in(2) => self.any_accounts(r),
             _ if self.kind == Kind::Wild => {
                 self.alter_any(r);
                 Ok(())
@@ -438,10 +449,15 @@ impl Lists {
             None => r.below(3) as u32,
         };
         let series = self.some_series(r);
-        let answer = self.world.open_day(mark, &series)?;
+        let log = self.log(r);
+        let reserves = some_reserves(r, series.len(), log);
+        let answer = self.world.open_day(mark, &series, &reserves, log)?;
         self.note("Opening, serving", "opened", &answer);
         if answer.is_ok() {
             self.history.opened(mark);
+            if self.kind != Kind::Wild {
+                self.accounts.opened(&series, &reserves, log);
+            }
             while let Some(&series) = self.line.unfinished.keys().next() {
                 self.broken_off(series, "an opening");
             }
@@ -478,10 +494,14 @@ impl Lists {
 
     fn publish(&mut self, r: &mut Random) -> Result<(), String> {
         let series = self.series(r);
-        let (tid, content) = self.contents.message(r, self.large());
+        let limit = if r.once_in(6) { self.at_the_limit(r, series) } else { None };
+        let (tid, content) = limit.unwrap_or_else(|| self.contents.message(r, self.large()));
         let log = self.log(r);
         let answer = self.world.publish(series, tid, &content, log)?;
         self.note("Publish", "published", &answer);
+        if self.kind != Kind::Wild {
+            self.accounts.published(series, content.len(), &answer)?;
+        }
         if answer.is_ok() && self.kind == Kind::Honest {
             self.history.published(series, tid, &content);
         }
@@ -819,7 +839,8 @@ impl Lists {
     /// The log altered, or a state set that no call made.
     fn alter(&mut self, r: &mut Random) {
         self.line.unfinished.clear();
-        let used = self.world.serving.day.map_or(0, |day| day.used).min(self.world.logs[0].len());
+        let length = self.world.logs[0].len();
+        let used = self.world.serving.day.map_or(0, |day| day.used).min(length);
         if used > 0 && !r.once_in(3) {
             let at = if r.once_in(2) { r.below(used) } else { r.below(used.min(40)) };
             let byte = self.world.logs[0][at] ^ (1 << r.below(8));
@@ -831,7 +852,9 @@ impl Lists {
         if let Some(day) = &mut self.world.serving.day {
             let place = r.below(day.open.len());
             let one = &mut day.open[place];
-            match r.below(7) {
+            match r.below(9) {
+                7 => one.reserve = any_bytes(r, length),
+                8 => one.used = any_bytes(r, length),
                 0 => one.published = r.pick(&[999_998, 999_999, 1_000_000, 1_000_001, u32::MAX, 0]),
                 1 => one.next = Some(r.pick(&[0, 1, 2, 999_999, 1_000_000, u64::from(u32::MAX), 1 << 32, u64::MAX])),
                 2 => (one.next, one.piece) = (None, 0),

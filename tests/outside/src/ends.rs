@@ -12,6 +12,8 @@ use std::fmt::{Debug, Formatter};
 pub struct Served {
     pub next: u64,
     pub piece: u64,
+    pub reserve: usize,
+    pub used: usize,
     pub published: u32,
     pub series: u16,
     pub login: u8,
@@ -187,7 +189,16 @@ impl Debug for Receiver {
 
 extern "C" {
     fn ftd_sender_fresh() -> Sender;
-    fn ftd_sender_open(end: Sender, date: u32, series: *const u16, count: usize) -> SenderOpened;
+    fn ftd_sender_open(
+        end: Sender,
+        date: u32,
+        series: *const u16,
+        count: usize,
+        reserves: *const usize,
+        reserve_count: usize,
+        log: *const u8,
+        log_len: usize,
+    ) -> SenderOpened;
     fn ftd_publish(
         end: Sender,
         series: u16,
@@ -251,8 +262,9 @@ impl Sender {
         unsafe { ftd_sender_fresh() }
     }
 
-    pub fn open(self, date: u32, series: &[u16]) -> SenderOpened {
-        unsafe { ftd_sender_open(self, date, series.as_ptr(), series.len()) }
+    pub fn open(self, date: u32, series: &[u16], reserves: &[usize], log: &[u8]) -> SenderOpened {
+        let (s, r) = (series.as_ptr(), reserves.as_ptr());
+        unsafe { ftd_sender_open(self, date, s, series.len(), r, reserves.len(), log.as_ptr(), log.len()) }
     }
 
     pub fn publish(self, series: u16, tid: u32, content: &[u8], log: &mut [u8]) -> Published {
@@ -352,6 +364,8 @@ pub fn sender(of: &Serving) -> Sender {
     let number = |one: &serving::Served| Served {
         next: one.next.unwrap_or(0),
         piece: one.piece,
+        reserve: one.reserve,
+        used: one.used,
         published: one.published,
         series: one.series,
         login: one.next.is_some().into(),

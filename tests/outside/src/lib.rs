@@ -4,6 +4,7 @@
 use reader::cut::Header;
 use reader::makeup::Direction;
 
+pub mod accounts;
 pub mod bench;
 pub mod book;
 pub mod calendar;

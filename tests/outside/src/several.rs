@@ -212,10 +212,10 @@ impl Cuts {
         })
     }
 
-    /// A stream of records, with a log of so many bytes.
-    pub fn records(&mut self, stream: &[u8], room: usize) -> Result<(), String> {
+    /// A stream of records, with a log of so many bytes and these reserves of it.
+    pub fn records(&mut self, stream: &[u8], reserves: &[usize], room: usize) -> Result<(), String> {
         let mut model = Serving::default();
-        model.open(MARK, &SERIES).expect("a day");
+        model.open(MARK, &SERIES, reserves, room).expect("a day");
         let start: Sender = ends::sender(&model);
         let (inputs, rest) = RECORDS.cut(stream);
 
@@ -259,7 +259,9 @@ impl Cuts {
             self.packets(&packet_stream(r)).map_err(named)?;
             let stream = record_stream(r);
             let room = r.pick(&[0, 100, 2000, 2000, 2000, 40_000]);
-            self.records(&stream, room).map_err(named)?;
+            let reserves: Vec<usize> = SERIES.iter().map(|_| r.below(room / SERIES.len() + 1)).collect();
+            let none = r.once_in(2);
+            self.records(&stream, if none { &[0; SERIES.len()] } else { &reserves }, room).map_err(named)?;
         }
         Ok(())
     }

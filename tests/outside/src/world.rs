@@ -62,7 +62,8 @@ fn noisy_sender(r: &mut Random, mut end: Sender) -> Sender {
     for (i, one) in end.series.iter_mut().enumerate() {
         if i >= end.count {
             let (next, piece, published) = (r.next(), r.next(), r.next() as u32);
-            *one = Served { next, piece, published, series: r.pick(&[0, 1, 2, 3]), login: r.byte() };
+            let (reserve, used) = (r.next() as usize, r.next() as usize);
+            *one = Served { next, piece, reserve, used, published, series: r.pick(&[0, 1, 2, 3]), login: r.byte() };
         } else if !flag(r, &mut one.login) {
             (one.next, one.piece) = (r.next(), r.next());
         }
@@ -154,10 +155,12 @@ impl World {
         }
     }
 
-    pub fn open_day(&mut self, mark: u32, series: &[u16]) -> Both<()> {
-        let answer = self.serving.open(mark, series);
+    /// Lends the first bytes of the log, so many; none of them changes.
+    pub fn open_day(&mut self, mark: u32, series: &[u16], reserves: &[usize], log: usize) -> Both<()> {
+        let answer = self.serving.open(mark, series, reserves, log);
         let right = SenderOpened { end: ends::sender(&self.serving), refusal: answer.err().unwrap_or(0) };
-        let mut given = self.sender().open(mark, series);
+        let mut given = self.sender().open(mark, series, reserves, &self.logs[0][..log]);
+        same_bytes(&mut self.asked, "log", &self.logs[0], &self.logs[1])?;
         given.end = self.sender_left(given.end);
         self.asked.same("Opening, serving", given, right)?;
         self.sender = right.end;

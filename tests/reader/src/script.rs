@@ -5,7 +5,7 @@ use crate::book::{Book, Side};
 use crate::calendar::{Calendar, Days, Session};
 use crate::packet::said_length;
 use crate::receiving::{Received, Receiving};
-use crate::serving::Serving;
+use crate::serving::{Served, Serving};
 use crate::several::{Answer, Stop, RECORD_HEADER};
 
 mod book;
@@ -17,6 +17,7 @@ mod pieces;
 mod receiving;
 mod serving;
 mod several;
+mod shares;
 
 pub use line::faulty_line;
 
@@ -137,9 +138,12 @@ impl Script {
 
     // --- The calls ---
 
-    fn sopen(&mut self, mark: u32, series: &[u16]) -> Result<(), u8> {
-        let answer = self.serving.open(mark, series);
-        let words: String = series.iter().map(|series| format!(" {series}")).collect();
+    /// Series with their reserves; without a colon it is 0.
+    fn sopen(&mut self, mark: u32, given: &[(u16, Option<usize>)]) -> Result<(), u8> {
+        let (series, reserves): (Vec<_>, Vec<_>) = given.iter().map(|one| (one.0, one.1.unwrap_or(0))).unzip();
+        let answer = self.serving.open(mark, &series, &reserves, self.log.len());
+        let reserve = |one: Option<usize>| one.map_or(String::new(), |reserve| format!(":{reserve}"));
+        let words: String = given.iter().map(|one| format!(" {}{}", one.0, reserve(one.1))).collect();
         self.add(format!("sopen {mark}{words}"), answer.map_or_else(refused, |()| "opened".to_string()));
         answer
     }
@@ -261,8 +265,9 @@ impl Script {
         let mut lines = vec![format!("serving {} {}", or_none(day.map(|d| d.mark)), day.map_or(0, |d| d.used))];
         for one in day.iter().flat_map(|day| day.open.iter()) {
             let next = one.next.map_or("out".to_string(), |next| next.to_string());
-            let (series, published, piece) = (one.series, one.published, one.piece);
-            lines.push(format!("series {series} published {published} next {next} piece {piece}"));
+            let Served { series, published, used, reserve, piece, .. } = one;
+            let account = format!("used {used} reserve {reserve}");
+            lines.push(format!("series {series} published {published} {account} next {next} piece {piece}"));
         }
         lines.push(format!("receiving {}", self.receiving.open.len()));
         for one in self.receiving.open.iter() {
@@ -339,8 +344,14 @@ impl Script {
 
     // --- The calls with what their answers begin with ---
 
+    /// Without reserves.
     fn open(&mut self, mark: u32, series: &[u16], expected: &str) {
-        _ = self.sopen(mark, series);
+        let given: Vec<_> = series.iter().map(|&series| (series, None)).collect();
+        self.open_shares(mark, &given, expected);
+    }
+
+    fn open_shares(&mut self, mark: u32, given: &[(u16, Option<usize>)], expected: &str) {
+        _ = self.sopen(mark, given);
         self.begins(expected);
     }
 
@@ -416,8 +427,9 @@ impl Script {
     }
 }
 
-/// The whole script: the worked examples of both ends, of the calendar, of the book, of a bufferful, of one packet a call and
-/// of every piece counted, and both ends over a faulty line. Gives it with the place of the call that the faulty line begins with.
+/// The whole script: the worked examples of both ends, of the calendar, of the book, of a bufferful, of one packet a call, of
+/// every piece counted and of a share of the log, and both ends over a faulty line. Gives it with the place of the call that
+/// the faulty line begins with.
 pub fn whole_script() -> (Script, usize) {
     let mut s = Script::new(LOG, CHAIN);
     serving::examples(&mut s);
@@ -428,6 +440,7 @@ pub fn whole_script() -> (Script, usize) {
     several::examples(&mut s);
     packets::examples(&mut s);
     pieces::examples(&mut s);
+    shares::examples(&mut s);
     let from = s.calls.len();
     faulty_line(&mut s, 2_000_000_000);
     serving::last_marks(&mut s);

@@ -1,6 +1,7 @@
 //! The serving end (document 01): Opening, Publish, Login and Send, and the form of Send that writes one packet (document
-//! 02, No. 4), each with its tests in the refusal table's order; the packets of both Sends bear their place (No. 10). The
-//! log and the output are lent; an output is given as a vector that is emptied and holds what was written, and its room.
+//! 02, No. 4), each with its tests in the refusal table's order; the packets of both Sends bear their place (No. 10), and
+//! each series has its share of the log (No. 11). The log and the output are lent, the log to Opening by its length; an
+//! output is given as a vector that is emptied and holds what was written, and its room.
 
 use crate::cut::{cut, write_packet, write_sent, write_sent_packet, Header};
 use crate::few::{may_open, Few};
@@ -18,14 +19,17 @@ pub const ENTRY_HEADER: usize = 16;
 /// Header, tag 0x05 and message header of a login answer. (A packet of either Send has tag 0x70 too.)
 pub const AROUND: usize = 4 + 6 + MESSAGE_HEADER;
 
-/// A series of the day: how many were published; the number that is sent next, if it is logged in; and how many packets of
-/// that message were written one by one, 0 where none is unfinished.
+/// A series of the day: how many were published; the number that is sent next, if it is logged in; how many packets of
+/// that message were written one by one, 0 where none is unfinished; and its account of the log (No. 11): the bytes
+/// reserved for it, and those that its entries have, with their heads.
 #[derive(Clone, Copy, Debug, Default, PartialEq, Eq)]
 pub struct Served {
     pub series: u16,
     pub published: u32,
     pub next: Option<u64>,
     pub piece: u64,
+    pub reserve: usize,
+    pub used: usize,
 }
 
 /// A packet of a message, written by itself.
@@ -48,6 +52,13 @@ impl Day {
     /// Where a series stands among the open ones.
     fn place(&self, series: u16) -> Option<usize> {
         self.open.iter().position(|one| one.series == series)
+    }
+
+    /// What all series take of the log (No. 11), with an entry of so many bytes more for the one at a place: each the larger
+    /// of its bytes used and its reserve. Sums can't wrap.
+    fn shares(&self, place: usize, more: usize) -> u128 {
+        let used = |i: usize| self.open[i].used as u128 + if i == place { more as u128 } else { 0 };
+        (0..self.open.len()).map(|i| used(i).max(self.open[i].reserve as u128)).sum()
     }
 
     /// TID and content of a message's entry; none where the log is damaged up to it.
@@ -106,29 +117,41 @@ pub struct Serving {
 }
 
 impl Serving {
-    /// Opening: a mark above the present one, if any, and 1 to 8 differing series from 1 up. It empties log and logins.
-    pub fn open(&mut self, mark: u32, series: &[u16]) -> Result<(), u8> {
+    /// Opening: a mark above the present one, if any, and 1 to 8 differing series from 1 up, each with its reserve; together
+    /// they are within the log's length (No. 11). It empties log and logins.
+    pub fn open(&mut self, mark: u32, series: &[u16], reserves: &[usize], log: usize) -> Result<(), u8> {
         if !may_open(series) || self.day.is_some_and(|day| mark <= day.mark) {
             return Err(11);
         }
-        let open = Few::of(series.iter().map(|&series| Served { series, ..Served::default() })).ok_or(11)?;
+        let together: u128 = reserves.iter().map(|&reserve| reserve as u128).sum();
+        if reserves.len() != series.len() || together > log as u128 {
+            return Err(11);
+        }
+        let served = |(&series, &reserve)| Served { series, reserve, ..Served::default() };
+        let open = Few::of(series.iter().zip(reserves).map(served)).ok_or(11)?;
         self.day = Some(Day { mark, open, used: 0 });
         Ok(())
     }
 
-    /// Publish: the message's number. Its entry goes behind the used part of the log.
+    /// Publish: the message's number. Its entry goes behind the used part of the log. 18 where the shares of all series with
+    /// it pass the log's length (No. 11); where the accounts are those that calls left, an entry that they let in fits.
     pub fn publish(&mut self, series: u16, tid: u32, content: &[u8], log: &mut [u8]) -> Result<u32, u8> {
         check(tid, Direction::Down, content, MOST_MESSAGE)?;
         let day = self.day.as_mut().ok_or(13)?;
         let place = day.place(series).ok_or(13)?;
+        let (room, size) = (log.len() as u128, ENTRY_HEADER + content.len());
         let free = log.get_mut(day.used..).ok_or(20)?;
-        let entry = free.get_mut(..ENTRY_HEADER + content.len()).ok_or(18)?;
+        if day.shares(place, size) > room {
+            return Err(18);
+        }
+        let entry = free.get_mut(..size).ok_or(18)?;
         let one = &mut day.open[place];
         if one.published >= MOST_MESSAGES {
             return Err(21);
         }
         one.published += 1;
-        day.used += entry.len();
+        one.used += size;
+        day.used += size;
         let (head, behind) = entry.split_at_mut(ENTRY_HEADER);
         head[..2].copy_from_slice(&series.to_be_bytes());
         head[2..4].fill(0);

@@ -105,7 +105,7 @@ fn said(answer: Result<Received, u8>) -> String {
 /// A serving end of series 4 on day 9, logged in at number 1, with these contents published.
 fn serving(contents: &[Vec<u8>]) -> (Serving, Vec<u8>) {
     let (mut end, mut log) = (Serving::default(), vec![0; 80_000]);
-    end.open(9, &[4]).unwrap();
+    end.open(9, &[4], &[0], 0).unwrap();
     for content in contents {
         end.publish(4, 0x7777, content, &mut log).unwrap();
     }

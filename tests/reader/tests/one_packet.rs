@@ -18,7 +18,7 @@ fn three() -> Vec<u8> {
 /// An end of series 3 and 5, logged in to series 3 at number 1, with these contents published there.
 fn end(contents: &[Vec<u8>]) -> (Serving, Vec<u8>) {
     let (mut end, mut log) = (Serving::default(), vec![0; 50_000]);
-    end.open(9, &[3, 5]).unwrap();
+    end.open(9, &[3, 5], &[0, 0], 0).unwrap();
     for content in contents {
         end.publish(3, TID, content, &mut log).unwrap();
     }

@@ -119,7 +119,7 @@ fn a_new_day() {
     let (mut log, mut out) = (vec![0; 1000], vec![]);
     receiving.open(&[1]).unwrap();
     for (mark, count) in [(3, 5), (4, 2)] {
-        serving.open(mark, &[1]).unwrap();
+        serving.open(mark, &[1], &[0], 0).unwrap();
         for _ in 0..count {
             serving.publish(1, 0x7777, &[], &mut log).unwrap();
         }

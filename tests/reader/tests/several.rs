@@ -119,14 +119,14 @@ fn record(series: u16, content: &[u8]) -> Vec<u8> {
 fn records() {
     let bytes = [record(3, &note(1)), record(5, &note(1)), record(3, &note(2)), record(3, &[1])].concat();
     let (mut end, mut log) = (Serving::default(), vec![0; 200]);
-    end.open(7, &[3]).unwrap();
+    end.open(7, &[3], &[0], 0).unwrap();
     let second = end.publish_several(&bytes, &mut log);
     assert_eq!(second, Answer { stop: Stop::Refused(13), taken: 17 + 17 });
     let last = end.publish_several(&bytes[34..], &mut log);
     assert_eq!(last, Answer { stop: Stop::Refused(7), taken: 18 + 11 });
     let mut plain = Serving::default();
     let mut plain_log = vec![0; 200];
-    plain.open(7, &[3]).unwrap();
+    plain.open(7, &[3], &[0], 0).unwrap();
     plain.publish(3, 0x2004, &note(1), &mut plain_log).unwrap();
     plain.publish(3, 0x2004, &note(2), &mut plain_log).unwrap();
     assert_eq!((end, log), (plain, plain_log));

@@ -2,6 +2,7 @@
 use Rattle.ftd.specs.Fields.{fieldWith}
 use Rattle.ftd.proofs.Opened
 use Rattle.flow.specs.Ends.{wrongSeries, freshSender, daySeries, isServed, publishedOf, placeOf, withEntry}
+use Rattle.flow.specs.Ends.{reserveOf, usedOf, sharesOf}
 use Rattle.flow.specs.Ends.{withPlace, freshReceiver, keptSeries, isOpen, keptOf, liveOf, withSeries, partStart}
 use Rattle.flow.specs.Ends.{allParts}
 use Rattle.flow.specs.Log.{entryBytes, entry, logShort, entryFits, entriesOf, entryOf}
@@ -13,7 +14,7 @@ use Rattle.flow.specs.World.{start}
 use Rattle.flow.specs.Bench.{reqLogin, rspLogin, atLast, four, bothEnds, bench}
 
 unfoldable pub opened : Unit {0}
-unfolding Opened.opened fieldWith wrongSeries freshSender daySeries isServed publishedOf placeOf withEntry withPlace
+unfolding Opened.opened fieldWith wrongSeries freshSender daySeries isServed publishedOf placeOf reserveOf usedOf sharesOf withEntry withPlace
     freshReceiver keptSeries isOpen keptOf liveOf withSeries partStart allParts entryBytes entry logShort entryFits
     entriesOf entryOf openDayOf publishOf startOf loginWith loginOf noneLeft sendBytes sendOf nextPacket
     noPacket lastPacket afterPacket sendPacketOf openEndOf connectOf

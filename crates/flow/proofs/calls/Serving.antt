@@ -6,7 +6,7 @@ use mathlib.Core.Path.{_≡_, refl}
 use mathlib.Core.List.{List}
 use mathlib.Core.Bool.{true, false, not, _||_}
 use mathlib.Core.Option.{Option, none, some}
-use borrow.Author.Tests.{ltb-true, ltb-false, leb-true, leb-false, eqb-false, not-true, not-false}
+use borrow.Author.Tests.{ltb-true, ltb-false, leb-true, leb-false, eqb-true, eqb-false, not-true, not-false}
 use lib.ListN.{length}
 use lib.Dec.{ltb, leb, eqb}
 use Rattle.ftd.specs.Login.{loginTid, loginBytes}
@@ -45,9 +45,9 @@ use Rattle.flow.specs.declared.sender.SentPacket.the-variants.{Drained a
 use Rattle.flow.specs.declared.sender.SentPacket.the-variants.{Wrote as Packet-sent}
 use Rattle.flow.specs.declared.sender.SentPacket.the-variants.{Refused as NotPacket}
 use Rattle.flow.specs.Ends.{Left, Wrote, left, wrote, over, mostMessages, wrongSeries, before, upTo, isServed}
-use Rattle.flow.specs.Ends.{publishedOf, placeOf, withEntry, withPlace}
+use Rattle.flow.specs.Ends.{publishedOf, placeOf, withEntry, withPlace, sumOf, sharesOf}
 use Rattle.flow.specs.Log.{entryBytes, logShort, entryFits, entryOf}
-use Rattle.flow.specs.Serving.{wrongDayOpening, wrongRun, noLogin, notZero, startElsewhere, startOf, wrongStart}
+use Rattle.flow.specs.Serving.{wrongReserves, wrongDayOpening, overShares, wrongRun, noLogin, notZero, startElsewhere, startOf, wrongStart}
 use Rattle.flow.specs.Serving.{openDayOf, publishOf, loginWith, loginRead, loginOf, noneLeft, sendBytes}
 use Rattle.flow.specs.Serving.{sendEntry, sendOf, sendPackets, nextPacket, noPacket, lastPacket, afterPacket}
 use Rattle.flow.specs.Serving.{sendPacketEntry, sendPacketOf}
@@ -57,17 +57,22 @@ use Rattle.flow.proofs.ends.SenderOpened.{openedSender}
 
 -- ─── Opening ───
 
-pub data OpenDone (e : Sender) (date : ℕ) (ss : List ℕ) : Left Sender Opened → Type 0 where
-  open-refused : (r : Refusal) → OpenDone e date ss (left e (Refused r))
-  open-taken : wrongSeries ss ≡ false → upTo date (e .day .date) ≡ false
-      → OpenDone e date ss (left (openedSender date ss) Done)
+pub data OpenDone (e : Sender) (date : ℕ) (ss rs log : List ℕ) : Left Sender Opened → Type 0 where
+  open-refused : (r : Refusal) → OpenDone e date ss rs log (left e (Refused r))
+  open-taken : wrongSeries ss ≡ false → upTo date (e .day .date) ≡ false → sumOf rs ≤ length log
+      → length rs ≡ length ss
+      → OpenDone e date ss rs log (left (openedSender date ss rs) Done)
 
-pub open-cases : (e : Sender) (date : ℕ) (ss : List ℕ) → OpenDone e date ss (openDayOf e date ss)
+pub open-cases : (e : Sender) (date : ℕ) (ss rs log : List ℕ)
+    → OpenDone e date ss rs log (openDayOf e date ss rs log)
 unfolding openDayOf
-open-cases e date ss =
-    by-when (OpenDone e date ss) (wrongDayOpening e date ss) (λ q. open-refused Opening) λ q.
-    let h = or-neither (wrongSeries ss) (upTo date (e .day .date)) q in
-    open-taken (h .0) (h .1)
+open-cases e date ss rs log =
+    by-when (OpenDone e date ss rs log) (wrongDayOpening e date ss rs log) (λ q. open-refused Opening) λ q.
+    let h = or-neither (wrongSeries ss || upTo date (e .day .date)) (wrongReserves ss rs log) q in
+    let g = or-neither (wrongSeries ss) (upTo date (e .day .date)) (h .0) in
+    let k = or-neither (not (eqb (length rs) (length ss))) (ltb (length log) (sumOf rs)) (h .1) in
+    open-taken (g .0) (g .1) (ltb-false (length log) (sumOf rs) (k .1))
+    (eqb-true (length rs) (length ss) (not-false _ (k .0)))
 
 -- ─── Publish ───
 
@@ -79,6 +84,7 @@ pub record PublishTests (e : Sender) (s tid : ℕ) (content log : List ℕ) : Ty
   pub served : isServed e s ≡ true
   pub inside : e .day .used ≤ length log
   pub fits : e .day .used + (16 + length content) ≤ length log
+  pub shares : sharesOf (withEntry e s (16 + length content)) ≤ length log
   pub few : publishedOf e s < mostMessages
 
 pub data PublishDone (e : Sender) (s tid : ℕ) (content log : List ℕ) : Wrote Sender Published → Type 0 where
@@ -113,7 +119,9 @@ module _ (e : Sender) (s tid : ℕ) (content log : List ℕ) where
       by-when Publishes (not (composed tid Down content)) (λ q. publish-refused Composition) λ q4.
       by-when Publishes (not (isServed e s)) (λ q. publish-refused UnknownSeries) λ q5.
       by-when Publishes (logShort e log) (λ q. publish-refused DamagedLog) λ q6.
-      by-when Publishes (not (entryFits e log content)) (λ q. publish-refused TooSmall) λ q7.
+      by-when Publishes (not (entryFits e log content) || overShares e s log content) (λ q. publish-refused TooSmall)
+      λ q7.
+      let h7 = or-neither (not (entryFits e log content)) (overShares e s log content) q7 in
       by-when Publishes (leb mostMessages (publishedOf e s)) (λ q. publish-refused DayFull) λ q8.
       publish-taken record {
         run = not-false _ q1;
@@ -122,7 +130,9 @@ module _ (e : Sender) (s tid : ℕ) (content log : List ℕ) where
         counts = not-false _ q4;
         served = not-false _ q5;
         inside = log-inside q6;
-        fits = entry-inside q6 q7;
+        fits = entry-inside q6 (h7 .0);
+        shares =
+            ltb-false (length log) (sharesOf (withEntry e s (16 + length content))) (h7 .1);
         few = leb-false mostMessages (publishedOf e s) q8;
       }
 

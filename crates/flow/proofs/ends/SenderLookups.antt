@@ -8,7 +8,7 @@ use lib.ListN.{length, getD, length-set}
 use lib.Seq.{getD-set-same, getD-set-other}
 use Rattle.flow.specs.declared.sender.DaySeries.{DaySeries}
 use Rattle.flow.specs.declared.sender.Sender.{Sender}
-use Rattle.flow.specs.Ends.{member, indexOf, newSeries, noPlace, daySeries, isServed, publishedOf, placeOf}
+use Rattle.flow.specs.Ends.{member, indexOf, noSeries, grownSeries, noPlace, daySeries, isServed, publishedOf, placeOf}
 use Rattle.flow.specs.Ends.{withEntry, withPlace}
 use Rattle.flow.proofs.ends.Lookups.{index-inside, index-differs, numbers-set, numbers-few}
 
@@ -38,7 +38,7 @@ module _ (e : Sender) (t : ℕ) (h : isServed e t ≡ true) where
   pub series-entry : (size : ℕ) → daySeries (withEntry e t size) ≡ daySeries e
   unfolding withEntry daySeries isServed
   series-entry size =
-      numbers-set numberIn (e .day .count) (e .day .series) t (record { series = t; published = publishedOf e t + 1 })
+      numbers-set numberIn (e .day .count) (e .day .series) t (grownSeries e t size)
       refl h
 
   pub served-entry : (size s : ℕ) → isServed (withEntry e t size) s ≡ isServed e s
@@ -46,10 +46,10 @@ module _ (e : Sender) (t : ℕ) (h : isServed e t ≡ true) where
   served-entry size s = ap (member s) (series-entry size)
 
   at-entry : (size s : ℕ) → publishedOf (withEntry e t size) s ≡ getD (withEntry e t size .day .series)
-      (indexOf s (daySeries e)) (newSeries 0) .published
+      (indexOf s (daySeries e)) noSeries .published
   unfolding publishedOf
   at-entry size s =
-      ap (λ (l : List ℕ). getD (withEntry e t size .day .series) (indexOf s l) (newSeries 0) .published)
+      ap (λ (l : List ℕ). getD (withEntry e t size .day .series) (indexOf s l) noSeries .published)
       (series-entry size)
 
   pub published-entry : (size : ℕ) → publishedOf (withEntry e t size) t ≡ publishedOf e t + 1
@@ -57,8 +57,8 @@ module _ (e : Sender) (t : ℕ) (h : isServed e t ≡ true) where
   published-entry size =
       at-entry size t
       ∙ ap (λ (x : DaySeries). x .published)
-      (getD-set-same (e .day .series) (indexOf t (daySeries e)) (record { series = t; published = publishedOf e t + 1 })
-      (newSeries 0) served-index)
+      (getD-set-same (e .day .series) (indexOf t (daySeries e)) (grownSeries e t size)
+      noSeries served-index)
 
   pub published-other : (size s : ℕ) → (s ≡ t → ⊥) → publishedOf (withEntry e t size) s ≡ publishedOf e s
   unfolding withEntry publishedOf
@@ -66,7 +66,7 @@ module _ (e : Sender) (t : ℕ) (h : isServed e t ≡ true) where
       at-entry size s
       ∙ ap (λ (x : DaySeries). x .published)
       (getD-set-other (e .day .series) (indexOf t (daySeries e)) (indexOf s (daySeries e))
-      (record { series = t; published = publishedOf e t + 1 }) (newSeries 0)
+      (grownSeries e t size) noSeries
       (served-apart s n))
 
   pub place-entry : (size s : ℕ) → placeOf (withEntry e t size) s ≡ placeOf e s
@@ -107,7 +107,7 @@ module _ (e : Sender) (t : ℕ) (h : isServed e t ≡ true) where
   eight-entry z size =
       record {
         series = length-set (e .day .series) (indexOf t (daySeries e))
-            (record { series = t; published = publishedOf e t + 1 }) ∙ z .series;
+            (grownSeries e t size) ∙ z .series;
         places = z .places;
       }
 

@@ -33,7 +33,7 @@ start-safe log buffer =
     }
 
 pub step-safe : (w : World) (e : Event) → AllBegun (w .serving) → SafeWorld w → SafeWorld (step w e)
-step-safe w (openSender date ss) g h = h
+step-safe w (openSender date ss rs) g h = h
 step-safe w (publish s tid content) g h = safe-published (w .serving .published) (w .receiving) h _
 step-safe w (login s i content out) g h = by-given SafeWorld w (getElem? (w .receiving .requests) i) h (λ p q. h)
 step-safe w (send s out) g h = h

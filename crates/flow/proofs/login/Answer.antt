@@ -19,7 +19,7 @@ use Rattle.ftd.proofs.write.Puts.{length-message}
 use Rattle.flow.specs.declared.sender.Sender.{Sender}
 use Rattle.flow.specs.declared.sender.LoggedIn.the-variants.{Wrote as Answered}
 use Rattle.flow.specs.declared.sender.LoggedIn.the-variants.{Refused as NotIn}
-use Rattle.flow.specs.Ends.{wrote, over, newSeries}
+use Rattle.flow.specs.Ends.{wrote, over, noSeries}
 use Rattle.flow.specs.Helpers.{placedAt}
 use Rattle.flow.specs.LoginHelpers.{startOutside, loginAnswer}
 
@@ -56,7 +56,7 @@ module _ (e : Sender) (i next : ℕ) (content out : List ℕ) (n : ℕ)
   answer-small h = rw (← size, lt-ltb (length out) n h)
 
   module _ (room : n ≤ length out) (b : Bool)
-      (q : b ≡ startOutside (getD (e .day .series) i (newSeries 0) .published) next) where
+      (q : b ≡ startOutside (getD (e .day .series) i noSeries .published) next) where
     pub answer-outside : b ≡ true → wrote e (NotIn WrongStart) out ≡ loginAnswer e i next content out
     unfolding loginAnswer
     answer-outside x = rw (← size, le-ltb (length out) n room, ← q, x)

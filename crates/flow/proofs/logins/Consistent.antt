@@ -93,7 +93,7 @@ module _ (o : TradeDate) (c : Bool) (e : Receiver) (h : Consistent e) where
 -- ─── Over the world ───
 
 abbrev pub isConnect : Event → Bool
-isConnect (World.openSender date ss) = false
+isConnect (World.openSender date ss rs) = false
 isConnect (World.publish s tid content) = false
 isConnect (World.login s i content out) = false
 isConnect (World.send s out) = false
@@ -127,7 +127,7 @@ Quiet w v = Turned (w .serving .day) false (w .receiving .end) (v .receiving .en
 
 pub step-turn : (w : World) → GenuineAnswers (w .serving) → (e : Event)
     → Turned (w .serving .day) (isConnect e) (w .receiving .end) (step w e .receiving .end)
-step-turn w h (World.openSender date ss) = turned stays
+step-turn w h (World.openSender date ss rs) = turned stays
 step-turn w h (World.publish s tid content) = turned stays
 step-turn w h (World.login s i content out) =
     by-given (Quiet w) w (getElem? (w .receiving .requests) i) (turned stays) (λ p e. turned stays)

@@ -57,7 +57,7 @@ module _ (w : World) (h : Timely w) where
       }
 
   requests-step : (e : Event) → Then (isConnect e) (step w e)
-  requests-step (World.openSender date ss) = on false _ refl
+  requests-step (World.openSender date ss rs) = on false _ refl
   requests-step (World.publish s tid content) = on false _ refl
   requests-step (World.login s i content out) =
       by-given (Then false) w (getElem? (w .receiving .requests) i) (on false w refl) (λ p e. on false _ refl)

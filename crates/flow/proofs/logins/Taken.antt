@@ -101,7 +101,7 @@ module _ (w : World) where
   -- Nothing but a login that was taken puts an answer on the line.
   pub answer-taken : (e : Event) (s : ℕ) (a : List ℕ)
       → step w e .serving .answers ≡ w .serving .answers ++ (inSeries s a ∷ []) → LoginTaken w e s a
-  answer-taken (openSender date ss) s a q = absurd (no-append (w .serving .answers) (inSeries s a) q)
+  answer-taken (openSender date ss rs) s a q = absurd (no-append (w .serving .answers) (inSeries s a) q)
   answer-taken (publish t tid content) s a q = absurd (no-append (w .serving .answers) (inSeries s a) q)
   answer-taken (login t i content out) s a q =
       by-given (Answered (login t i content out) s a) w (getElem? (w .receiving .requests) i)

@@ -183,7 +183,7 @@ module _ (s d n : ℕ) (content : List ℕ) (ans : Answering content) where
     pub passes : Followed w → AllBegun (w .serving) → (e : Event)
         → allParts r ≤ length (w .receiving .buffer) → step w e .receiving .restarts ≡ w .receiving .restarts
         → Passes w (step w e)
-    passes followed begun (World.openSender date ss) room q = still _ refl (turned stays)
+    passes followed begun (World.openSender date ss rs) room q = still _ refl (turned stays)
     passes followed begun (World.publish t tid c) room q = still _ refl (turned stays)
     passes followed begun (World.login t i c out) room q =
         by-given (Passes w) w (getElem? (w .receiving .requests) i) (still w refl (turned stays))
@@ -232,7 +232,7 @@ taken-grows true n = omega arith
 taken-grows false n = omega arith
 
 grows-step : (w : World) → Eight (w .receiving .end) → (e : Event) → Grows w (step w e)
-grows-step w h (World.openSender date ss) = grows-same w _ refl (omega arith) refl
+grows-step w h (World.openSender date ss rs) = grows-same w _ refl (omega arith) refl
 grows-step w h (World.publish t tid c) = grows-same w _ refl (omega arith) refl
 grows-step w h (World.login t i c out) =
     by-given (Grows w) w (getElem? (w .receiving .requests) i) (grows-same w w refl (omega arith) refl)

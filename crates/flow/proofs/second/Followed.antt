@@ -108,8 +108,8 @@ pub record Follows (w : World) : Type 0 where
   pub behind : Followed w
 
 pub step-followed : (w : World) (e : Event) → Eight (w .receiving .end) → Follows w → Follows (step w e)
-step-followed w (openSender date ss) h b =
-    record { behind = served-followed w _ (open-move (w .serving) date ss) (b .behind) }
+step-followed w (openSender date ss rs) h b =
+    record { behind = served-followed w _ (open-move (w .serving) date ss rs) (b .behind) }
 step-followed w (publish s tid content) h b =
     record { behind = served-followed w _ (publish-move (w .serving) s tid content) (b .behind) }
 step-followed w (login s i content out) h b =

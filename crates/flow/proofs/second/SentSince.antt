@@ -133,7 +133,7 @@ module _ (v : SenderSide) (s d k : ℕ) where
   move-sent : (u w : SenderSide) → Move u w → Since v u s d k → w .openings ≡ v .openings → answeredIn v w s ≡ []
       → SentFrom v w s d k
   move-sent u w stays z o a = z .sent o a
-  move-sent u w (opens date ss b c) z o a = absurd (let l = z .openings in omega arith)
+  move-sent u w (opens date ss rs b c) z o a = absurd (let l = z .openings in omega arith)
   move-sent u w (publishes t tid content p) z o a =
       from-published v u (z .served) s d k (z .sent o a) t tid content (p .served)
   move-sent u w (logs-in t p content out x y c g q) z o a =

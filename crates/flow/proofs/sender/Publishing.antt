@@ -1,10 +1,9 @@
 -- Publish, test by test: what the call leaves meets its promise. Assumes nothing.
 use Prim.Native.Nat.{ℕ, _+_, _-_, _<_, _≤_}
-use native.Mathlib.Omega.{arith}
 use mathlib.Core.Path.{_≡_, refl, sym, ap, _∙_}
 use mathlib.Core.List.{List}
-use mathlib.Core.Bool.{Bool, true, false, not}
-use borrow.Author.Tests.{lt-ltb, le-ltb, le-leb, lt-leb}
+use mathlib.Core.Bool.{Bool, true, false, not, _||_}
+use borrow.Author.Tests.{lt-ltb, le-ltb, le-leb, lt-leb, ltb-false}
 use lib.ListN.{length, getD, set}
 use lib.Dec.{ltb, leb}
 use Rattle.ftd.specs.Bytes.{put}
@@ -16,18 +15,21 @@ use Rattle.ftd.specs.declared.items.Checked.{Checked}
 use Rattle.ftd.specs.declared.items.Checked.the-variants.{Passed, Refused}
 use Rattle.flow.specs.declared.series.SeriesPlace.{SeriesPlace}
 use Rattle.flow.specs.declared.series.SeriesPlace.the-variants.{Unknown, At}
+use Rattle.flow.specs.declared.sender.DaySeries.{DaySeries}
 use Rattle.flow.specs.declared.sender.Sender.{Sender}
 use Rattle.flow.specs.declared.sender.Published.{Published}
 use Rattle.flow.specs.declared.sender.Published.the-variants.{Number}
 use Rattle.flow.specs.declared.sender.Published.the-variants.{Refused as NotPublished}
 use Rattle.flow.specs.declared.sender.PublishStep.{PublishStep}
-use Rattle.flow.specs.Ends.{_when_else_, Wrote, wrote, newSeries, sender, isServed, publishedOf, withEntry}
+use Rattle.flow.specs.Ends.{_when_else_, Wrote, wrote, noSeries, sender, isServed, publishedOf, withEntry}
 use Rattle.flow.specs.Log.{entryBytes, logShort, entryFits}
-use Rattle.flow.specs.Serving.{publishOf}
+use Rattle.flow.specs.Serving.{overShares, publishOf}
 use Rattle.flow.specs.Promises.{Publishes}
 use Rattle.flow.specs.Helpers.{Finds, unpublished}
+use Rattle.flow.specs.ShareHelpers.{sharesIn}
 use Rattle.flow.proofs.common.Contents.{onCheck, content-rows}
-use Rattle.flow.proofs.sender.Lookups.{published-at, entry-at}
+use Rattle.flow.proofs.sender.Lookups.{published-at, reserve-at, used-at, entry-at}
+use Rattle.flow.proofs.room.Places.{shares-entry, used-within}
 
 module _ (e : Sender) (s tid : ℕ) (content log : List ℕ) where
   abbrev refused : Refusal → Wrote Sender Published
@@ -38,7 +40,7 @@ module _ (e : Sender) (s tid : ℕ) (content log : List ℕ) where
   entered =
       refused UnknownSeries when not (isServed e s) else
       refused DamagedLog when logShort e log else
-      refused TooSmall when not (entryFits e log content) else
+      refused TooSmall when not (entryFits e log content) || overShares e s log content else
       refused DayFull when leb 1000000 (publishedOf e s) else
       wrote (withEntry e s (16 + length content)) (Number (publishedOf e s + 1))
       (put log (e .day .used) (entryBytes s tid (publishedOf e s + 1) content))
@@ -71,8 +73,11 @@ module _ (e : Sender) (s tid : ℕ) (content log : List ℕ) where
 
     -- The series was found.
     module _ (at : ℕ) (g : Finds e s (At at)) where
+      abbrev one : DaySeries
+      one = getD (e .day .series) at noSeries
+
       abbrev published : ℕ
-      published = getD (e .day .series) at (newSeries 0) .published
+      published = one .published
 
       published-is : publishedOf e s ≡ published
       published-is = sym (published-at e s at (g .1))
@@ -102,25 +107,58 @@ module _ (e : Sender) (s tid : ℕ) (content log : List ℕ) where
           fits : ltb left (16 + length content) ≡ false
           fits = le-ltb left (16 + length content) b
 
-          pub publish-full : (p : PublishStep) → 1000000 ≤ published → p ≡ unpublished e DayFull
-              → Publishes e s tid content log p log
-          unfolding logShort entryFits
-          publish-full p n q =
-              rw q
-              (meets (refused DayFull) (passed ∙ rw (g .0, whole, fits, published-is, le-leb 1000000 published n)))
+          -- `over` is whether the shares would pass the log's length.
+          module _ (over : Bool) (o : over ≡ ltb (length log) (sharesIn (e .day) at (16 + length content))) where
+            over-is : overShares e s log content ≡ over
+            over-is = rw (shares-entry e s at (g .1) (16 + length content)) (sym o)
 
-          pub publish-done : (o : List ℕ) → published < 1000000
-              → o ≡ put log (e .day .used) (entryBytes s tid (published + 1) content)
-              → Publishes e s tid content log
-              (record {
-                end =
-                    sender (e .day .date) (e .day .count)
-                    (set (e .day .series) at (record { series = s; published = published + 1 }))
-                    (e .day .used + (16 + length content)) (e .seat .places);
-                answer = Number (published + 1);
-              })
-              o
-          unfolding logShort entryFits
-          publish-done o n q =
-              rw (q, ← published-is, entry-at e s at (g .1) (16 + length content))
-              (meets _ (passed ∙ rw (g .0, whole, fits, lt-leb 1000000 (publishedOf e s) (rw published-is n))))
+            pub publish-over : over ≡ true → (p : PublishStep) → p ≡ unpublished e TooSmall
+                → Publishes e s tid content log p log
+            unfolding logShort entryFits
+            publish-over t p q = rw q (meets (refused TooSmall) (passed ∙ rw (g .0, whole, fits, over-is, t)))
+
+            -- The shares are within the log's length.
+            module _ (within : over ≡ false) where
+              -- So is what the series then uses.
+              pub publish-within : one .used + (16 + length content) ≤ length log
+              publish-within =
+                  used-within e s at (g .1) (16 + length content) (g .0) (length log)
+                  (ltb-false (length log) (sharesIn (e .day) at (16 + length content)) (sym o ∙ within))
+
+              pub publish-full : (p : PublishStep) → 1000000 ≤ published → p ≡ unpublished e DayFull
+                  → Publishes e s tid content log p log
+              unfolding logShort entryFits
+              publish-full p n q =
+                  rw q
+                  (meets (refused DayFull)
+                  (passed ∙ rw (g .0, whole, fits, over-is, within, published-is, le-leb 1000000 published n)))
+
+              pub publish-done : (o : List ℕ) → published < 1000000
+                  → o ≡ put log (e .day .used) (entryBytes s tid (published + 1) content)
+                  → Publishes e s tid content log
+                  (record {
+                    end =
+                        sender (e .day .date) (e .day .count)
+                        (set (e .day .series) at
+                        (record {
+                          series = s;
+                          published = published + 1;
+                          reserve = one .reserve;
+                          used = one .used + (16 + length content);
+                        }))
+                        (e .day .used + (16 + length content)) (e .seat .places);
+                    answer = Number (published + 1);
+                  })
+                  o
+              unfolding logShort entryFits
+              publish-done o n q =
+                  rw (
+                    q,
+                    ← published-is,
+                    reserve-at e s at (g .1),
+                    used-at e s at (g .1),
+                    entry-at e s at (g .1) (16 + length content),
+                  )
+                  (meets _
+                  (passed
+                  ∙ rw (g .0, whole, fits, over-is, within, lt-leb 1000000 (publishedOf e s) (rw published-is n))))

@@ -38,7 +38,7 @@ use Rattle.flow.specs.declared.sender.SentPacket.the-variants.{Refused a
 use Rattle.flow.specs.declared.sender.NextMessage.{NextMessage}
 use Rattle.flow.specs.declared.sender.NextMessage.the-variants.{Drained, Refused, Entry}
 use Rattle.flow.specs.Answers.{Said}
-use Rattle.flow.specs.Ends.{_when_else_, Wrote, wrote, over, newSeries, noPlace, isServed, publishedOf, placeOf}
+use Rattle.flow.specs.Ends.{_when_else_, Wrote, wrote, over, noSeries, noPlace, isServed, publishedOf, placeOf}
 use Rattle.flow.specs.Ends.{withPlace}
 use Rattle.flow.specs.Log.{entryOf}
 use Rattle.flow.specs.Serving.{noneLeft, sendPackets, sendBytes, sendEntry, sendOf, nextPacket, noPacket}
@@ -71,15 +71,15 @@ module _ (e : Sender) (s : ℕ) (log : List ℕ) where
       seated = rw (place-at e s i (f .1)) at login
 
       -- None left.
-      pub next-none : getD (e .day .series) i (newSeries 0) .published < getD (e .seat .places) i noPlace .next
+      pub next-none : getD (e .day .series) i noSeries .published < getD (e .seat .places) i noPlace .next
           → FindsNext e s log Drained
       unfolding sendOf sendPacketOf noneLeft
       next-none h out =
           let g : publishedOf e s < placeOf e s .next = rw (published-at e s i (f .1), place-at e s i (f .1)) at h in
           rw (f .0, seated, lt-ltb (publishedOf e s) (placeOf e s .next) g) (refl, refl)
 
-      module _ (left : getD (e .seat .places) i noPlace .next ≤ getD (e .day .series) i (newSeries 0) .published)
-          (small : getD (e .day .series) i (newSeries 0) .published < 4294967296) where
+      module _ (left : getD (e .seat .places) i noPlace .next ≤ getD (e .day .series) i noSeries .published)
+          (small : getD (e .day .series) i noSeries .published < 4294967296) where
         some-left : placeOf e s .next ≤ publishedOf e s
         some-left = rw (published-at e s i (f .1), place-at e s i (f .1)) at left
 

@@ -30,7 +30,7 @@ same-grows : (w : World) → Grows w w
 same-grows w = (extends-same (w .receiving .handed), extends-same (w .receiving .reports))
 
 step-grows : (w : World) (e : Event) → Grows w (step w e)
-step-grows w (openSender date ss) = same-grows w
+step-grows w (openSender date ss rs) = same-grows w
 step-grows w (publish s tid content) = same-grows w
 step-grows w (login s i content out) =
     by-given (Grows w) w (getElem? (w .receiving .requests) i) (same-grows w) (λ p q. same-grows w)
@@ -51,7 +51,7 @@ step-grows w (receive i j) =
 
 unheard-same : (w : World) (e : Event) → unheard w e ≡ true
     → length (step w e .receiving .handed) ≡ length (w .receiving .handed)
-unheard-same w (openSender date ss) q = refl
+unheard-same w (openSender date ss rs) q = refl
 unheard-same w (publish s tid content) q = refl
 unheard-same w (login s i content out) q = clash _ q refl
 unheard-same w (send s out) q = refl

@@ -4,7 +4,7 @@ use Prim.Native.Nat.{ℕ, zero, suc, _+_, _≤_, _<_}
 use native.Mathlib.Omega.{arith}
 use mathlib.Core.Path.{_≡_, refl, sym, ap, _∙_}
 use mathlib.Core.List.{List, [], _∷_}
-use mathlib.Core.Bool.{Bool, true, false, not, _&&_}
+use mathlib.Core.Bool.{Bool, true, false, not, _&&_, _||_}
 use mathlib.Core.Option.{Option, none, some}
 use borrow.Author.Tests.{ltb-true, lt-ltb, le-ltb, le-leb, lt-leb, eq-eqb, not-true, ne-eqb}
 use lib.ListN.{length, drop, getD}
@@ -35,10 +35,10 @@ use Rattle.flow.specs.declared.sender.SentPacket.{SentPacket}
 use Rattle.flow.specs.declared.sender.SentPacket.the-variants.{Wrote as Packet-sent}
 use Rattle.flow.specs.declared.sender.SentPacket.the-variants.{Refused as NotPacket}
 use Rattle.flow.specs.Ends.{_when_else_, Wrote, wrote, over, mostMessages, mostSeries, indexOf, noPlace, daySeries, isServed}
-use Rattle.flow.specs.Ends.{publishedOf, placeOf, withEntry, withPlace}
+use Rattle.flow.specs.Ends.{publishedOf, reserveOf, usedOf, placeOf, withEntry, sharesOf, withPlace}
 use Rattle.flow.specs.Log.{entrySeries, entriesOf, logShort, entryFits, strangeSeries, nonzero}
 use Rattle.flow.specs.Log.{misnumbered, misshapen, isWanted, walk, entryOf}
-use Rattle.flow.specs.Serving.{wrongRun, startOf, noneLeft, sendPackets, nextPacket, noPacket, lastPacket}
+use Rattle.flow.specs.Serving.{wrongRun, overShares, startOf, noneLeft, sendPackets, nextPacket, noPacket, lastPacket}
 use Rattle.flow.specs.Serving.{afterPacket, sendPacketEntry, sendPacketOf, publishOf, loginOf}
 use Rattle.flow.specs.PacketByPacket.{hasLeft, restOf, toCome, noneBehind, OnePacket, SamePublished, allPackets}
 use Rattle.flow.proofs.common.Bools.{and-both}
@@ -253,7 +253,7 @@ module _ (d : Day) (a b : Seat) (t tid : ℕ) (content log : List ℕ) where
   refuses r = record { answer = refl; bytes = refl; day = refl }
 
   publish-either : SamePublished (publishOf e t tid content log) (publishOf f t tid content log)
-  unfolding publishOf isServed publishedOf daySeries logShort entryFits withEntry
+  unfolding publishOf isServed publishedOf reserveOf usedOf daySeries logShort entryFits sharesOf withEntry
   publish-either =
       both (wrongRun content mostContent) (refuses FieldRun)
       (both (wrongWidth content) (refuses FieldLength)
@@ -261,7 +261,7 @@ module _ (d : Day) (a b : Seat) (t tid : ℕ) (content log : List ℕ) where
       (both (not (composed tid Down content)) (refuses Composition)
       (both (not (isServed e t)) (refuses UnknownSeries)
       (both (logShort e log) (refuses DamagedLog)
-      (both (not (entryFits e log content)) (refuses TooSmall)
+      (both (not (entryFits e log content) || overShares e t log content) (refuses TooSmall)
       (both (leb mostMessages (publishedOf e t)) (refuses DayFull)
       (record { answer = refl; bytes = refl; day = refl }))))))))
 

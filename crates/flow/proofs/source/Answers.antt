@@ -65,7 +65,7 @@ answer-genuine v z s h date asked content out t =
 
 pub move-answers : (v u : SenderSide) → Move v u → ServedSide v → GenuineAnswers v → GenuineAnswers u
 move-answers v u stays h g = g
-move-answers v u (opens date ss a b) h g = λ i x q.
+move-answers v u (opens date ss rs a b) h g = λ i x q.
     let y = g i x q in
     record {
       date = y .date;
@@ -75,7 +75,7 @@ move-answers v u (opens date ss a b) h g = λ i x q.
       widths = y .widths;
       items = y .items;
       counts = y .counts;
-      not-later = move-rises v _ (opens date ss a b) h (y .date) (y .not-later);
+      not-later = move-rises v _ (opens date ss rs a b) h (y .date) (y .not-later);
     }
 move-answers v u (publishes s tid content t) h g = g
 move-answers v u (logs-in s p content out x y c e t) h g =

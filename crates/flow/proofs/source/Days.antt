@@ -47,7 +47,7 @@ day-rises v u m h = go (v .day) (move-rises v u m h)
 
 pub day-stays : (v u : SenderSide) → Move v u → u .openings ≡ v .openings → u .day ≡ v .day
 day-stays v u stays o = refl
-day-stays v u (opens date ss a b) o = absurd (omega arith)
+day-stays v u (opens date ss rs a b) o = absurd (omega arith)
 day-stays v u (publishes s tid content t) o = refl
 day-stays v u (logs-in s p content out h x c g t) o = refl
 day-stays v u (sends s x a b c) o = refl
@@ -55,7 +55,7 @@ day-stays v u (sends-packet s x a b c d) o = refl
 
 pub openings-grow : (v u : SenderSide) → Move v u → v .openings ≤ u .openings
 openings-grow v u stays = omega arith
-openings-grow v u (opens date ss a b) = omega arith
+openings-grow v u (opens date ss rs a b) = omega arith
 openings-grow v u (publishes s tid content t) = omega arith
 openings-grow v u (logs-in s p content out h x c g t) = omega arith
 openings-grow v u (sends s x a b c) = omega arith
@@ -81,9 +81,9 @@ over-opened d date (At e) a b = let g = leb-false date e a in let h = leb-true d
 
 pub move-over : (d : ℕ) (v u : SenderSide) → Move v u → ServedSide v → Over d v → Over d u
 move-over d v u stays h o = o
-move-over d v u (opens date ss a b) h o =
+move-over d v u (opens date ss rs a b) h o =
     record {
-      below = move-rises v _ (opens date ss a b) h d (o .below);
+      below = move-rises v _ (opens date ss rs a b) h d (o .below);
       other = over-opened d date (v .day)
           (rw (h .same-day) at b) (o .below);
     }
@@ -102,7 +102,7 @@ none-there s d t day m q = go (eqb t s) (isDay d day) q
 
 pub move-closed : (d s : ℕ) (v u : SenderSide) → Move v u → Over d v → of s d (u .published) ≡ of s d (v .published)
 move-closed d s v u stays o = refl
-move-closed d s v u (opens date ss a b) o = refl
+move-closed d s v u (opens date ss rs a b) o = refl
 move-closed d s v u (publishes t tid content z) o =
     of-append s d (v .published) (dated t (v .day) (record { tid = tid; content = content }) ∷ [])
     ∙ ap (λ (l : List Message). of s d (v .published) ++ l)

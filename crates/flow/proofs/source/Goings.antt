@@ -285,13 +285,13 @@ module _ (v : SenderSide) (h : ServedSide v) (z : Unfinished v) where
 pub move-unfinished : (v u : SenderSide) → Move v u → ServedSide v → Unfinished v → Unfinished u
 unfolding afterPacket
 move-unfinished v u stays h z = z
-move-unfinished v u (opens date ss a b) h z =
+move-unfinished v u (opens date ss rs a b) h z =
     record {
       alone = λ s. let e = ended-all s (v .transmissions) in omega arith;
       going = λ s r.
           absurd
-          (not-both (placeOf (openedSender date ss) s .login) (r .login)
-          (ap (λ (p : Place). p .login) (opened-place date ss s)));
+          (not-both (placeOf (openedSender date ss rs) s .login) (r .login)
+          (ap (λ (p : Place). p .login) (opened-place date ss rs s)));
     }
 move-unfinished v u (publishes t tid content p) h z =
     record { alone = z .alone; going = published-unfinished v h z t tid content (p .served) }

@@ -31,7 +31,7 @@ grown-along v u t g h = record {
 
 pub move-grows : (v u : SenderSide) → Move v u → Grown v u
 move-grows v u stays = grown-same v
-move-grows v u (opens date ss a b) =
+move-grows v u (opens date ss rs a b) =
     record {
       published = extends-same (v .published);
       answers = extends-same (v .answers);
@@ -70,7 +70,7 @@ move-grows v u (sends-packet s x a b c d) =
 -- Each transmission stays in its place and only grows.
 pub move-onward : (v u : SenderSide) → Move v u → Onward (v .transmissions) (u .transmissions)
 move-onward v u stays = onward-same (v .transmissions)
-move-onward v u (opens date ss a b) = onward-all (v .transmissions)
+move-onward v u (opens date ss rs a b) = onward-all (v .transmissions)
 move-onward v u (publishes s tid content t) = onward-same (v .transmissions)
 move-onward v u (logs-in s p content out h x c g t) = onward-ended s (v .transmissions)
 move-onward v u (sends s x a b c) =

@@ -22,7 +22,7 @@ use Rattle.flow.proofs.source.Published.{served-published}
 pub move-served : (v u : SenderSide) → Move v u → ServedSide v → ServedSide u
 unfolding afterPacket
 move-served v u stays h = h
-move-served v u (opens date ss a b) h = served-opened (v .end) (v .log) (v .day) (v .published) h date ss a b
+move-served v u (opens date ss rs a b) h = served-opened (v .end) (v .log) (v .day) (v .published) h date ss rs a b
 move-served v u (publishes s tid content t) h =
     served-published (v .end) (v .log) (v .day) (v .published) h s tid content t
 move-served v u (logs-in s p content out x y c g t) h =
@@ -41,7 +41,7 @@ move-served v u (sends-packet s x a b c d) h =
 pub move-rises : (v u : SenderSide) → Move v u → ServedSide v → (d : ℕ) → upTo d (v .day) ≡ true
     → upTo d (u .day) ≡ true
 move-rises v u stays h d q = q
-move-rises v u (opens date ss a b) h d q = upTo-rises d date (v .day) (rw (h .same-day) at b) q
+move-rises v u (opens date ss rs a b) h d q = upTo-rises d date (v .day) (rw (h .same-day) at b) q
 move-rises v u (publishes s tid content t) h d q = q
 move-rises v u (logs-in s p content out x y c g t) h d q = q
 move-rises v u (sends s x a b c) h d q = q

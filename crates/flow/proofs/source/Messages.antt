@@ -141,7 +141,7 @@ module _ (v : SenderSide) (h : ServedSide v) (z : Unfinished v) (s : ℕ) (x : L
 
 pub move-genuine : (v u : SenderSide) → Move v u → ServedSide v → Unfinished v → AllGenuine v → AllGenuine u
 move-genuine v u stays h z g = g
-move-genuine v u (opens date ss a b) h z g = g
+move-genuine v u (opens date ss rs a b) h z g = g
 move-genuine v u (publishes s tid content t) h z g =
     λ i m q. genuine-grows (v .published) _ (m .series) (m .what) (extends-append (v .published) _) (g i m q)
 move-genuine v u (logs-in s p content out x y c e t) h z g = g
@@ -186,7 +186,7 @@ ended-series P s =
 
 pub move-begun : (v u : SenderSide) → Move v u → ServedSide v → Unfinished v → AllBegun v → AllBegun u
 move-begun v u stays h z g = g
-move-begun v u (opens date ss a b) h z g =
+move-begun v u (opens date ss rs a b) h z g =
     every-changed (BegunIn (v .published)) (BegunIn (v .published))
     (λ (t : Transmission). brokenOff (isGoing (t .stands)) t)
     (λ t. ended-begun (v .published) (isGoing (t .stands)) t λ q. q) (v .transmissions) g
@@ -217,7 +217,7 @@ move-on-line v u m g = go v u m (still v u m g)
 
     go : (v u : SenderSide) → Move v u → Every (OnLine (u .transmissions)) (v .messages) → AllOnLine u
     go v u stays f = f
-    go v u (opens date ss a b) f = f
+    go v u (opens date ss rs a b) f = f
     go v u (publishes s tid content t) f = f
     go v u (logs-in s p content out x y c e t) f = f
     go v u (sends s x a b c) f =

@@ -40,9 +40,9 @@ use Rattle.flow.proofs.common.Rows.{by-given}
 
 -- ─── What a call that was taken leaves ───
 
-abbrev pub openedSide : SenderSide → ℕ → List ℕ → SenderSide
-openedSide v date ss = record {
-  end = openedSender date ss;
+abbrev pub openedSide : SenderSide → ℕ → List ℕ → List ℕ → SenderSide
+openedSide v date ss rs = record {
+  end = openedSender date ss rs;
   log = v .log;
   day = At date;
   openings = suc (v .openings);
@@ -104,8 +104,8 @@ packetSide v s x = record {
 
 pub data Move (v : SenderSide) : SenderSide → Type 0 where
   stays : Move v v
-  opens : (date : ℕ) (ss : List ℕ) → wrongSeries ss ≡ false → upTo date (v .end .day .date) ≡ false
-      → Move v (openedSide v date ss)
+  opens : (date : ℕ) (ss rs : List ℕ) → wrongSeries ss ≡ false → upTo date (v .end .day .date) ≡ false
+      → Move v (openedSide v date ss rs)
   publishes : (s tid : ℕ) (content : List ℕ) → PublishTests (v .end) s tid content (v .log)
       → Move v (publishedSide v s tid content)
   logs-in : (s : ℕ) (p content out : List ℕ) (h : Header) (x c : Span) → datedOf p .packet ≡ Accepted h x c →
@@ -120,12 +120,12 @@ pub data Move (v : SenderSide) : SenderSide → Type 0 where
 -- ─── Each call's, in any state and of any bytes ───
 
 module _ (v : SenderSide) where
-  pub open-move : (date : ℕ) (ss : List ℕ) → Move v (afterOpen v date (openDayOf (v .end) date ss))
-  open-move date ss = go (openDayOf (v .end) date ss) (open-cases (v .end) date ss)
+  pub open-move : (date : ℕ) (ss rs : List ℕ) → Move v (afterOpen v date (openDayOf (v .end) date ss rs (v .log)))
+  open-move date ss rs = go (openDayOf (v .end) date ss rs (v .log)) (open-cases (v .end) date ss rs (v .log))
     where
-      go : (r : Left Sender Opened) → OpenDone (v .end) date ss r → Move v (afterOpen v date r)
+      go : (r : Left Sender Opened) → OpenDone (v .end) date ss rs (v .log) r → Move v (afterOpen v date r)
       go r (open-refused x) = stays
-      go r (open-taken a b) = opens date ss a b
+      go r (open-taken a b c d) = opens date ss rs a b
 
   pub publish-move : (s tid : ℕ) (content : List ℕ)
       → Move v (afterPublish v s tid content (publishOf (v .end) s tid content (v .log)))
@@ -176,7 +176,7 @@ module _ (v : SenderSide) where
 -- ─── Each event's ───
 
 pub step-moves : (w : World) (e : Event) → Move (w .serving) (step w e .serving)
-step-moves w (openSender date ss) = open-move (w .serving) date ss
+step-moves w (openSender date ss rs) = open-move (w .serving) date ss rs
 step-moves w (publish s tid content) = publish-move (w .serving) s tid content
 step-moves w (login s i content out) =
     by-given (λ (u : World). Move (w .serving) (u .serving)) w (getElem? (w .receiving .requests) i) stays λ p q.

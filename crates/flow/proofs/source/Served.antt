@@ -65,16 +65,16 @@ module _ (e : Sender) (log : List ℕ) (day : TradeDate) (history : List (Dated 
   where
     -- ─── Opened ───
 
-    pub served-opened : (date : ℕ) (ss : List ℕ) → wrongSeries ss ≡ false → upTo date (e .day .date) ≡ false →
-        Served (openedSender date ss) log (At date) history
-    served-opened date ss a b =
+    pub served-opened : (date : ℕ) (ss rs : List ℕ) → wrongSeries ss ≡ false → upTo date (e .day .date) ≡ false →
+        Served (openedSender date ss rs) log (At date) history
+    served-opened date ss rs a b =
         let above : upTo date day ≡ false = rw (h .same-day) at b in
         let empty : onDay date history ≡ [] = h .not-later date above in
         record {
-          eight = opened-eight date ss a;
+          eight = opened-eight date ss rs a;
           same-day = refl;
           unopened = λ q. absurd (none-at q);
-          counted = λ s q. opened-published date ss s ∙ ap (λ (l : List Pub). length (messagesOf s l)) (sym empty);
+          counted = λ s q. opened-published date ss rs s ∙ ap (λ (l : List Pub). length (messagesOf s l)) (sym empty);
           not-later = λ d q. h .not-later d (above-along d date day above q);
           few = h .few;
           holds = rw empty record { inside = omega arith; laid-out = refl; sound = tt };
@@ -84,9 +84,9 @@ module _ (e : Sender) (log : List ℕ) (day : TradeDate) (history : List (Dated 
         none-at : At date ≡ None → ⊥
         none-at q = let z : _≡_ {A = ℕ} 0 1 = cc in omega arith
 
-        outside : (s : ℕ) → placeOf (openedSender date ss) s .login ≡ true → ⊥
+        outside : (s : ℕ) → placeOf (openedSender date ss rs) s .login ≡ true → ⊥
         outside s l =
-            not-both (placeOf (openedSender date ss) s .login) l (ap (λ (p : Place). p .login) (opened-place date ss s))
+            not-both (placeOf (openedSender date ss rs) s .login) l (ap (λ (p : Place). p .login) (opened-place date ss rs s))
 
     -- ─── The number that is sent next ───
 

@@ -18,7 +18,7 @@ use Rattle.play.specs.declared.calls.Verb.the-variants.{Level as NamesLe
 use Rattle.play.specs.declared.calls.Verb.the-variants.{PublishAll as NamesPublishAll, SendPacket as NamesSendPacket}
 use Rattle.play.specs.declared.calls.Call.{Call}
 use Rattle.play.specs.declared.calls.Call.the-variants.{Bad, Connect, Receive, State, StartBook, ShowMean, ReceiveAll, PublishAll}
-use Rattle.play.specs.Words.{endOf, tidIn, sameWord, argument, hasForm, seriesCount, wordCount}
+use Rattle.play.specs.Words.{endOf, tidIn, sameWord, argument, hasForm, seriesCount, shareCount, wordCount}
 use Rattle.play.specs.Calls.{verbOf, buffersWith, openDayWith, publishWith, loginCallWith, sendWith, openEndWith}
 use Rattle.play.specs.Calls.{askWith, answerWith, timeWith, calendarWith, markWith, plainCall, numberAt}
 use Rattle.play.specs.Calls.{takeWith, levelWith, namedCall, callOf}
@@ -74,7 +74,7 @@ module _ (line : List ℕ) (v : Verb) (r : Call) where
   pub names-unknown : v ≡ Unknown → Bad ≡ namedCall line v
   names-unknown e = rw e
 
-  pub names-day : (x n : ℕ) → r ≡ openDayWith x n → v ≡ NamesOpenDay → x ≡ numberAt line 0 → n ≡ seriesCount line 1
+  pub names-day : (x n : ℕ) → r ≡ openDayWith x n → v ≡ NamesOpenDay → x ≡ numberAt line 0 → n ≡ shareCount line 1
       → r ≡ namedCall line v
   names-day x n k e q p = rw (e, ← q, ← p) k
 

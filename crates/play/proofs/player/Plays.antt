@@ -23,7 +23,7 @@ use Rattle.play.specs.Words.{argument, saidBytes, seriesFrom, wordsFrom}
 use Rattle.play.specs.Calls.{callOf}
 use Rattle.play.specs.Lines.{wordLine}
 use Rattle.play.specs.Played.{Turn, Shows, Plays, badLine, okLine, laidOut, countedPlayer, badTurn, layoutTurn}
-use Rattle.play.specs.Played.{readyTurn, startTurn, callTurn, lacksRoom, playTurn, ShowsOpenDay, ShowsOpenEnd}
+use Rattle.play.specs.Played.{readyTurn, startTurn, callTurn, lacksRoom, playTurn, PlaysOpenDay, ShowsOpenEnd}
 use Rattle.play.specs.Played.{ShowsConnect, ShowsAnswer, ShowsState, PlaysPublish, PlaysLogin, PlaysSend, PlaysAsk}
 use Rattle.play.specs.Played.{PlaysReceive, ShowsCalendar, ShowsTime, ShowsDate, ShowsStart, ShowsTake}
 use Rattle.play.specs.Played.{ShowsLevel, ShowsMean, PlaysReceiveAll, PlaysPublishAll}
@@ -75,7 +75,7 @@ module _ (p : Player) (line log chain : List ℕ) (call : Call) (r : Played) (t 
       → Plays (readyTurn p line log chain call) r t t′ log chain
   ready-buffers n m e h = rw e (h, refl, refl)
 
-  pub ready-day : (date n : ℕ) → call ≡ OpenDay date n → ShowsOpenDay p date (seriesFrom line 1 n) r t t′
+  pub ready-day : (date n : ℕ) → call ≡ OpenDay date n → PlaysOpenDay p line date n log r t t′
       → Plays (readyTurn p line log chain call) r t t′ log chain
   ready-day date n e h = rw e (h, refl, refl)
 

@@ -14,9 +14,10 @@ use Rattle.flow.specs.Serving.{loginOf, sendOf, sendPacketOf}
 use Rattle.listing.specs.Text.{WroteText}
 use Rattle.play.specs.declared.player.Player.{Player}
 use Rattle.play.specs.declared.player.Played.{Played}
+use Rattle.play.specs.Words.{seriesFrom, reservesFrom}
 use Rattle.play.specs.Lines.{openedLine, publishedLine, loginAnswerLine, sentLine, sentPacketLine}
 use Rattle.play.specs.Played.{withSender, ShowsOpenDay, ShowsPublish, ShowsLogin, ShowsSend, PlaysPublish}
-use Rattle.play.specs.Played.{PlaysLogin, ShowsSendPacket, PlaysSend}
+use Rattle.play.specs.Played.{PlaysLogin, ShowsSendPacket, PlaysSend, PlaysOpenDay}
 
 pub sender-is : (p pl : Player) (e m : Sender) → pl ≡ withSender p e → e ≡ m → pl ≡ withSender p m
 sender-is p pl e m q f = rw (← f) q
@@ -76,9 +77,10 @@ module _ (n : ℕ) (o : List ℕ) (z : o ≡ replicate n 0) where
 -- ─── The call of a line ───
 
 module _ (p : Player) (r : Played) (t t′ : List ℕ) where
-  pub day-played : (date : ℕ) (series said : List ℕ) → ShowsOpenDay p date series r t t′ → series ≡ said
-      → ShowsOpenDay p date said r t t′
-  day-played date series said h e = rw e at h
+  pub day-played : (line : List ℕ) (date n : ℕ) (series reserves log : List ℕ)
+      → ShowsOpenDay p date series reserves (take (p .log) log) r t t′ → series ≡ seriesFrom line 1 n
+      → reserves ≡ reservesFrom line 1 n → PlaysOpenDay p line date n log r t t′
+  day-played line date n series reserves log h e f = rw (e, f) at h
 
   pub publish-played : (s tid : ℕ) (content said log part : List ℕ)
       → ShowsPublish p s tid content (take (p .log) log) part r t t′ → content ≡ said

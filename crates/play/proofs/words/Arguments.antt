@@ -11,7 +11,11 @@ use lib.ListN.{length, take, drop, getD, set, drop-of-length-le, length-append, 
 use lib.Seq.{drop-cons, set-at, append-snoc, take-at}
 use lib.Dec.{eqb, ltb}
 use Rattle.play.specs.Words.{upToSpace, endOf, numberIn, saysBytes, nextEnd, endAt, argument, hasArguments}
-use Rattle.play.specs.Words.{allBytes, numbersBehind, numberCount, numberUpTo, numbersFrom}
+use Rattle.play.specs.Words.{allBytes, numbersBehind, numberCount, numberUpTo, listFrom}
+use Rattle.play.specs.Words.{mostNamed, seriesIn, reserveIn, saysShare, seriesAt, sharesBehind, shareCount, reserveAt}
+use Rattle.play.specs.Words.{wideNumber}
+use Rattle.play.specs.declared.words.Wide.{Wide}
+use Rattle.play.specs.declared.words.Wide.the-variants.{Missing, Number}
 
 -- ─── Where words end ───
 
@@ -123,29 +127,77 @@ module _ (top : ℕ) (line : List ℕ) (i : ℕ) (w : List ℕ) (q : w ≡ argum
   unfolding numberUpTo
   up-to-top g = rw (← q, ← e, le-ltb top x g)
 
-length-numbers : (top : ℕ) (line : List ℕ) (i n : ℕ) → length (numbersFrom top line i n) ≡ n
-unfolding numbersFrom
-length-numbers top line i zero = refl
-length-numbers top line i (suc n) = rw length-append (let e = length-numbers top line i n in omega (arith, e))
+-- ─── Series with their reserves ───
 
-module _ (top : ℕ) (line l : List ℕ) (i : ℕ) where
-  pub list-first : l ≡ numbersFrom top line i 0 ++ drop 0 l
-  unfolding numbersFrom
+module _ (line : List ℕ) (i n t : ℕ) (inv : sharesBehind line i n (65 - n) ≡ t) where
+  module _ (h : n ≤ 64) (b : Bool) (p : b ≡ hasArguments line (i + n)) where
+    share-step : cond b n (cond (saysShare (argument line (i + n))) (sharesBehind line i (n + 1) (65 - (n + 1))) 65) ≡ t
+    unfolding sharesBehind
+    share-step = let e : 65 - n ≡ suc (65 - (n + 1)) = omega arith in rw p (rw e at inv)
+
+    pub share-end : b ≡ true → n ≡ t
+    share-end y = rw y at share-step
+
+    module _ (y : b ≡ false) (w : List ℕ) (g : w ≡ argument line (i + n)) (a : Bool) (q : a ≡ saysShare w) where
+      pub share-wrong : a ≡ false → 65 ≡ t
+      share-wrong z = rw (y, ← g, ← q, z) at share-step
+
+      pub share-more : a ≡ true → sharesBehind line i (n + 1) (65 - (n + 1)) ≡ t
+      share-more z = rw (y, ← g, ← q, z) at share-step
+
+  pub share-over : 64 < n → 65 ≡ t
+  unfolding sharesBehind
+  share-over h = let e : 65 - n ≡ 0 = omega arith in rw e at inv
+
+pub share-first : (line : List ℕ) (i : ℕ) → sharesBehind line i 0 (65 - 0) ≡ shareCount line i
+unfolding shareCount
+share-first line i = let e : 65 - 0 ≡ 65 = omega arith in rw e
+
+-- The series and the reserve of an argument.
+module _ (line : List ℕ) (i : ℕ) (w : List ℕ) (q : w ≡ argument line i) where
+  module _ (x : ℕ) (e : x ≡ seriesIn w) where
+    pub no-series : 65535 < x → 0 ≡ seriesAt line i
+    unfolding seriesAt
+    no-series g = rw (← q, ← e, lt-ltb 65535 x g)
+
+    pub some-series : x ≤ 65535 → x ≡ seriesAt line i
+    unfolding seriesAt
+    some-series g = rw (← q, ← e, le-ltb 65535 x g)
+
+  module _ (x : Wide) (e : x ≡ reserveIn w) where
+    pub no-reserve : x ≡ Missing → 0 ≡ reserveAt line i
+    unfolding reserveAt
+    no-reserve g = rw (← q, ← e, g)
+
+    pub some-reserve : (n : ℕ) → x ≡ Number n → n ≡ reserveAt line i
+    unfolding reserveAt
+    some-reserve n g = rw (← q, ← e, g)
+
+-- ─── Lists of values ───
+
+length-list : (value : ℕ → ℕ) (i n : ℕ) → length (listFrom value i n) ≡ n
+unfolding listFrom
+length-list value i zero = refl
+length-list value i (suc n) = rw length-append (let e = length-list value i n in omega (arith, e))
+
+module _ (value : ℕ → ℕ) (l : List ℕ) (i : ℕ) where
+  pub list-first : l ≡ listFrom value i 0 ++ drop 0 l
+  unfolding listFrom
   list-first = refl
 
-  module _ (out : List ℕ) (k : ℕ) (inv : out ≡ numbersFrom top line i k ++ drop k l) where
-    pub list-turn : (v : ℕ) → length out ≡ length l → k < length out → v ≡ numberUpTo top line (i + k)
-        → set out k v ≡ numbersFrom top line i (k + 1) ++ drop (k + 1) l
-    unfolding numbersFrom
+  module _ (out : List ℕ) (k : ℕ) (inv : out ≡ listFrom value i k ++ drop k l) where
+    pub list-turn : (v : ℕ) → length out ≡ length l → k < length out → v ≡ value (i + k)
+        → set out k v ≡ listFrom value i (k + 1) ++ drop (k + 1) l
+    unfolding listFrom
     list-turn v e h q =
-        let some : List ℕ = numbersFrom top line i k in
+        let some : List ℕ = listFrom value i k in
         rw (inv, drop-cons l k 0 (omega arith), add-one k, ← q)
-        (set-at some (getD l k 0) (drop (suc k) l) v k (length-numbers top line i k)
+        (set-at some (getD l k 0) (drop (suc k) l) v k (length-list value i k)
         ∙ sym (append-snoc some v (drop (suc k) l)))
 
-    pub list-over : (n : ℕ) → k ≤ n → n ≤ k → out ≡ numbersFrom top line i n ++ drop n l
+    pub list-over : (n : ℕ) → k ≤ n → n ≤ k → out ≡ listFrom value i n ++ drop n l
     list-over n h g = let e : n ≡ k = omega arith in rw e inv
 
-    -- The list's front part is the numbers.
-    pub list-front : take k out ≡ numbersFrom top line i k
-    list-front = rw inv (take-at (numbersFrom top line i k) (drop k l) k (length-numbers top line i k))
+    -- The list's front part is the values.
+    pub list-front : take k out ≡ listFrom value i k
+    list-front = rw inv (take-at (listFrom value i k) (drop k l) k (length-list value i k))

@@ -1,19 +1,21 @@
 -- The turns of the loops over a word's bytes, over plain variables. Assumes nothing.
-use Prim.Native.Nat.{ℕ, zero, suc, _+_, _*_, _/_, _%_, _<_, _≤_}
-use mathlib.Core.Path.{_≡_, refl, ap, _∙_}
+use Prim.Native.Nat.{ℕ, zero, suc, _+_, _-_, _*_, _/_, _%_, _<_, _≤_}
+use mathlib.Core.Path.{_≡_, refl, sym, ap, _∙_}
 use mathlib.Core.List.{List, [], _∷_}
 use mathlib.Core.Bool.{Bool, true, false, cond}
 use native.Mathlib.Nat.{add-zero, mul-le-mul-left}
 use native.Mathlib.Numerals.{add-one}
 use native.Mathlib.Omega.{arith}
-use borrow.Author.Tests.{le-leb, lt-leb, eq-eqb, ne-eqb}
-use lib.ListN.{length, getD, set, drop, drop-of-length-le}
-use lib.Seq.{drop-cons, paste, paste-zero, paste-suc}
-use lib.Dec.{eqb, leb}
+use borrow.Author.Tests.{ltb-true, ltb-false, lt-ltb, le-ltb, le-leb, lt-leb, eq-eqb, ne-eqb}
+use lib.ListN.{length, getD, set, take, drop, drop-of-length-le, length-drop}
+use lib.Seq.{drop-cons, take-all, paste, paste-zero, paste-suc}
+use lib.Dec.{eqb, leb, ltb}
 use Rattle.ftd.specs.Bytes.{put}
 use Rattle.ftd.proofs.bytes.Put.{paste-put}
 use Rattle.play.specs.Words.{upToSpace, digitValue, noNumber, digitsFrom, numberIn, tidIn, allHex, pairOf, saidBytes}
-use Rattle.play.specs.Words.{sameWord}
+use Rattle.play.specs.Words.{sameWord, wideFrom, wideIn, upToColon, seriesIn, reserveIn, saysShare, isNumber}
+use Rattle.play.specs.declared.words.Wide.{Wide}
+use Rattle.play.specs.declared.words.Wide.the-variants.{Missing, Number}
 
 -- ─── Where a word ends ───
 
@@ -73,6 +75,99 @@ module _ (w : List ℕ) where
   pub tid-other : (length w ≡ 8 → ⊥) → noNumber ≡ tidIn w
   unfolding tidIn
   tid-other n = rw (ne-eqb (length w) 8 n)
+
+-- ─── Numbers of eight bytes ───
+
+-- The test without a sum that could be too large.
+pub wide-test : (n d : ℕ) → d < 10 → ltb ((18446744073709551615 - d) / 10) n ≡ ltb 18446744073709551615 (n * 10 + d)
+wide-test n d h = go (ltb ((18446744073709551615 - d) / 10) n) refl
+  where
+    go : (b : Bool) → ltb ((18446744073709551615 - d) / 10) n ≡ b → b ≡ ltb 18446744073709551615 (n * 10 + d)
+    go true e =
+        let g = ltb-true ((18446744073709551615 - d) / 10) n e in
+        sym (lt-ltb 18446744073709551615 (n * 10 + d) (omega (arith, g)))
+    go false e =
+        let g = ltb-false ((18446744073709551615 - d) / 10) n e in
+        sym (le-ltb 18446744073709551615 (n * 10 + d) (omega (arith, g)))
+
+module _ (l : List ℕ) (i n : ℕ) (t : Wide) (inv : wideFrom n (drop i l) ≡ t) where
+  module _ (h : i < length l) (d : ℕ) (q : d ≡ digitValue (getD l i 0)) where
+    wide-step : cond (leb 10 d) Missing
+        (cond (ltb 18446744073709551615 (n * 10 + d)) Missing (wideFrom (n * 10 + d) (drop (suc i) l))) ≡ t
+    unfolding wideFrom
+    wide-step = rw q (rw (drop-cons l i 0 h) at inv)
+
+    pub wide-no-digit : 10 ≤ d → Missing ≡ t
+    wide-no-digit b = rw (le-leb 10 d b) at wide-step
+
+    module _ (b : d < 10) (a : Bool) (p : a ≡ ltb 18446744073709551615 (n * 10 + d)) where
+      pub wide-above : a ≡ true → Missing ≡ t
+      wide-above y = rw (lt-leb 10 d b, ← p, y) at wide-step
+
+      pub wide-more : a ≡ false → (m : ℕ) → m ≡ n * 10 + d → wideFrom m (drop (i + 1) l) ≡ t
+      wide-more y m e = rw (add-one i, e) (rw (lt-leb 10 d b, ← p, y) at wide-step)
+
+  pub wide-over : length l ≤ i → Number n ≡ t
+  unfolding wideFrom
+  wide-over h = rw (drop-of-length-le l h) at inv
+
+pub wide-none : (l : List ℕ) → length l ≡ 0 → Missing ≡ wideIn l
+unfolding wideIn
+wide-none l e = rw (eq-eqb (length l) 0 e)
+
+pub wide-some : (l : List ℕ) → (length l ≡ 0 → ⊥) → wideFrom 0 l ≡ wideIn l
+unfolding wideIn
+wide-some l n = rw (ne-eqb (length l) 0 n)
+
+-- What the test lets through fits.
+pub wide-fits : (n d : ℕ) (a : Bool) → a ≡ ltb 18446744073709551615 (n * 10 + d) → a ≡ false
+    → n * 10 + d ≤ 18446744073709551615
+wide-fits n d a p y = ltb-false 18446744073709551615 (n * 10 + d) (rw p at y)
+
+-- ─── A series and its reserve ───
+
+pub colon-first : (l : List ℕ) → 0 + upToColon (drop 0 l) ≡ upToColon l
+colon-first l = omega arith
+
+module _ (l : List ℕ) (i e : ℕ) (inv : i + upToColon (drop i l) ≡ e) where
+  pub colon-here : i < length l → getD l i 0 ≡ 58 → i ≡ e
+  unfolding upToColon
+  colon-here h s = rw add-zero at (rw (drop-cons l i 0 h, s) at inv)
+
+  pub no-colon : i < length l → (getD l i 0 ≡ 58 → ⊥) → (i + 1) + upToColon (drop (i + 1) l) ≡ e
+  unfolding upToColon
+  no-colon h s =
+      let z : i + suc (upToColon (drop (suc i) l)) ≡ e = rw (drop-cons l i 0 h, ne-eqb (getD l i 0) 58 s) at inv in
+      rw (add-one i) (omega arith)
+
+  pub colon-over : length l ≤ i → i ≡ e
+  unfolding upToColon
+  colon-over h = rw add-zero at (rw (drop-of-length-le l h) at inv)
+
+module _ (w : List ℕ) (e : ℕ) (p : e ≡ upToColon w) where
+  pub named-is : (x : ℕ) → x ≡ numberIn 10 (take e w) → x ≡ seriesIn w
+  unfolding seriesIn
+  named-is x q = rw (← p) q
+
+  pub reserve-behind : e < length w → (x : Wide) → x ≡ wideIn (take (length w - (e + 1)) (drop (e + 1) w))
+      → x ≡ reserveIn w
+  unfolding reserveIn
+  reserve-behind h x q =
+      let g : length (drop (e + 1) w) ≤ length w - (e + 1) = rw length-drop (omega arith) in
+      rw (← p, lt-ltb e (length w) h) (rw (take-all (length w - (e + 1)) (drop (e + 1) w) g) at q)
+
+  pub no-reserve-behind : length w ≤ e → Number 0 ≡ reserveIn w
+  unfolding reserveIn
+  no-reserve-behind h = rw (← p, le-ltb e (length w) h)
+
+module _ (w : List ℕ) (x : ℕ) (p : x ≡ seriesIn w) where
+  pub not-share : 65535 < x → false ≡ saysShare w
+  unfolding saysShare
+  not-share h = rw (← p, lt-ltb 65535 x h)
+
+  pub share-is : x ≤ 65535 → (y : Wide) (b : Bool) → y ≡ reserveIn w → b ≡ isNumber y → b ≡ saysShare w
+  unfolding saysShare
+  share-is h y b q f = rw (← p, le-ltb 65535 x h, ← q) f
 
 -- ─── Hexadecimal digits ───
 

@@ -112,7 +112,7 @@ struct Day {
 fn day(messages: u32, tid: u32, content: &[u8], next: u64) -> Day {
     let mut model = Serving::default();
     let mut log = vec![0; messages as usize * (16 + content.len())];
-    model.open(DAY, &[1, 2, 3]).expect("a day");
+    model.open(DAY, &[1, 2, 3], &[0; 3], log.len()).expect("a day");
     for _ in 0..messages {
         model.publish(2, tid, content, &mut log).expect("room");
     }

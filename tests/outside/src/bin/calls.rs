@@ -35,6 +35,11 @@ fn main() {
     );
     println!("messages sent packet by packet, and what broke the others off: {:?}", lists.transmissions);
     println!("single packets of the message wanted next, in honest lists: {:?}", lists.singles);
+    let accounts = &lists.accounts;
+    println!(
+        "entries within their series' reserve: {}, {} of them with no other room left; refused though the log had the bytes: {}",
+        accounts.within, accounts.squeezed, accounts.kept_out
+    );
     for ((call, name, row), n) in &lists.answers {
         match row {
             0 => println!("  {call}: {name} {n}"),

@@ -129,7 +129,9 @@ fn main() {
         for megabytes in [1, 10, 60] {
             let (log, number) = log_of(megabytes * 1_000_000, &c);
             let mut end = Sender { used: log.len(), count: 1, date: 7, dated: 1, ..Sender::default() };
-            end.series[0] = Served { next: number.into(), piece: 0, published: number, series: 1, login: 1 };
+            let used = log.len();
+            end.series[0] =
+                Served { next: number.into(), piece: 0, reserve: 0, used, published: number, series: 1, login: 1 };
             let (mut ours, mut theirs) = (vec![0u8; 40_000], vec![0u8; 40_000]);
             let (mut library, mut rust) = (f64::MAX, f64::MAX);
             for _ in 0..passes {

@@ -128,9 +128,8 @@ impl Lists {
                 let given = &bytes[taken..to];
                 let answer = self.world.publish_several(given, log)?;
                 self.note_several("Publish several", answer.answer, answer.refusal);
-                if self.kind == Kind::Honest {
-                    self.published(&given[..answer.taken], answer.answer == SEVERAL_REFUSED);
-                }
+                let refusal = if answer.answer == SEVERAL_REFUSED { answer.refusal } else { 0 };
+                self.published(&given[..answer.taken], refusal)?;
                 taken += answer.taken;
                 if through(answer.answer) {
                     break;
@@ -140,14 +139,20 @@ impl Lists {
         Ok(())
     }
 
-    /// All records that were taken are in, but for the last one where it is refused.
-    fn published(&mut self, mut taken: &[u8], refused: bool) {
+    /// All records that were taken are in, but for the last one where there is a refusal.
+    fn published(&mut self, mut taken: &[u8], refusal: u8) -> Result<(), String> {
         while !taken.is_empty() {
             let (one, rest) = taken.split_at(record_length(taken));
-            if !(rest.is_empty() && refused) {
-                self.history.published(u16_at(one, 0), u32_at(one, 2), &one[RECORD_HEADER..]);
+            let (series, content) = (u16_at(one, 0), &one[RECORD_HEADER..]);
+            let answer = if rest.is_empty() && refusal != 0 { Err(refusal) } else { Ok(()) };
+            if answer.is_ok() && self.kind == Kind::Honest {
+                self.history.published(series, u32_at(one, 2), content);
+            }
+            if self.kind != Kind::Wild {
+                self.accounts.published(series, content.len(), &answer)?;
             }
             taken = rest;
         }
+        Ok(())
     }
 }

@@ -70,7 +70,9 @@ pub fn faulty_line(s: &mut Script, first: u32) {
         s.open_end(&SERIES, "opened");
     }
     for (mark, series, longs) in DAYS {
-        s.open(first + mark, series, "opened");
+        // Every second series has a reserve, of which it needs more or less.
+        let given: Vec<_> = series.iter().enumerate().map(|(i, &one)| (one, (i % 2 == 1).then_some(500))).collect();
+        s.open_shares(first + mark, &given, "opened");
         line.unfinished.clear();
         let mut longs = longs.to_vec();
         for step in 0..220 {

@@ -55,7 +55,11 @@ fn orders(s: &mut Script) {
     s.publish(4, STRANGE, &three(0), "published 1");
     s.send_packet(9, ROOM, "none");
     s.send_packet(4, ROOM, "refused 14");
-    places(s, "serving 1000000002 4104\nseries 9 published 0 next 1 piece 0\nseries 4 published 1 next out piece 0");
+    places(
+        s,
+        "serving 1000000002 4104\nseries 9 published 0 used 0 reserve 0 next 1 piece 0\n\
+         series 4 published 1 used 4104 reserve 0 next out piece 0",
+    );
 }
 
 /// The packets of an undisturbed message are those that the whole Send writes.
@@ -63,7 +67,8 @@ fn undisturbed(s: &mut Script) {
     s.publish(9, STRANGE, &three(1), "published 1");
     let line = |next: u64, piece: u64| {
         format!(
-            "serving 1000000002 8210\nseries 9 published 1 next {next} piece {piece}\nseries 4 published 1 next out piece 0"
+            "serving 1000000002 8210\nseries 9 published 1 used 4106 reserve 0 next {next} piece {piece}\n\
+             series 4 published 1 used 4104 reserve 0 next out piece 0"
         )
     };
     let mut packets = s.send_packet(9, ROOM, "packet 37 more");
@@ -119,7 +124,7 @@ fn rooms(s: &mut Script) {
     s.send_packet(9, 4104, "refused 18");
     s.send(9, 4105, "refused 18");
     s.send_packet(9, 4105, "packet 4105 more");
-    places(s, "serving 1000000004 4122\nseries 9 published 2 next 1 piece 2");
+    places(s, "serving 1000000004 4122\nseries 9 published 2 used 4122 reserve 0 next 1 piece 2");
     s.send_packet(9, 37, "refused 18");
     s.send_packet(9, 0, "refused 18");
     s.send_packet(9, 38, "packet 38 last");
@@ -141,7 +146,11 @@ fn logins(s: &mut Script) {
     s.send_packet(9, ROOM, "packet 38 more");
     // That very number: from its first packet on.
     log_in(s, 9, 2);
-    places(s, "serving 1000000005 12340\nseries 4 published 1 next out piece 0\nseries 9 published 3 next 2 piece 0");
+    places(
+        s,
+        "serving 1000000005 12340\nseries 4 published 1 used 16 reserve 0 next out piece 0\n\
+         series 9 published 3 used 12324 reserve 0 next 2 piece 0",
+    );
     let first = s.send_packet(9, ROOM, "packet 38 more");
     let second = s.send_packet(9, ROOM, "packet 4105 more");
     // An earlier one, a later one.
@@ -168,7 +177,11 @@ fn logins(s: &mut Script) {
     s.login(9, ROOM, &asking(None, Some((4, 1))), &answer, "refused 13");
     s.login(9, ROOM, &[], &answer, "refused 12");
     log_in(s, 4, 1);
-    places(s, "serving 1000000005 16452\nseries 4 published 1 next 1 piece 0\nseries 9 published 4 next 2 piece 1");
+    places(
+        s,
+        "serving 1000000005 16452\nseries 4 published 1 used 16 reserve 0 next 1 piece 0\n\
+         series 9 published 4 used 16436 reserve 0 next 2 piece 1",
+    );
     assert_eq!(s.send_packet(9, ROOM, "packet 4105 more"), second);
     log_in(s, 4, 2);
     s.send_packet(9, ROOM, "packet 39 last");
@@ -179,7 +192,11 @@ fn logins(s: &mut Script) {
 fn openings(s: &mut Script) {
     s.open(FIRST + 4, &[9, 4], "opened");
     s.send_packet(9, ROOM, "refused 14");
-    places(s, "serving 1000000006 0\nseries 9 published 0 next out piece 0\nseries 4 published 0 next out piece 0");
+    places(
+        s,
+        "serving 1000000006 0\nseries 9 published 0 used 0 reserve 0 next out piece 0\n\
+         series 4 published 0 used 0 reserve 0 next out piece 0",
+    );
     s.publish(9, STRANGE, &three(5), "published 1");
     s.publish(4, STRANGE, &three(6), "published 1");
     s.send_packet(9, ROOM, "refused 14");
@@ -191,7 +208,11 @@ fn openings(s: &mut Script) {
     s.open(FIRST + 5, &[9, 9], "refused 11");
     s.send_packet(9, ROOM, "packet 4105 more");
     s.open(FIRST + 5, &[4, 9], "opened");
-    places(s, "serving 1000000007 0\nseries 4 published 0 next out piece 0\nseries 9 published 0 next out piece 0");
+    places(
+        s,
+        "serving 1000000007 0\nseries 4 published 0 used 0 reserve 0 next out piece 0\n\
+         series 9 published 0 used 0 reserve 0 next out piece 0",
+    );
     s.publish(9, STRANGE, &three(7), "published 1");
     log_in(s, 9, 1);
     s.send_packet(9, ROOM, "packet 43 more");
@@ -208,9 +229,17 @@ fn whole_sends(s: &mut Script) {
     s.send_packet(9, ROOM, "packet 4105 more");
     // Of another series: the message goes on.
     s.send(4, ROOM, "sent 4180");
-    places(s, "serving 1000000007 16466\nseries 4 published 1 next 2 piece 0\nseries 9 published 3 next 1 piece 2");
+    places(
+        s,
+        "serving 1000000007 16466\nseries 4 published 1 used 4106 reserve 0 next 2 piece 0\n\
+         series 9 published 3 used 12360 reserve 0 next 1 piece 2",
+    );
     s.send(9, 4192, "sent 4192");
-    places(s, "serving 1000000007 16466\nseries 4 published 1 next 2 piece 0\nseries 9 published 3 next 2 piece 0");
+    places(
+        s,
+        "serving 1000000007 16466\nseries 4 published 1 used 4106 reserve 0 next 2 piece 0\n\
+         series 9 published 3 used 12360 reserve 0 next 2 piece 0",
+    );
     s.send_packet(9, ROOM, "packet 44 more");
     s.send(9, ROOM, "sent 4194");
     s.send_packet(9, ROOM, "packet 45 more");
@@ -238,7 +267,11 @@ fn publications(s: &mut Script) {
     s.publish(9, STRANGE, &vec![plain(4074); 8].concat(), "refused 18");
     let record = [&[0, 9, 0, 0, 0x77, 0x77, 0, 0, 0, 6][..], &plain(0)].concat();
     s.publish_all(&[&record[..], &record].concat(), &["published 3", "published 4", "taken 32 end"]);
-    places(s, "serving 1000000008 12393\nseries 9 published 4 next 1 piece 2\nseries 4 published 2 next out piece 0");
+    places(
+        s,
+        "serving 1000000008 12393\nseries 9 published 4 used 8262 reserve 0 next 1 piece 2\n\
+         series 4 published 2 used 4131 reserve 0 next out piece 0",
+    );
     packets.extend(s.send_packet(9, ROOM, "packet 40 last"));
     assert_eq!(packets, whole, "the same bytes");
     s.send_packet(9, ROOM, "packet 38 more");
@@ -266,8 +299,9 @@ fn two_series(s: &mut Script) {
     s.send_packet(5, ROOM, "refused 13");
     places(
         s,
-        "serving 1000000009 12378\nseries 4 published 1 next 1 piece 2\nseries 9 published 1 next 1 piece 2\n\
-         series 2 published 1 next out piece 0",
+        "serving 1000000009 12378\nseries 4 published 1 used 4126 reserve 0 next 1 piece 2\n\
+         series 9 published 1 used 4106 reserve 0 next 1 piece 2\n\
+         series 2 published 1 used 4146 reserve 0 next out piece 0",
     );
     nine.extend(s.send_packet(9, ROOM, "packet 38 last"));
     s.send_packet(9, ROOM, "none");

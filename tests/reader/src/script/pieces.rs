@@ -78,7 +78,7 @@ fn sent_places(s: &mut Script) -> Vec<Vec<u8>> {
 
 /// Packets lost: the first piece behind the gap is 17, and those behind it, until the first one comes again.
 fn lost(s: &mut Script, packets: &[Vec<u8>]) {
-    let serving = "serving 1000000020 8225\nseries 9 published 2 next 2 piece 0";
+    let serving = "serving 1000000020 8225\nseries 9 published 2 used 8225 reserve 0 next 2 piece 0";
     // All in the middle: before this request the message would have been handed on without them.
     s.receive(&packets[0], "held 0");
     states(s, serving, "1000000020 last 0 in chain 7 1");
@@ -217,7 +217,11 @@ fn untagged(s: &mut Script) {
     s.receive(&bare(b'F', &[]), "held 2");
     s.receive(&part(b'C', 1), "held 2");
     s.receive(&bare(b'C', &[0x77, 0]), "held 2");
-    states(s, "serving 1000000021 4119\nseries 9 published 1 next 2 piece 0", "1000000022 last 2 in chain 23 3");
+    states(
+        s,
+        "serving 1000000021 4119\nseries 9 published 1 used 4119 reserve 0 next 2 piece 0",
+        "1000000022 last 2 in chain 23 3",
+    );
     s.receive(&part(b'C', 2), "refused 17");
     s.receive(&part(b'F', 0), "held 2");
     s.receive(&bare(b'C', &[]), "held 2");

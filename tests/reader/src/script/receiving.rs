@@ -84,7 +84,7 @@ fn openings(s: &mut Script) {
     s.open_end(&[], "refused 11");
     s.ask(5, ROOM, &right(REQUEST), "refused 13");
     s.states(
-        "serving 20041234 39\nseries 1 published 2 next 3 piece 0\nreceiving 4\nseries 7 none last 0 out chain none\n\
+        "serving 20041234 39\nseries 1 published 2 used 39 reserve 0 next 3 piece 0\nreceiving 4\nseries 7 none last 0 out chain none\n\
          series 1 none last 0 out chain none\nseries 3 none last 0 out chain none\nseries 9 none last 0 out chain none",
     );
 }
@@ -155,7 +155,7 @@ fn answers(s: &mut Script) {
     s.answer(1, &answering(3), "answered 0");
     s.answer(1, &answering(TODAY), "answered 0");
     s.states(
-        "serving 20041234 39\nseries 1 published 2 next 3 piece 0\nreceiving 4\nseries 7 none last 0 out chain none\n\
+        "serving 20041234 39\nseries 1 published 2 used 39 reserve 0 next 3 piece 0\nreceiving 4\nseries 7 none last 0 out chain none\n\
          series 1 500 last 0 in chain none\nseries 3 none last 0 out chain none\nseries 9 7 last 1 in chain none",
     );
 }
@@ -396,7 +396,7 @@ fn kept_chains(s: &mut Script) {
     s.receive(&part(1, b'C', 5), "held 0");
     s.receive(&part(3, b'C', 6), "held 0");
     s.states(
-        "serving 20041234 39\nseries 1 published 2 next 3 piece 0\nreceiving 4\nseries 7 none last 0 out chain none\n\
+        "serving 20041234 39\nseries 1 published 2 used 39 reserve 0 next 3 piece 0\nreceiving 4\nseries 7 none last 0 out chain none\n\
          series 1 501 last 0 in chain 20 2\nseries 3 501 last 0 in chain 22 2\nseries 9 7 last 1 in chain none",
     );
     s.receive(&part(9, b'S', 1), "again 1");
@@ -444,7 +444,7 @@ fn connects(s: &mut Script) {
     s.receive(&Parts::piece(None, 1, 2, b'F', &[plain(3)]).bytes(), "held 1");
     s.connect();
     s.states(
-        "serving 20041234 39\nseries 1 published 2 next 3 piece 0\nreceiving 4\nseries 7 none last 0 out chain none\n\
+        "serving 20041234 39\nseries 1 published 2 used 39 reserve 0 next 3 piece 0\nreceiving 4\nseries 7 none last 0 out chain none\n\
          series 1 501 last 1 out chain none\nseries 3 501 last 3 out chain none\nseries 9 7 last 1 out chain none",
     );
     for series in [1, 3, 9, 7] {

@@ -69,7 +69,7 @@ fn chains(s: &mut Script) {
     let part = |number: u32, chain: u8, n: usize| piece(number, chain, &[plain(n)]);
     s.receive_all(&[part(4, b'F', 1), part(4, b'C', 2)].concat(), &["held 3", "held 3", "taken 67 end"]);
     s.states(
-        "serving 1000000000 32784\nseries 9 published 1 next 2 piece 0\nreceiving 4\nseries 7 none last 0 out chain none\n\
+        "serving 1000000000 32784\nseries 9 published 1 used 32784 reserve 0 next 2 piece 0\nreceiving 4\nseries 7 none last 0 out chain none\n\
          series 1 501 last 2 out chain none\nseries 3 600 last 3 in chain 15 2\nseries 9 7 last 1 out chain none",
     );
     received(

@@ -32,8 +32,8 @@ enum-told-3 c = search needs
 number-at-requires-3 : tie.Need-number-at-requires-3
 number-at-requires-3 c κs = search needs
 
-number-count-requires : tie.Need-number-count-requires
-number-count-requires c κs = search needs
+share-count-requires : tie.Need-share-count-requires
+share-count-requires c κs = search needs
 
 open-day-with-requires : tie.Need-open-day-with-requires
 open-day-with-requires c κs = search needs
@@ -89,8 +89,8 @@ send-with-requires c κs = search needs
 enum-told-7 : tie.Need-enum-told-7
 enum-told-7 c = search needs
 
-number-count-requires-2 : tie.Need-number-count-requires-2
-number-count-requires-2 c κs = search needs
+number-count-requires : tie.Need-number-count-requires
+number-count-requires c κs = search needs
 
 open-end-with-requires : tie.Need-open-end-with-requires
 open-end-with-requires c κs = search needs
@@ -164,8 +164,8 @@ enum-told-13 c = search needs
 number-at-requires-13 : tie.Need-number-at-requires-13
 number-at-requires-13 c κs = search needs
 
-number-count-requires-3 : tie.Need-number-count-requires-3
-number-count-requires-3 c κs = search needs
+number-count-requires-2 : tie.Need-number-count-requires-2
+number-count-requires-2 c κs = search needs
 
 calendar-with-requires : tie.Need-calendar-with-requires
 calendar-with-requires c κs = search needs
@@ -353,7 +353,7 @@ named-call-spec =
     buffers-with-requires
     enum-told-3
     number-at-requires-3
-    number-count-requires
+    share-count-requires
     open-day-with-requires
     enum-told-4
     has-form-requires-2
@@ -372,7 +372,7 @@ named-call-spec =
     number-at-requires-8
     send-with-requires
     enum-told-7
-    number-count-requires-2
+    number-count-requires
     open-end-with-requires
     enum-told-8
     has-form-requires-5
@@ -397,7 +397,7 @@ named-call-spec =
     plain-call-requires-3
     enum-told-13
     number-at-requires-13
-    number-count-requires-3
+    number-count-requires-2
     calendar-with-requires
     enum-told-14
     has-form-requires-11

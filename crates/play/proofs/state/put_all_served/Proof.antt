@@ -11,7 +11,7 @@ use Rattle.play.proofs.state.put_all_served.Statement.{statement}
 use Rattle.play.proofs.state.put_all_served.Tie as tie
 
 abbrev Inv-loop : tie.InvT-loop
-Inv-loop out₀ at day seat count to₀ i₀ out to i = (i ≤ count) × (to ≤ at + 136 * i) × (length out ≡ length out₀)
+Inv-loop out₀ at day seat count to₀ i₀ out to i = (i ≤ count) × (to ≤ at + 190 * i) × (length out ≡ length out₀)
     × WroteText out₀ at (linesUpTo (servedAt (day .series) (seat .places)) i) out to
 
 abbrev μ-loop : tie.MeasureT-loop

@@ -7,32 +7,17 @@ use Rattle.play.specs.State.{servedLine}
 use Rattle.play.proofs.state.put_served.Statement.{statement}
 use Rattle.play.proofs.state.put_served.Tie as tie
 
-slice-aggregate-put-numbered : tie.Need-slice-aggregate-put-numbered
-slice-aggregate-put-numbered c = search needs
+put-served-text-requires : tie.Need-put-served-text-requires
+put-served-text-requires c κs = search needs
 
-size16-requires : tie.Need-size16-requires
-size16-requires c κs = search needs
-
-put-numbered-requires : tie.Need-put-numbered-requires
-put-numbered-requires c κs = search needs
-
-put-byte-requires : tie.Need-put-byte-requires
-put-byte-requires c κs = search needs
-
-slice-aggregate-put-numbered-2 : tie.Need-slice-aggregate-put-numbered-2
-slice-aggregate-put-numbered-2 c = search needs
-
-size32-requires : tie.Need-size32-requires
-size32-requires c κs = search needs
-
-put-numbered-requires-2 : tie.Need-put-numbered-requires-2
-put-numbered-requires-2 c κs = search needs
+put-share-requires : tie.Need-put-share-requires
+put-share-requires c κs = search needs
 
 put-place-requires : tie.Need-put-place-requires
 put-place-requires c κs = search needs
 
-put-byte-requires-2 : tie.Need-put-byte-requires-2
-put-byte-requires-2 c κs = search needs
+put-byte-requires : tie.Need-put-byte-requires
+put-byte-requires c κs = search needs
 
 same-length : tie.Need-same-length
 same-length c = search needs
@@ -40,32 +25,21 @@ same-length c = search needs
 returns : tie.Need-returns
 unfolding servedLine wordLine
 returns c =
-    let s5 = c .before .before in
-    let s4 = s5 .before .before .before .before in
+    let s4 = c .before .before in
     let s3 = s4 .before .before .before .before in
-    let s2 = s3 .before .before .before .before .before .before in
+    let s2 = s3 .before .before .before .before in
     let s1 = s2 .before .before .before .before in
-    let p = s1 .before .before .before .before .before .pre in
-    let t2 = wrote-both (omega (arith, p)) (s1 .put-numbered .ensures .0) (s2 .put-byte .ensures) in
-    let t3 = wrote-both (omega (arith, p)) t2 (s3 .put-numbered2 .ensures .0) in
-    let t4 = wrote-both (omega (arith, p)) t3 (s4 .put-place .ensures .0) in (
-      rw (← (s1 .before .size16 .ensures .0), ← (s3 .before .size32 .ensures .0))
-          (wrote-both (omega (arith, p)) t4 (s5 .put-byte2 .ensures)),
-      search needs,
-    )
+    let t2 = wrote-both (omega arith) (s1 .put-served-text .ensures .0) (s2 .put-share .ensures .0) in
+    let t3 = wrote-both (omega arith) t2 (s3 .put-place .ensures .0) in
+    (wrote-both (omega arith) t3 (s4 .put-byte .ensures), search needs)
 
 pub put-served-spec : {M : Type 1} → statement M
 put-served-spec =
     tie.close
     (tie.spec
-    slice-aggregate-put-numbered
-    size16-requires
-    put-numbered-requires
-    put-byte-requires
-    slice-aggregate-put-numbered-2
-    size32-requires
-    put-numbered-requires-2
+    put-served-text-requires
+    put-share-requires
     put-place-requires
-    put-byte-requires-2
+    put-byte-requires
     same-length
     returns)

@@ -5,7 +5,7 @@ use Prim.Native.Nat.{_-_, _≤_}
 use mathlib.Core.Path.{_≡_, refl}
 use mathlib.Core.List.{_++_}
 use lib.ListN.{length, length-set, drop}
-use Rattle.play.specs.Words.{seriesFrom}
+use Rattle.play.specs.Words.{seriesAt, seriesFrom}
 use Rattle.play.proofs.words.Arguments.{list-first, list-turn, list-over}
 use Rattle.play.proofs.words.read_series.Statement.{statement}
 use Rattle.play.proofs.words.read_series.Tie as tie
@@ -19,11 +19,11 @@ abbrev μ-loop : tie.MeasureT-loop
 loop-holds : tie.Need-loop-holds Inv-loop μ-loop
 loop-holds c = (search needs, refl, search (needs, list-first))
 
-add-number-up-to : tie.Need-add-number-up-to Inv-loop μ-loop
-add-number-up-to c = search needs
+add-series-at : tie.Need-add-series-at Inv-loop μ-loop
+add-series-at c = search needs
 
-number-up-to-requires : tie.Need-number-up-to-requires Inv-loop μ-loop
-number-up-to-requires c κs = search needs
+series-at-requires : tie.Need-series-at-requires Inv-loop μ-loop
+series-at-requires c κs = search needs
 
 cast-list : tie.Need-cast-list Inv-loop μ-loop
 cast-list c = search needs
@@ -46,8 +46,8 @@ loop-again c =
     let l = c .before .before .loop in (
       search needs,
       search (needs, length-set),
-      list-turn 65535 (a .line .now) (a .list .now) (a .i) (l .list) (l .k) (l .inv .2) _ (l .inv .1) (omega arith)
-          (c .number-up-to .ensures .0),
+      list-turn (seriesAt (a .line .now)) (a .list .now) (a .i) (l .list) (l .k) (l .inv .2) _ (l .inv .1) (omega arith)
+          (c .series-at .ensures .0),
     )
 
 same-length : tie.Need-same-length Inv-loop μ-loop
@@ -63,8 +63,8 @@ read-series-spec =
     Inv-loop
     μ-loop
     loop-holds
-    add-number-up-to
-    number-up-to-requires
+    add-series-at
+    series-at-requires
     cast-list
     mul-list
     slice-write-list

@@ -5,7 +5,7 @@ use Prim.Native.Nat.{_-_, _≤_}
 use mathlib.Core.Path.{_≡_, refl}
 use mathlib.Core.List.{_++_}
 use lib.ListN.{length, length-set, drop}
-use Rattle.play.specs.Words.{wordsFrom}
+use Rattle.play.specs.Words.{numberUpTo, wordsFrom}
 use Rattle.play.proofs.words.Arguments.{list-first, list-turn, list-over}
 use Rattle.play.proofs.words.read_words.Statement.{statement}
 use Rattle.play.proofs.words.read_words.Tie as tie
@@ -46,7 +46,7 @@ loop-again c =
     let l = c .before .before .loop in (
       search needs,
       search (needs, length-set),
-      list-turn 4294967295 (a .line .now) (a .list .now) (a .i) (l .list) (l .k) (l .inv .2) _ (l .inv .1) (omega arith)
+      list-turn (numberUpTo 4294967295 (a .line .now)) (a .list .now) (a .i) (l .list) (l .k) (l .inv .2) _ (l .inv .1) (omega arith)
           (c .number-up-to .ensures .0),
     )
 

@@ -6,7 +6,7 @@ use mathlib.Core.List.{map}
 use borrow.Author.Needs.{needs}
 use native.Mathlib.Omega.{arith}
 use lib.ListN.{length, take}
-use Rattle.flow.specs.Ends.{member, newSeries, isServed, daySeries}
+use Rattle.flow.specs.Ends.{member, noSeries, isServed, daySeries}
 use Rattle.flow.proofs.series.Places.{place-here, place-turn, place-none, place-end}
 use Rattle.flow.proofs.ends.SenderLookups.{numberIn}
 use Rattle.flow.proofs.sender.Lookups.{eight}
@@ -40,7 +40,7 @@ returns-2 c =
     let start = c .before .before .before .before .before .before .before in
     let a = start .args in
     let h : length (a .self .day .series) ≡ 8 = eight (a .self) _ (start .good .0) .series in
-    let here = place-here numberIn (a .series) (a .self .day .series) (a .self .day .count) (l .i) (newSeries 0) in
+    let here = place-here numberIn (a .series) (a .self .day .series) (a .self .day .count) (l .i) noSeries in
     let both = here (search needs) (omega arith) (l .inv .1) (search needs) in
     (both .0, both .1, search needs)
 
@@ -56,7 +56,7 @@ loop-again c =
     let start = c .before .before .before .before .before .before .before in
     let a = start .args in
     let h : length (a .self .day .series) ≡ 8 = eight (a .self) _ (start .good .0) .series in
-    let turn = place-turn numberIn (a .series) (a .self .day .series) (l .i) (newSeries 0) (omega arith) (l .inv .1) in
+    let turn = place-turn numberIn (a .series) (a .self .day .series) (l .i) noSeries (omega arith) (l .inv .1) in
     (search needs, turn (search needs))
 
 returns-3 : tie.Need-returns-3 Inv-loop μ-loop

@@ -151,11 +151,11 @@ returns-2 c = search (needs, ready-buffers)
 same-length-3 : tie.Need-same-length-3
 same-length-3 c = search needs
 
-returns-3 : tie.Need-returns-3
-returns-3 c = search (needs, ready-day)
-
 same-length-4 : tie.Need-same-length-4
 same-length-4 c = search needs
+
+returns-3 : tie.Need-returns-3
+returns-3 c = search (needs, ready-day)
 
 same-length-5 : tie.Need-same-length-5
 same-length-5 c = search needs
@@ -163,11 +163,11 @@ same-length-5 c = search needs
 same-length-6 : tie.Need-same-length-6
 same-length-6 c = search needs
 
-returns-4 : tie.Need-returns-4
-returns-4 c = search (needs, ready-publish)
-
 same-length-7 : tie.Need-same-length-7
 same-length-7 c = search needs
+
+returns-4 : tie.Need-returns-4
+returns-4 c = search (needs, ready-publish)
 
 same-length-8 : tie.Need-same-length-8
 same-length-8 c = search needs
@@ -175,11 +175,11 @@ same-length-8 c = search needs
 same-length-9 : tie.Need-same-length-9
 same-length-9 c = search needs
 
-returns-5 : tie.Need-returns-5
-returns-5 c = search (needs, ready-login)
-
 same-length-10 : tie.Need-same-length-10
 same-length-10 c = search needs
+
+returns-5 : tie.Need-returns-5
+returns-5 c = search (needs, ready-login)
 
 same-length-11 : tie.Need-same-length-11
 same-length-11 c = search needs
@@ -187,23 +187,23 @@ same-length-11 c = search needs
 same-length-12 : tie.Need-same-length-12
 same-length-12 c = search needs
 
-returns-6 : tie.Need-returns-6
-returns-6 c = search (needs, ready-send)
-
 same-length-13 : tie.Need-same-length-13
 same-length-13 c = search needs
 
-returns-7 : tie.Need-returns-7
-returns-7 c = search (needs, ready-end)
+returns-6 : tie.Need-returns-6
+returns-6 c = search (needs, ready-send)
 
 same-length-14 : tie.Need-same-length-14
 same-length-14 c = search needs
 
-returns-8 : tie.Need-returns-8
-returns-8 c = search (needs, ready-connect)
+returns-7 : tie.Need-returns-7
+returns-7 c = search (needs, ready-end)
 
 same-length-15 : tie.Need-same-length-15
 same-length-15 c = search needs
+
+returns-8 : tie.Need-returns-8
+returns-8 c = search (needs, ready-connect)
 
 same-length-16 : tie.Need-same-length-16
 same-length-16 c = search needs
@@ -211,20 +211,20 @@ same-length-16 c = search needs
 same-length-17 : tie.Need-same-length-17
 same-length-17 c = search needs
 
-returns-9 : tie.Need-returns-9
-returns-9 c = search (needs, ready-ask)
-
 same-length-18 : tie.Need-same-length-18
 same-length-18 c = search needs
+
+returns-9 : tie.Need-returns-9
+returns-9 c = search (needs, ready-ask)
 
 same-length-19 : tie.Need-same-length-19
 same-length-19 c = search needs
 
-returns-10 : tie.Need-returns-10
-returns-10 c = search (needs, ready-answer)
-
 same-length-20 : tie.Need-same-length-20
 same-length-20 c = search needs
+
+returns-10 : tie.Need-returns-10
+returns-10 c = search (needs, ready-answer)
 
 same-length-21 : tie.Need-same-length-21
 same-length-21 c = search needs
@@ -232,65 +232,65 @@ same-length-21 c = search needs
 same-length-22 : tie.Need-same-length-22
 same-length-22 c = search needs
 
-returns-11 : tie.Need-returns-11
-returns-11 c = search (needs, ready-receive)
-
 same-length-23 : tie.Need-same-length-23
 same-length-23 c = search needs
 
-returns-12 : tie.Need-returns-12
-returns-12 c = search (needs, ready-state)
+returns-11 : tie.Need-returns-11
+returns-11 c = search (needs, ready-receive)
 
 same-length-24 : tie.Need-same-length-24
 same-length-24 c = search needs
 
-returns-13 : tie.Need-returns-13
-returns-13 c = search (needs, ready-calendar)
+returns-12 : tie.Need-returns-12
+returns-12 c = search (needs, ready-state)
 
 same-length-25 : tie.Need-same-length-25
 same-length-25 c = search needs
 
-returns-14 : tie.Need-returns-14
-returns-14 c = search (needs, ready-time)
+returns-13 : tie.Need-returns-13
+returns-13 c = search (needs, ready-calendar)
 
 same-length-26 : tie.Need-same-length-26
 same-length-26 c = search needs
 
-returns-15 : tie.Need-returns-15
-returns-15 c = search (needs, ready-date)
+returns-14 : tie.Need-returns-14
+returns-14 c = search (needs, ready-time)
 
 same-length-27 : tie.Need-same-length-27
 same-length-27 c = search needs
 
+returns-15 : tie.Need-returns-15
+returns-15 c = search (needs, ready-date)
+
 same-length-28 : tie.Need-same-length-28
 same-length-28 c = search needs
-
-returns-16 : tie.Need-returns-16
-returns-16 c = search (needs, ready-book)
 
 same-length-29 : tie.Need-same-length-29
 same-length-29 c = search needs
 
+returns-16 : tie.Need-returns-16
+returns-16 c = search (needs, ready-book)
+
 same-length-30 : tie.Need-same-length-30
 same-length-30 c = search needs
-
-returns-17 : tie.Need-returns-17
-returns-17 c = search (needs, ready-take)
 
 same-length-31 : tie.Need-same-length-31
 same-length-31 c = search needs
 
-returns-18 : tie.Need-returns-18
-returns-18 c = search (needs, ready-level)
+returns-17 : tie.Need-returns-17
+returns-17 c = search (needs, ready-take)
 
 same-length-32 : tie.Need-same-length-32
 same-length-32 c = search needs
 
-returns-19 : tie.Need-returns-19
-returns-19 c = search (needs, ready-mean)
+returns-18 : tie.Need-returns-18
+returns-18 c = search (needs, ready-level)
 
 same-length-33 : tie.Need-same-length-33
 same-length-33 c = search needs
+
+returns-19 : tie.Need-returns-19
+returns-19 c = search (needs, ready-mean)
 
 same-length-34 : tie.Need-same-length-34
 same-length-34 c = search needs
@@ -298,17 +298,20 @@ same-length-34 c = search needs
 same-length-35 : tie.Need-same-length-35
 same-length-35 c = search needs
 
-returns-20 : tie.Need-returns-20
-returns-20 c = search (needs, ready-receive-all)
-
 same-length-36 : tie.Need-same-length-36
 same-length-36 c = search needs
+
+returns-20 : tie.Need-returns-20
+returns-20 c = search (needs, ready-receive-all)
 
 same-length-37 : tie.Need-same-length-37
 same-length-37 c = search needs
 
 same-length-38 : tie.Need-same-length-38
 same-length-38 c = search needs
+
+same-length-39 : tie.Need-same-length-39
+same-length-39 c = search needs
 
 returns-21 : tie.Need-returns-21
 returns-21 c = search (needs, ready-publish-all)
@@ -364,57 +367,58 @@ play-ready-spec =
     same-length-2
     returns-2
     same-length-3
-    returns-3
     same-length-4
+    returns-3
     same-length-5
     same-length-6
-    returns-4
     same-length-7
+    returns-4
     same-length-8
     same-length-9
-    returns-5
     same-length-10
+    returns-5
     same-length-11
     same-length-12
-    returns-6
     same-length-13
-    returns-7
+    returns-6
     same-length-14
-    returns-8
+    returns-7
     same-length-15
+    returns-8
     same-length-16
     same-length-17
-    returns-9
     same-length-18
+    returns-9
     same-length-19
-    returns-10
     same-length-20
+    returns-10
     same-length-21
     same-length-22
-    returns-11
     same-length-23
-    returns-12
+    returns-11
     same-length-24
-    returns-13
+    returns-12
     same-length-25
-    returns-14
+    returns-13
     same-length-26
-    returns-15
+    returns-14
     same-length-27
+    returns-15
     same-length-28
-    returns-16
     same-length-29
+    returns-16
     same-length-30
-    returns-17
     same-length-31
-    returns-18
+    returns-17
     same-length-32
-    returns-19
+    returns-18
     same-length-33
+    returns-19
     same-length-34
     same-length-35
-    returns-20
     same-length-36
+    returns-20
     same-length-37
     same-length-38
+    same-length-39
     returns-21)
