@@ -9,7 +9,7 @@ use crate::world::World;
 use reader::cut::{write_placed, Header};
 use reader::generate::{known_field_bytes, packet_input, raw_field, Random, FORMS};
 use reader::items::known_field;
-use reader::packet::{read, said_length, Packet, FIELD_HEADER, PLACE};
+use reader::packet::{cut_apart, read, Packet, FIELD_HEADER, PLACE};
 use reader::receiving::Chain;
 use reader::serving::LOGIN;
 use reader::start::start_field_bytes;
@@ -198,15 +198,6 @@ fn late_place(r: &mut Random, count: usize) -> Option<usize> {
 
 fn late<T: Clone>(r: &mut Random, all: &[T]) -> Option<T> {
     late_place(r, all.len()).map(|i| all[i].clone())
-}
-
-fn cut_apart(mut bytes: &[u8]) -> Vec<Bytes> {
-    let mut packets = vec![];
-    while let Some(length) = said_length(bytes) {
-        packets.push(bytes[..length].into());
-        bytes = &bytes[length..];
-    }
-    packets
 }
 
 /// None mostly, else any.

@@ -127,6 +127,16 @@ pub fn said_length(bytes: &[u8]) -> Option<usize> {
     Some(4 + usize::from(head[1]) + usize::from(u16_at(head, 2)))
 }
 
+/// The packets that stand one behind the other, each as long as its first four bytes say.
+pub fn cut_apart<P: for<'a> From<&'a [u8]>>(mut bytes: &[u8]) -> Vec<P> {
+    let mut packets = vec![];
+    while let Some(length) = said_length(bytes) {
+        packets.push(bytes[..length].into());
+        bytes = &bytes[length..];
+    }
+    packets
+}
+
 /// The length that Table 2 gives the tag, or document 02 the place, if it is known.
 pub fn known_tag(kind: u8) -> Option<usize> {
     match kind {

@@ -6,7 +6,7 @@ use reader::few::Few;
 use reader::generate::{known_field_bytes, raw_field, Random};
 use reader::items::known_field;
 use reader::lister::list;
-use reader::packet::{fields, read, said_length, Packet};
+use reader::packet::{cut_apart, fields, read, Packet};
 use reader::plain::{plain_packet, NotWritten};
 use reader::receiving::{Chain, Kept, Received, Receiving, MOST_PIECES};
 use reader::serving::Serving;
@@ -113,15 +113,6 @@ fn serving(contents: &[Vec<u8>]) -> (Serving, Vec<u8>) {
     (end, log)
 }
 
-fn cut_apart(mut bytes: &[u8]) -> Vec<Vec<u8>> {
-    let mut packets = vec![];
-    while let Some(length) = said_length(bytes) {
-        packets.push(bytes[..length].to_vec());
-        bytes = &bytes[length..];
-    }
-    packets
-}
-
 /// The packets of the next message, one by one.
 fn one_by_one(end: &mut Serving, log: &[u8]) -> Vec<Vec<u8>> {
     let (mut packets, mut out) = (vec![], vec![]);
@@ -169,7 +160,7 @@ fn the_biggest_message() {
     let mut whole = vec![];
     assert_eq!(end.send(4, &log, 33_277, &mut whole), Err(18));
     assert_eq!(end.send(4, &log, 33_278, &mut whole), Ok(Some(1)));
-    let places: Vec<_> = cut_apart(&whole)
+    let places: Vec<_> = cut_apart::<Vec<u8>>(&whole)
         .iter()
         .map(|packet| match read(packet) {
             Packet::Message(message) => (message.mark, message.place),
@@ -256,7 +247,7 @@ fn two_transmissions() {
     }
     // The whole Send breaks it off.
     assert_eq!(serving.send(4, &log, 65_536, &mut out), Ok(Some(1)));
-    let anew = cut_apart(&out);
+    let anew = cut_apart::<Vec<u8>>(&out);
     assert_eq!((anew.len(), &anew[..2]), (3, &first[..]));
     let mut one = End::new(0);
     let message = format!("message 1 a{}c", "b".repeat(4074));

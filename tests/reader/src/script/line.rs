@@ -7,7 +7,7 @@ use super::parts::*;
 use super::receiving::SERIES;
 use super::{Script, ROOM};
 use crate::generate::Random;
-use crate::packet::{read, said_length, Packet};
+use crate::packet::{cut_apart, read, Packet};
 use std::collections::BTreeMap;
 
 /// What the line has seen: login packets, answers with the series of their login, messages sent as lists of packets, of
@@ -36,16 +36,6 @@ const DAYS: [(u32, &[u16], &[usize]); 5] = [
 /// A content that takes so many packets: fields of 0 and of 4,069 bytes in turn, of which no two fit into one.
 fn long(packets: usize) -> Vec<u8> {
     (0..packets).flat_map(|i| plain(if i % 2 == 0 { 0 } else { 4069 })).collect()
-}
-
-/// The packets of a message, which stand one behind the other.
-fn cut_apart(mut bytes: &[u8]) -> Vec<Vec<u8>> {
-    let mut packets = vec![];
-    while let Some(length) = said_length(bytes) {
-        packets.push(bytes[..length].to_vec());
-        bytes = &bytes[length..];
-    }
-    packets
 }
 
 /// The place of one of the last few, mostly; else of any.
