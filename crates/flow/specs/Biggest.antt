@@ -1,5 +1,5 @@
--- The biggest message there is (02, No. 5, with the tags of No. 10): what the packets of a message take at most, one message that takes as much,
--- and an output that is never too small for Send.
+-- The biggest message there is (02, No. 5, with the tags of No. 10): what the packets of a message take at most, one
+-- message that takes as much, and an output that is never too small for Send.
 use Prim.Native.Nat.{ℕ, _≤_, _<_}
 use mathlib.Core.Path.{_≡_}
 use mathlib.Core.List.{List, [], _∷_, _++_}

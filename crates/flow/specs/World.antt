@@ -1,6 +1,6 @@
--- Both ends with a line between them (01, the paragraph "The line hands over .."; 02, No. 4 and 10): what is there after a list of calls,
--- what the line was given, and what was published, handed on, reported and delivered. Numbers are not bounded here:
--- what the parameters of the calls can hold is a part of it.
+-- Both ends with a line between them (01, the paragraph "The line hands over .."; 02, No. 4 and 10): what is there
+-- after a list of calls, what the line was given, and what was published, handed on, reported and delivered. Numbers
+-- are not bounded here: what the parameters of the calls can hold is a part of it.
 use Prim.Native.Nat.{ℕ, zero, suc}
 use mathlib.Core.List.{List, [], _∷_, _++_, map}
 use mathlib.Core.Bool.{Bool, true, false, cond, _&&_}
