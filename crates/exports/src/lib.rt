@@ -1,15 +1,20 @@
 // The library for C and Rust: functions on numbers, byte slices, and the two ends, the trading calendar and the book of
 // a contract by value. Each calls `ftd`, `flow`, `calendar`, `book` or `fix` and gives its answer as numbers;
 // include/ftd.h says what they mean. Here: packets, fields and messages.
+ghost use mathlib.Core.Bool.{true};
 ghost use mathlib.Core.Path.{_≡_};
+ghost use Prim.Native.Nat.{_+_, _≤_};
+ghost use lib.ListN.{length};
 ghost use Rattle.ftd.specs.Bytes.{joined};
 ghost use Rattle.ftd.specs.Fields.{fieldWith};
-ghost use Rattle.ftd.specs.Packet.{datedOf, fieldOf, saidIn};
+ghost use Rattle.ftd.specs.Packet.{readOf, acceptedOf, verdictOf, partsOf, datedOf, fieldOf, saidIn};
+ghost use Rattle.ftd.specs.Packet.{isLetter, letterOf};
+ghost use Rattle.ftd.specs.Packet.Helpers.{SaysLengths};
 ghost use Rattle.ftd.specs.Content.{contentCheck};
 ghost use Rattle.ftd.specs.Write.{writtenAnswer, writtenOutput, packetBytes, plainVerdict, fieldVerdict};
 ghost use Rattle.ftd.specs.Chain.{packetsOf, sizeAnswer, chainVerdict};
 ghost use Rattle.exports.specs.Laws.{EndLaws};
-ghost use Rattle.exports.specs.Numbers.{plainNumbers, linkNumbers, skippedNumbers, messageNumbers, packetNumbers};
+ghost use Rattle.exports.specs.Numbers.{plainNumbers, linkNumbers, skippedNumbers, packetNumbers};
 ghost use Rattle.exports.specs.Numbers.{datedNumbers, fieldNumbers, stepOf, directionFor, verdictNumber};
 ghost use Rattle.exports.specs.Numbers.{spanNumbers, messageFor, sizeNumbers, writtenNumbers};
 use crate::tags::date;
@@ -19,7 +24,10 @@ use crate::tags::place;
 use crate::tags::placed;
 use crate::written::FtdWritten;
 use crate::written::written;
+use ftd::bytes::be16;
 use ftd::bytes::be32;
+use ftd::bytes::size8;
+use ftd::bytes::size16;
 use ftd::chain::ChainSize;
 use ftd::chain::Message;
 use ftd::chain::chain_size;
@@ -30,12 +38,11 @@ use ftd::fields::FieldPlace;
 use ftd::fields::field_size;
 use ftd::fields::write_field;
 use ftd::items::Checked;
-use ftd::packet::Header;
-use ftd::packet::Packet;
 use ftd::packet::Span;
+use ftd::packet::Verdict;
 use ftd::packet::find_field;
-use ftd::packet::letter;
-use ftd::packet::read_dated;
+use ftd::packet::judge;
+use ftd::packet::missing;
 use ftd::packet::said_length;
 use ftd::refusal::number;
 use ftd::tags::PacketPlace;
@@ -199,49 +206,61 @@ fn skipped(n: usize, kind: u8, e: Span, body: Span) -> FtdPacket
     }
 }
 
-// A message packet of n bytes.
-fn message(n: usize, h: Header, e: Span, content: Span, d: TradeDate, j: PacketPlace) -> FtdPacket
-    ensures { λ r. ⌜ r ≡ messageNumbers n h e content d j ⌝ }
+// A message packet with nothing wrong, from its bytes.
+fn message(p: &[u8], ext: usize, body: usize, d: TradeDate, j: PacketPlace) -> FtdPacket
+    requires { ⌜ SaysLengths (now p) ext body × (4 + ext + body ≤ length (now p)) × (16 ≤ body)
+        × (isLetter (letterOf (now p)) ≡ true) ⌝ }
+    ensures { λ r. ⌜ r ≡ packetNumbers (saidIn (now (p .entry))) (acceptedOf (now (p .entry))) d j ⌝ }
 {
-    let c = h.chain;
+    let at = 4 + ext;
     FtdPacket {
-        size: n,
+        size: said_length(p),
         missing: 0,
-        extension: span(e),
-        content: span(content),
-        tid: h.tid,
-        number: h.number,
+        extension: FtdSpan { start: 4, len: ext },
+        content: FtdSpan {
+            start: at + 16,
+            len: body - 16,
+        },
+        tid: be32(p, at + 1),
+        number: be32(p, at + 8),
         date: date(d),
-        series: h.series,
-        fields: h.fields,
+        series: be16(p, at + 6),
+        fields: be16(p, at + 12),
         place: place(j),
         answer: 3,
         refusal: 0,
         kind: 1,
-        chain: letter(c),
+        chain: p[at + 5],
         dated: dated(d),
         placed: placed(j),
     }
 }
 
-// What was read, as numbers, with as many bytes as the first four say.
-fn numbers(n: usize, found: Packet, d: TradeDate, j: PacketPlace) -> FtdPacket
-    ensures { λ r. ⌜ r ≡ packetNumbers n found d j ⌝ }
+// What the verdict says the bytes are, as numbers, which are taken from the bytes.
+fn numbers(p: &[u8], verdict: Verdict, d: TradeDate, j: PacketPlace) -> FtdPacket
+    requires { ⌜ verdict ≡ verdictOf (readOf (now p)) ⌝ }
+    ensures { λ r. ⌜ r ≡ packetNumbers (saidIn (now (p .entry))) (partsOf (now (p .entry)) verdict) d j ⌝ }
 {
-    match found {
-        Packet::Short(missing) => plain(0, missing, 0),
-        Packet::Link { kind, extension } => link(n, kind, extension, d, j),
-        Packet::Skipped {
-            kind,
-            extension,
-            body,
-        } => skipped(n, kind, extension, body),
-        Packet::Message {
-            header,
-            extension,
-            content,
-        } => message(n, header, extension, content, d, j),
-        Packet::Refused(r) => plain(4, 0, number(r)),
+    match verdict {
+        Verdict::TooFew => plain(0, missing(p), 0),
+        Verdict::LinkPacket => {
+            let e = Span {
+                start: 4,
+                len: size8(p[1]),
+            };
+            link(said_length(p), p[0], e, d, j)
+        }
+        Verdict::SkippedPacket => {
+            let ext = size8(p[1]);
+            let e = Span { start: 4, len: ext };
+            let body = Span {
+                start: 4 + ext,
+                len: size16(be16(p, 2)),
+            };
+            skipped(said_length(p), p[0], e, body)
+        }
+        Verdict::MessagePacket => message(p, size8(p[1]), size16(be16(p, 2)), d, j),
+        Verdict::Against(r) => plain(4, 0, number(r)),
     }
 }
 
@@ -250,11 +269,11 @@ fn numbers(n: usize, found: Packet, d: TradeDate, j: PacketPlace) -> FtdPacket
 pub extern "C" fn ftd_read(p: &[u8]) -> FtdPacket
     ensures { λ r. ⌜ r ≡ datedNumbers (saidIn (now (p .entry))) (datedOf (now (p .entry))) ⌝ }
 {
-    let d = read_dated(p);
-    let found = d.packet;
-    let date = d.date;
-    let place = d.place;
-    numbers(said_length(p), found, date, place)
+    let found = judge(p);
+    let verdict = found.verdict;
+    let date = found.date;
+    let place = found.place;
+    numbers(p, verdict, date, place)
 }
 
 // As many bytes as the first four say; 0 where they are not there.

@@ -1,5 +1,5 @@
 -- The laws of reading packets.
 pub mod Verdicts
-pub mod Dates
+pub mod Ways
 pub mod Laws
 pub mod One

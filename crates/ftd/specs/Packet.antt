@@ -24,6 +24,10 @@ use Rattle.ftd.specs.declared.tags.PacketPlace.the-variants.{NoPlace}
 use Rattle.ftd.specs.declared.packet.Dated.{Dated}
 use Rattle.ftd.specs.declared.packet.Packet.{Packet}
 use Rattle.ftd.specs.declared.packet.Packet.the-variants.{Short, Link, Skipped, Message, Refused}
+use Rattle.ftd.specs.declared.packet.Verdict.{Verdict}
+use Rattle.ftd.specs.declared.packet.Verdict.the-variants.{TooFew, LinkPacket, SkippedPacket}
+use Rattle.ftd.specs.declared.packet.Verdict.the-variants.{MessagePacket, Against}
+use Rattle.ftd.specs.declared.packet.Judged.{Judged}
 
 -- ─── Limits (4.1; 01, "Packet") ───
 
@@ -238,6 +242,30 @@ withTags packet d j =
 
 unfoldable pub datedOf : List ℕ → Dated
 datedOf p = withTags (readOf p) (tradeDateOf (extensionOf p)) (packetPlaceOf (extensionOf p))
+
+-- ─── The same without the parts ───
+
+-- What the bytes are, without values and places.
+abbrev pub verdictOf : Packet → Verdict
+verdictOf (Short n) = TooFew
+verdictOf (Link kind extension) = LinkPacket
+verdictOf (Skipped kind extension body) = SkippedPacket
+verdictOf (Message h extension content) = MessagePacket
+verdictOf (Refused r) = Against r
+
+unfoldable pub judgement : Dated → Judged
+judgement d = record { verdict = verdictOf (d .packet); date = d .date; place = d .place }
+
+unfoldable pub judgedOf : List ℕ → Judged
+judgedOf p = judgement (datedOf p)
+
+-- The parts again, by the verdict.
+abbrev pub partsOf : List ℕ → Verdict → Packet
+partsOf p TooFew = Short (missingOf p)
+partsOf p LinkPacket = Link (kindOf p) (extensionSpan p)
+partsOf p SkippedPacket = Skipped (kindOf p) (extensionSpan p) (span (bodyStart p) (bodyLength p))
+partsOf p MessagePacket = acceptedOf p
+partsOf p (Against r) = Refused r
 
 -- Bytes are missing.
 abbrev pub isShort : Packet → Bool

@@ -10,11 +10,9 @@ ghost use Rattle.ftd.specs.Tags.{tradeDateOf, packetPlaceOf};
 ghost use Rattle.ftd.specs.Packet.{saidIn, kindOf, extensionLength, bodyLength, notOnePacket, noMessagePacket};
 ghost use Rattle.ftd.specs.Packet.{wrongBody, isSkipped, isLetter, chainOf, chainLetter, headerOf, acceptedOf};
 ghost use Rattle.ftd.specs.Packet.{messageOf, wholeOf, readOf, extensionOf, withTags, datedOf};
+ghost use Rattle.ftd.specs.Packet.{verdictOf, judgement, judgedOf, partsOf};
 ghost use Rattle.ftd.specs.Packet.{missingOf, movedBy, fieldOf, fieldBytes};
-ghost use Rattle.ftd.specs.Packet.Helpers.{SaysLengths, FitsIn, untagged};
-ghost use Rattle.ftd.specs.declared.tags.TradeDate.the-variants.{None};
-ghost use Rattle.ftd.specs.declared.tags.PacketPlace.the-variants.{NoPlace};
-ghost use Rattle.ftd.specs.declared.packet.Packet.the-variants.{Short};
+ghost use Rattle.ftd.specs.Packet.Helpers.{SaysLengths, FitsIn, bare};
 use crate::bytes::be16;
 use crate::bytes::be32;
 use crate::bytes::size8;
@@ -82,6 +80,22 @@ pub enum Packet {
 // What the bytes are, and the trade date and the place in a message that it bears.
 pub struct Dated {
     pub packet: Packet,
+    pub date: TradeDate,
+    pub place: PacketPlace,
+}
+
+// What they are, without values and places.
+pub enum Verdict {
+    TooFew,
+    LinkPacket,
+    SkippedPacket,
+    MessagePacket,
+    Against(Refusal),
+}
+
+// A verdict, and the trade date and the place in a message that the bytes bear.
+pub struct Judged {
+    pub verdict: Verdict,
     pub date: TradeDate,
     pub place: PacketPlace,
 }
@@ -241,128 +255,156 @@ fn header_of(p: &[u8], ext: usize) -> Header
 }
 
 // What bears neither trade date nor place.
-fn untagged(packet: Packet) -> Dated
-    ensures { λ r. ⌜ r ≡ untagged packet ⌝ }
+fn bare(verdict: Verdict) -> Judged
+    ensures { λ r. ⌜ r ≡ bare verdict ⌝ }
 {
-    Dated {
-        packet: packet,
+    Judged {
+        verdict: verdict,
         date: TradeDate::None,
         place: PacketPlace::NoPlace,
     }
 }
 
-// A message packet with nothing wrong: its values and places, and what its extension bears.
-fn accept(p: &[u8], ext: usize, body: usize, date: TradeDate, place: PacketPlace) -> Dated
+// A message packet that is there whole: refusals 4 to 7, or nothing wrong, with what its extension bears.
+fn judge_message(p: &[u8], ext: usize, body: usize, date: TradeDate, place: PacketPlace) -> Judged
     requires { ⌜ SaysLengths (now p) ext body × (4 + ext + body ≤ length (now p)) × (16 ≤ body) ⌝ }
-    ensures { λ r. ⌜ r ≡ record { packet = acceptedOf (now (p .entry)); date = date; place = place } ⌝ }
-{
-    Dated {
-        packet: Packet::Message {
-            header: header_of(p, ext),
-            extension: Span { start: 4, len: ext },
-            content: Span {
-                start: 4 + ext + 16,
-                len: body - 16,
-            },
-        },
-        date: date,
-        place: place,
-    }
-}
-
-// A message packet that is there whole: refusals 4 to 7, or its values with what its extension bears.
-fn read_message(p: &[u8], ext: usize, body: usize, date: TradeDate, place: PacketPlace) -> Dated
-    requires { ⌜ SaysLengths (now p) ext body × (4 + ext + body ≤ length (now p)) × (16 ≤ body) ⌝ }
-    ensures { λ r. ⌜ r ≡ withTags (messageOf (now (p .entry))) date place ⌝ }
+    ensures { λ r. ⌜ r ≡ judgement (withTags (messageOf (now (p .entry))) date place) ⌝ }
 {
     let at = 4 + ext;
     if p[at] != 1 {
-        return untagged(Packet::Refused(Refusal::Version));
+        return bare(Verdict::Against(Refusal::Version));
     }
     if is_letter(p[at + 5]) {
         if size16(be16(p, at + 14)) + 16 != body {
-            return untagged(Packet::Refused(Refusal::ContentLength));
+            return bare(Verdict::Against(Refusal::ContentLength));
         }
         if exact_run(&p[at + 16..at + body], be16(p, at + 12)) {
-            return accept(p, ext, body, date, place);
+            return Judged {
+                verdict: Verdict::MessagePacket,
+                date: date,
+                place: place,
+            };
         }
-        return untagged(Packet::Refused(Refusal::FieldRun));
+        return bare(Verdict::Against(Refusal::FieldRun));
     }
-    untagged(Packet::Refused(Refusal::ChainLetter))
+    bare(Verdict::Against(Refusal::ChainLetter))
 }
 
 // A packet that is there whole: skipped, refused with 2, a link packet or a message packet.
-fn read_whole(p: &[u8], kind: u8, ext: usize, body: usize) -> Dated
+fn judge_whole(p: &[u8], kind: u8, ext: usize, body: usize) -> Judged
     requires { ⌜ SaysLengths (now p) ext body × (kind ≡ kindOf (now p)) × (4 + ext + body ≤ length (now p))
         × (wrongBody kind body ≡ false) ⌝ }
-    ensures { λ r. ⌜ r ≡ withTags (wholeOf (now (p .entry))) (tradeDateOf (extensionOf (now (p .entry))))
-        (packetPlaceOf (extensionOf (now (p .entry)))) ⌝ }
+    ensures { λ r. ⌜ r ≡ judgement (withTags (wholeOf (now (p .entry))) (tradeDateOf (extensionOf (now (p .entry))))
+        (packetPlaceOf (extensionOf (now (p .entry))))) ⌝ }
 {
-    let at = 4 + ext;
     if is_skipped(kind, body) {
-        return untagged(Packet::Skipped {
-            kind: kind,
-            extension: Span { start: 4, len: ext },
-            body: Span {
-                start: at,
-                len: body,
-            },
-        });
+        return bare(Verdict::SkippedPacket);
     }
-    match read_tags(&p[4..at]) {
-        TagRun::Broken => untagged(Packet::Refused(Refusal::BrokenTag)),
+    match read_tags(&p[4..4 + ext]) {
+        TagRun::Broken => bare(Verdict::Against(Refusal::BrokenTag)),
         TagRun::Good { date, place } => {
             if body == 0 {
-                return Dated {
-                    packet: Packet::Link {
-                        kind: kind,
-                        extension: Span { start: 4, len: ext },
-                    },
+                return Judged {
+                    verdict: Verdict::LinkPacket,
                     date: date,
                     place: place,
                 };
             }
-            read_message(p, ext, body, date, place)
+            judge_message(p, ext, body, date, place)
         }
     }
 }
 
-// Bytes are missing: here alone short is made, with its number.
-fn short(p: &[u8]) -> Dated
-    ensures { λ r. ⌜ r ≡ withTags (Short (missingOf (now (p .entry)))) None NoPlace ⌝ }
-{
-    untagged(Packet::Short(missing(p)))
-}
-
-// What the bytes from the front on are, with trade date and place of a link packet or a message packet: the tags are
-// walked once.
-pub fn read_dated(p: &[u8]) -> Dated
-    ensures { λ r. ⌜ r ≡ datedOf (now (p .entry)) ⌝ }
+// What the bytes from the front on are, with trade date and place of a link packet or a message packet: all that is
+// read goes by this one walk, and the tags are walked once. Its answer is small, so that little goes through memory.
+pub fn judge(p: &[u8]) -> Judged
+    ensures { λ r. ⌜ r ≡ judgedOf (now (p .entry)) ⌝ }
 {
     if p.len() < 4 {
-        return short(p);
+        return bare(Verdict::TooFew);
     }
     let kind = p[0];
     let ext = size8(p[1]);
     let body = size16(be16(p, 2));
     if MOST_EXTENSION < ext {
-        return untagged(Packet::Refused(Refusal::LongExtension));
+        return bare(Verdict::Against(Refusal::LongExtension));
     }
     if wrong_body(kind, body) {
-        return untagged(Packet::Refused(Refusal::BodyLength));
+        return bare(Verdict::Against(Refusal::BodyLength));
     }
     if p.len() < 4 + ext + body {
-        return short(p);
+        return bare(Verdict::TooFew);
     }
-    read_whole(p, kind, ext, body)
+    judge_whole(p, kind, ext, body)
+}
+
+// A message packet with nothing wrong: its values and places.
+fn accept(p: &[u8], ext: usize, body: usize) -> Packet
+    requires { ⌜ SaysLengths (now p) ext body × (4 + ext + body ≤ length (now p)) × (16 ≤ body) ⌝ }
+    ensures { λ r. ⌜ r ≡ acceptedOf (now (p .entry)) ⌝ }
+{
+    Packet::Message {
+        header: header_of(p, ext),
+        extension: Span { start: 4, len: ext },
+        content: Span {
+            start: 4 + ext + 16,
+            len: body - 16,
+        },
+    }
+}
+
+// The parts of what the verdict says the bytes are. Here alone short is made, with its number.
+fn parts(p: &[u8], verdict: Verdict) -> Packet
+    requires { ⌜ verdict ≡ verdictOf (readOf (now p)) ⌝ }
+    ensures { λ r. ⌜ r ≡ partsOf (now (p .entry)) verdict ⌝ }
+{
+    match verdict {
+        Verdict::TooFew => Packet::Short(missing(p)),
+        Verdict::LinkPacket => Packet::Link {
+            kind: p[0],
+            extension: Span {
+                start: 4,
+                len: size8(p[1]),
+            },
+        },
+        Verdict::SkippedPacket => {
+            let ext = size8(p[1]);
+            Packet::Skipped {
+                kind: p[0],
+                extension: Span { start: 4, len: ext },
+                body: Span {
+                    start: 4 + ext,
+                    len: size16(be16(p, 2)),
+                },
+            }
+        }
+        Verdict::MessagePacket => accept(p, size8(p[1]), size16(be16(p, 2))),
+        Verdict::Against(r) => Packet::Refused(r),
+    }
+}
+
+// What the bytes from the front on are, with trade date and place of a link packet or a message packet.
+pub fn read_dated(p: &[u8]) -> Dated
+    ensures { λ r. ⌜ r ≡ datedOf (now (p .entry)) ⌝ }
+{
+    let j = judge(p);
+    let verdict = j.verdict;
+    let date = j.date;
+    let place = j.place;
+    Dated {
+        packet: parts(p, verdict),
+        date: date,
+        place: place,
+    }
 }
 
 // What the bytes from the front on are. Bytes behind the packet are not looked at.
 pub fn read(p: &[u8]) -> Packet
     ensures { λ r. ⌜ r ≡ readOf (now (p .entry)) ⌝ }
 {
-    let d = read_dated(p);
-    d.packet
+    let j = judge(p);
+    let verdict = j.verdict;
+    parts(p, verdict)
 }
 
 // A place in a part that starts at `base`, as a place in the whole.
@@ -385,27 +427,18 @@ fn moved(base: usize, f: FieldPlace, room: usize) -> FieldPlace
 pub fn find_field(p: &[u8], i: usize) -> FieldPlace
     ensures { λ r. ⌜ (r ≡ fieldOf (now (p .entry)) i) × FieldInside (now (p .entry)) r ⌝ }
 {
-    match read(p) {
-        Packet::Message {
-            header: _,
-            extension: _,
-            content,
-        } => {
-            let at = content.start;
-            let n = content.len;
+    let j = judge(p);
+    let verdict = j.verdict;
+    match verdict {
+        Verdict::MessagePacket => {
+            let at = 4 + size8(p[1]) + 16;
+            let n = size16(be16(p, 2)) - 16;
             moved(at, field_place(&p[at..at + n], i), n)
         }
-        Packet::Short(_) => FieldPlace::NoField,
-        Packet::Link {
-            kind: _,
-            extension: _,
-        } => FieldPlace::NoField,
-        Packet::Skipped {
-            kind: _,
-            extension: _,
-            body: _,
-        } => FieldPlace::NoField,
-        Packet::Refused(_) => FieldPlace::NoField,
+        Verdict::TooFew => FieldPlace::NoField,
+        Verdict::LinkPacket => FieldPlace::NoField,
+        Verdict::SkippedPacket => FieldPlace::NoField,
+        Verdict::Against(_) => FieldPlace::NoField,
     }
 }
 

@@ -5,7 +5,7 @@ ghost use lib.ListN.{length, drop};
 ghost use Rattle.ftd.specs.Runs.{front};
 ghost use Rattle.ftd.specs.Tags.{tag, lengthRight, countKind, goodTags, tagRunOf, tagPlace, TagInside};
 ghost use Rattle.ftd.specs.Tags.{tradeDateOf, packetPlaceOf, keepAliveOf, tagsFor, placeTag, tagBytes, extensionBytes};
-ghost use Rattle.ftd.specs.Tags.Helpers.{rowAt, KnownRow, dataPlace, SeenTag};
+ghost use Rattle.ftd.specs.Tags.Helpers.{KnownRow, dataPlace, SeenTag};
 ghost use Rattle.ftd.specs.Bytes.{put};
 use crate::bytes::be16;
 use crate::bytes::be32;
@@ -14,9 +14,7 @@ use crate::bytes::put16;
 use crate::bytes::put32;
 use crate::bytes::size8;
 
-// The known tags: kinds, and the length of each one's data.
-const KIND: [u8; 8] = [0x00, 0x01, 0x02, 0x03, 0x04, 0x05, 0x06, 0x70];
-
+// The length of each known tag's data: kinds 0x00 to 0x06, and 0x70.
 const LENGTH: [u8; 8] = [0, 4, 1, 1, 0, 4, 2, 2];
 
 // Where the data of a tag lies in the extension.
@@ -61,23 +59,15 @@ pub fn tag_size(extension: &[u8], at: usize) -> usize
     n
 }
 
-// Where a kind stands in the table if it does: the first seven kinds are their rows.
-fn row_at(kind: u8) -> usize
-    ensures { λ r. ⌜ (r ≡ rowAt kind) × (r ≤ 7) ⌝ }
+// The row of a kind in the table: the first seven kinds are their rows, the last is 0x70; 8 where it has none.
+fn row_of(kind: u8) -> usize
+    ensures { λ r. ⌜ KnownRow kind r ⌝ }
 {
     if kind < 7 {
         return size8(kind);
     }
-    7
-}
-
-// The row of a kind in the table; 8 where it has none.
-fn row_of(kind: u8) -> usize
-    ensures { λ r. ⌜ KnownRow kind r ⌝ }
-{
-    let row = row_at(kind);
-    if KIND[row] == kind {
-        return row;
+    if kind == 0x70 {
+        return 7;
     }
     8
 }

@@ -21,7 +21,8 @@ use Rattle.ftd.specs.Packet.{headMissing, restMissing, longExtension, wr
 use Rattle.ftd.specs.Packet.{wrongVersion, isLetter, wrongLetter, wrongContentLength, wrongFields, chainOf, span}
 use Rattle.ftd.specs.Packet.{bodyStart, extensionSpan, contentSpan, headerOf, acceptedOf, messageOf, wholeOf}
 use Rattle.ftd.specs.Packet.{readOf, isShort, fieldsWithin, messageFields, movedBy, fieldWithin, fieldOf, partAt}
-use Rattle.ftd.specs.Packet.{fieldBytes, missingOf, notOnePacket}
+use Rattle.ftd.specs.Packet.{fieldBytes, missingOf, notOnePacket, withTags, datedOf, verdictOf, judgement}
+use Rattle.ftd.specs.Packet.{judgedOf, partsOf}
 use Rattle.ftd.specs.Packet.Helpers.{SaysLengths, FitsIn}
 use Rattle.ftd.specs.Packet.Laws.{IsMessage, IsLink, IsSkipped, IsCut, IsShort, Inside, InWidth, unnumbered}
 use Rattle.ftd.specs.Packet.Laws.{ShortLaws, ReadLaws}
@@ -32,6 +33,9 @@ use Rattle.ftd.specs.declared.packet.Header.{Header}
 use Rattle.ftd.specs.declared.packet.Span.{Span}
 use Rattle.ftd.specs.declared.packet.Packet.{Packet}
 use Rattle.ftd.specs.declared.packet.Packet.the-variants.{Short, Link, Skipped, Message, Refused}
+use Rattle.ftd.specs.declared.packet.Verdict.{Verdict}
+use Rattle.ftd.specs.declared.packet.Verdict.the-variants.{LinkPacket, SkippedPacket, MessagePacket}
+use Rattle.ftd.specs.declared.packet.Judged.{Judged}
 use Rattle.ftd.proofs.Lists.{byte-append, be16-append, be32-append, part-append, be16-width, be32-width}
 use Rattle.ftd.proofs.Lists.{part-part, drop-part, joined-part, joined-inside}
 use Rattle.ftd.proofs.runs.Laws.{run-whole}
@@ -338,6 +342,49 @@ module _ (p : List ℕ) where
   skipped-only kind x y e =
       let a = passed p kind x y e in
       rw (a .type, a .extent, a .body)
+
+-- ─── The parts, by the verdict ───
+
+-- The bytes say what the verdict leaves out.
+pub parts-read : (p : List ℕ) → partsOf p (verdictOf (readOf p)) ≡ readOf p
+unfolding acceptedOf
+parts-read p =
+    read-cases p (λ z. partsOf p (verdictOf z) ≡ z) (λ m. refl) (λ r. refl) (λ w s. refl) (λ w s g z. refl)
+    (λ w r. refl)
+
+module _ (p : List ℕ) (v : Verdict) (e : v ≡ verdictOf (readOf p)) where
+  pub read-as : (w : Verdict) → v ≡ w → readOf p ≡ partsOf p w
+  read-as w f = sym (parts-read p) ∙ ap (partsOf p) (sym e ∙ f)
+
+  pub link-told : v ≡ LinkPacket → IsLink p
+  link-told f = link p .0 (read-as LinkPacket f)
+
+  pub skipped-told : v ≡ SkippedPacket → IsSkipped p
+  skipped-told f = skipped p .0 (read-as SkippedPacket f)
+
+  pub message-told : v ≡ MessagePacket → IsMessage p
+  message-told f = message p .0 (read-as MessagePacket f)
+
+  pub content-told : v ≡ MessagePacket → (ext body : ℕ) → ext ≡ extensionLength p → body ≡ bodyLength p
+      → readOf p ≡ Message (headerOf p) (extensionSpan p) (span (4 + ext + 16) (body - 16))
+  unfolding acceptedOf
+  content-told f ext body a b = rw (a, b) (read-as MessagePacket f)
+
+-- The bytes of a message packet are there, and its header's sixteen.
+pub message-room : (p : List ℕ) (ext body : ℕ) → ext ≡ extensionLength p → body ≡ bodyLength p → IsMessage p
+    → SaysLengths p ext body × (4 + ext + body ≤ length p) × (16 ≤ body)
+unfolding saidLength
+message-room p ext body a b m = ((a, b), rw (a, b) (m .there), rw b (m .least))
+
+module _ (p : List ℕ) (y : Judged) (e : y ≡ judgedOf p) where
+  pub judged-verdict : y .verdict ≡ verdictOf (readOf p)
+  unfolding judgedOf judgement datedOf withTags
+  judged-verdict = ap (λ (j : Judged). j .verdict) e
+
+  pub judged-parts : (w : Packet) → w ≡ partsOf p (y .verdict)
+      → record { packet = w; date = y .date; place = y .place } ≡ datedOf p
+  unfolding judgedOf judgement datedOf withTags
+  judged-parts w f = rw (f, judged-verdict, parts-read p, e)
 
 -- ─── Bytes behind a packet are not looked at ───
 

@@ -13,7 +13,7 @@ use Rattle.ftd.specs.Fields.{exactRun}
 use Rattle.ftd.specs.Packet.{kindOf, bodyLength, extensionLength, extensionOf, versionOf, tidOf, letterOf}
 use Rattle.ftd.specs.Packet.{seriesOf, messageNumberOf, fieldCountOf, contentLengthOf, contentOf, wrongBody}
 use Rattle.ftd.specs.Packet.{isSkipped, restMissing, missingOf, saidLength, saidIn, isLetter, span, chainOf}
-use Rattle.ftd.specs.Packet.{headerOf, acceptedOf, messageOf, wholeOf, readOf, withTags}
+use Rattle.ftd.specs.Packet.{headerOf, acceptedOf, messageOf, wholeOf, readOf, withTags, judgement}
 use Rattle.ftd.specs.Packet.Helpers.{SaysLengths}
 use Rattle.ftd.specs.declared.refusal.Refusal.the-variants.{LongExtension, BrokenTag, BodyLength, Version}
 use Rattle.ftd.specs.declared.refusal.Refusal.the-variants.{ChainLetter, ContentLength, FieldRun}
@@ -21,7 +21,7 @@ use Rattle.ftd.specs.declared.tags.TradeDate.{TradeDate}
 use Rattle.ftd.specs.declared.tags.PacketPlace.{PacketPlace}
 use Rattle.ftd.specs.declared.packet.Chain.{Chain}
 use Rattle.ftd.specs.declared.packet.Header.{Header}
-use Rattle.ftd.specs.declared.packet.Dated.{Dated}
+use Rattle.ftd.specs.declared.packet.Verdict.the-variants.{MessagePacket}
 use Rattle.ftd.specs.declared.packet.Packet.{Packet}
 use Rattle.ftd.specs.declared.packet.Packet.the-variants.{Short, Link, Skipped, Message, Refused}
 
@@ -70,10 +70,10 @@ module _ (p : List ℕ) (ext body : ℕ) (said : SaysLengths p ext body) where
             rw (← (said .0), ← (said .1), eq-eqb _ _ v, ← l, right, ← q, ← r, eq-eqb _ _ e, ← same, w) g
 
         -- With what its extension bears.
-        pub message-tagged : whole ≡ true → (d : TradeDate) (j : PacketPlace) (y : Dated)
-            → y ≡ record { packet = acceptedOf p; date = d; place = j } → y ≡ withTags (messageOf p) d j
-        unfolding withTags acceptedOf
-        message-tagged w d j y u = u ∙ rw (← (message-good w (acceptedOf p) refl))
+        pub message-tagged : whole ≡ true → (d : TradeDate) (j : PacketPlace)
+            → record { verdict = MessagePacket; date = d; place = j } ≡ judgement (withTags (messageOf p) d j)
+        unfolding judgement withTags acceptedOf
+        message-tagged w d j = rw (← (message-good w (acceptedOf p) refl))
 
   module _ (kind : ℕ) (a : kind ≡ kindOf p) (skipped : Bool) (s : skipped ≡ isSkipped kind body) where
     pub whole-skipped : skipped ≡ true → Skipped kind (span 4 ext) (span (4 + ext) body) ≡ wholeOf p

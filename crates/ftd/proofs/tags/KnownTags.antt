@@ -1,16 +1,16 @@
 -- The table of known tags, one row at a time. Assumes nothing.
 use Prim.Native.Nat.{ℕ, zero, suc, _+_, _<_, _≤_}
-use mathlib.Core.Path.{_≡_, refl, _∙_}
+use mathlib.Core.Path.{_≡_, refl, sym}
 use mathlib.Core.List.{List, map}
-use mathlib.Core.Bool.{Bool, true, false, cond}
+use mathlib.Core.Bool.{true, cond}
 use native.Mathlib.Numerals.{add-one}
 use native.Mathlib.Omega.{arith}
-use borrow.Author.Tests.{eq-eqb, ne-eqb, ltb-true, ltb-false}
+use borrow.Author.Tests.{eq-eqb, ne-eqb}
 use lib.ListN.{length, getD, drop, drop-of-length-le, List·getD-map}
 use lib.Seq.{drop-cons}
-use lib.Dec.{ltb, eqb}
+use lib.Dec.{eqb}
 use Rattle.ftd.specs.Tags.{KnownTag, knownTag, knownTags, rightIn, lengthRight}
-use Rattle.ftd.specs.Tags.Helpers.{rowAt, KnownRow}
+use Rattle.ftd.specs.Tags.Helpers.{KnownRow}
 
 -- The table in columns, as the code has it.
 unfoldable pub kinds : List ℕ
@@ -72,34 +72,22 @@ passed kind (suc n) h k len =
     (row-turn kind n (passed kind n (omega arith) (omega arith)) (omega arith)
     (λ e. let f = kind-first n (omega arith) in omega arith) len)
 
-row-low : (kind : ℕ) → (rowAt kind ≤ 7) × (rowAt kind ≤ kind)
-unfolding rowAt
-row-low kind = go (ltb kind 7) refl
-  where
-    go : (b : Bool) → ltb kind 7 ≡ b → (cond b kind 7 ≤ 7) × (cond b kind 7 ≤ kind)
-    go true e = let h = ltb-true kind 7 e in (omega arith, omega arith)
-    go false e = let h = ltb-false kind 7 e in (omega arith, omega arith)
+pub row-first : (kind r : ℕ) → r ≡ kind → kind < 7 → KnownRow kind r
+row-first kind r e h =
+    rw e (row-here kind kind (passed kind kind (omega arith) (omega arith)) (omega arith) (kind-first kind h))
 
-module _ (kind r : ℕ) (e : r ≡ rowAt kind) where
-  pub row-is : getD kinds r 0 ≡ kind → KnownRow kind r
-  row-is k =
-      let low = row-low kind in
-      row-here kind r (passed kind r (omega arith) (omega arith)) (omega arith) k
+module _ (kind : ℕ) (h : 7 ≤ kind) where
+  from-last : (len : ℕ) → rightIn (drop 7 knownTags) kind len ≡ lengthRight kind len
+  from-last = passed kind 7 (omega arith) h
 
-  pub row-none : (getD kinds r 0 ≡ kind → ⊥) → KnownRow kind 8
-  unfolding rowAt
-  row-none k = go (ltb kind 7) refl
-    where
-      go : (b : Bool) → ltb kind 7 ≡ b → KnownRow kind 8
-      go true q =
-          let h = ltb-true kind 7 q in
-          let s : r ≡ kind = e ∙ rw q in
-          absurd (k (rw s (kind-first kind h)))
-      go false q =
-          let h = ltb-false kind 7 q in
-          let s : r ≡ 7 = e ∙ rw q in
-          row-end kind 8 (row-turn kind 7 (passed kind 7 (omega arith) h) (omega arith) (rw s at k)) (omega arith)
-          (omega arith)
+  pub row-last : kind ≡ 0x70 → KnownRow kind 7
+  unfolding kinds knownTags
+  row-last e = row-here kind 7 from-last (omega arith) (sym e)
+
+  pub row-none : (kind ≡ 0x70 → ⊥) → KnownRow kind 8
+  unfolding kinds knownTags
+  row-none k =
+      row-end kind 8 (row-turn kind 7 from-last (omega arith) (λ e. k (sym e))) (omega arith) (omega arith)
 
 -- What the row says of a length.
 module _ (kind len r : ℕ) (k : KnownRow kind r) where

@@ -513,7 +513,7 @@ module _ (p : List ℕ) (bytes : Bytes p) (four : 4 ≤ length p) where
         ∙ sym (take-add (4 + extensionLength p) (bodyLength p) p))
 
 -- The header of a message, from the sixteen bytes where it stands.
-letter-again : (x : ℕ) → isLetter x ≡ true → chainLetter (chainOf x) ≡ x
+pub letter-again : (x : ℕ) → isLetter x ≡ true → chainLetter (chainOf x) ≡ x
 unfolding isLetter chainOf
 letter-again x = go (eqb x 83) refl (eqb x 70) refl (eqb x 67) refl (eqb x 76) refl
   where

@@ -7,8 +7,8 @@ use Rattle.ftd.specs.declared.fields.FieldPlace.{FieldPlace}
 use Rattle.ftd.specs.declared.fields.FieldPlace.the-variants.{NoField, Field}
 use Rattle.ftd.specs.declared.tags.TradeDate.the-variants.{None}
 use Rattle.ftd.specs.declared.tags.PacketPlace.the-variants.{NoPlace}
-use Rattle.ftd.specs.declared.packet.Packet.{Packet}
-use Rattle.ftd.specs.declared.packet.Dated.{Dated}
+use Rattle.ftd.specs.declared.packet.Verdict.{Verdict}
+use Rattle.ftd.specs.declared.packet.Judged.{Judged}
 
 -- The lengths of extension and body are those that the four say.
 abbrev pub SaysLengths : List ℕ → ℕ → ℕ → Type 0
@@ -19,5 +19,5 @@ FitsIn room NoField = Unit
 FitsIn room (Field fid start len) = start + len ≤ room
 
 -- What bears neither trade date nor place.
-abbrev pub untagged : Packet → Dated
-untagged packet = record { packet = packet; date = None; place = NoPlace }
+abbrev pub bare : Verdict → Judged
+bare verdict = record { verdict = verdict; date = None; place = NoPlace }

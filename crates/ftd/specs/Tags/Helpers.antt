@@ -4,13 +4,9 @@ use mathlib.Core.List.{List, map}
 use mathlib.Core.Path.{_≡_}
 use mathlib.Core.Bool.{cond}
 use lib.ListN.{length, getD, drop}
-use lib.Dec.{ltb, eqb}
+use lib.Dec.{eqb}
 use Rattle.ftd.specs.Tags.{KnownTag, knownTags, rightIn, lengthRight, tagPlace}
 use Rattle.ftd.specs.declared.tags.TagPlace.the-variants.{NoTag, Data}
-
--- Where a kind stands in the list if it does: the first seven kinds are their rows.
-unfoldable pub rowAt : ℕ → ℕ
-rowAt kind = cond (ltb kind 7) kind 7
 
 -- The first row of a kind: its place in the list, or 8 where the list does not have it. From there on the list says the
 -- same.
