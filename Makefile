@@ -6,7 +6,7 @@
 
 LIB = target/lib/libftd.a
 # The crates that the library is made of.
-CRATES = ftd flow calendar book fix exports
+CRATES = ftd flow relay calendar book fix exports
 CFLAGS = -std=c99 -O2 -Wall -Wextra -pedantic
 
 .PHONY: lib example check-c

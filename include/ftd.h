@@ -1,5 +1,5 @@
-/* The FTD flow repeater (JR/T 0016-2004) for C and C++: packets, data fields and items, the two ends of a flow, the
- * trading calendar, and the book of a contract; and for the frames of JR/T 0087-2012, after FIX 4.2.
+/* The FTD flow repeater (JR/T 0016-2004) for C and C++: packets, data fields and items, the two ends of a flow, the box
+ * that joins them, the trading calendar, the book of a contract; and the frames of JR/T 0087-2012, after FIX 4.2.
  *
  * The library is libftd.a, for x86-64 Linux; README.md has the lines that build and link it. Of other libraries it
  * needs memcpy, memmove and memset alone. It keeps no state, takes no memory from the heap and at most 5500 bytes of
@@ -46,17 +46,36 @@
  * which number is wanted next, and the serving end goes on there; a message of which only some packets came is sent
  * anew. The serving end doesn't know of lines: send nothing on a new one before ftd_login was called for the series.
  *
+ * THE BOX
+ * The box joins a receiving end to a serving side with 16 seats. What it takes from above it publishes below, under the
+ * same number, and a login answer from above that has a new trade date opens that day below: so it has no call to
+ * publish and none to open a day. Towards above its calls are those of the receiving end, towards each seat those of
+ * the serving end; at a seat's line stands a receiving end, as above.
+ *
+ *     exchange               box                                                            seat's end
+ *     ftd_login   <---   ftd_box_request_login
+ *                 --->   ftd_box_confirm_login  (a new day: all seats have to log in anew)
+ *     ftd_send    --->   ftd_box_receive        ftd_box_login   <---   ftd_request_login
+ *                                                               --->   ftd_confirm_login
+ *                                               ftd_box_send    --->   ftd_receive
+ *
+ * The seats share the day and the log; each has a place of its own in each series. A seat's calls change its own place
+ * and nothing else: no answer and no byte of another seat depends on them, nor of the line from above. Each seat has a
+ * line of its own: what ftd_box_login and ftd_box_send write for a seat goes to its end alone, and login packets of
+ * that end alone to ftd_box_login for the seat.
+ *
  * RULES OF ALL CALLS
  * Bytes are lent as a pointer and a count. A call reads and writes only within what it is lent, and keeps no pointer.
  * Where the count is 0 the pointer may be null. What a call writes to (output, log, buffer) must not overlap what it
  * reads.
- * A state (struct ftd_sender, struct ftd_receiver, struct ftd_calendar, struct ftd_book) is given and answered by
- * value: the caller keeps `end`, `calendar` or `book` of the answer from then on, also of a refusal. It is plain data
- * with no pointer; it may be copied, compared member by member and laid away. Any values of its members are a state.
+ * A state (struct ftd_sender, struct ftd_receiver, struct ftd_box, struct ftd_calendar, struct ftd_book) is given and
+ * answered by value: the caller keeps `end`, `box`, `calendar` or `book` of the answer from then on, also of a refusal.
+ * It is plain data with no pointer; it may be copied, compared member by member and laid away. Any values of its
+ * members are a state. The places of a box's seats are numbers that are lent, and any numbers are places.
  * `refusal` is 0, or a number of enum ftd_refusal: then the call did nothing, state and buffers are as they were (one
- * exception is said at ftd_receive; of a bufferful it is said of the refused packet or record alone). Where more than
- * one refusal applies, the answer is the one that stands first in the call's list below. What an answer doesn't have is
- * 0: of a refusal all but `refusal`, `answer`, `taken`, `expected` and the state.
+ * exception is said at ftd_receive and ftd_box_receive; of a bufferful it is said of the refused packet or record
+ * alone). Where more than one refusal applies, the answer is the one that stands first in the call's list below. What
+ * an answer doesn't have is 0: of a refusal all but `refusal`, `answer`, `taken`, `expected` and the state.
  */
 #ifndef FTD_H
 #define FTD_H
@@ -84,12 +103,13 @@ enum ftd_refusal {
                                 another TID than 0x0016, not one packet (S), a start field too many */
     FTD_OPENING = 11,        /* not 1 to 8 differing series from 1 up, a trade date that isn't above the present one,
                                 not as many reserves as series, reserves together above the log's length; a receiving
-                                end that is open already */
+                                end or a box that is open already */
     FTD_NOT_ONE_PACKET = 12, /* not exactly the bytes of one packet; in a login also: no message packet */
     FTD_UNKNOWN_SERIES = 13, /* the series isn't open; ftd_login also: the start field is of another series */
     FTD_NOT_LOGGED_IN = 14,  /* no login of the series */
     FTD_OTHER_DAY = 15,      /* ftd_receive: another trade date than the day's; ftd_confirm_login: a lower one or none;
-                                ftd_login: a higher one */
+                                ftd_login: a higher one; the box also: ftd_box_confirm_login with a date below the open
+                                day's, ftd_box_receive of a series whose date is below it */
     FTD_OUT_OF_LINE = 16,    /* ftd_receive: number 0, above last + 1 or above 1000000; in a login: series and number of
                                 the packet aren't 0 */
     FTD_BROKEN_CHAIN = 17,   /* C or L without its chain; a place (tag 0x70) that isn't the count of the packets held */
@@ -102,6 +122,7 @@ enum ftd_refusal {
     FTD_LEVELS = 23,         /* ftd_book_take: a 65th level of a side */
     FTD_VOLUME = 24,         /* ftd_book_take: a match of a volume above 1000000, or one that makes a sum beyond
                                 9000000000000000000 on either side of zero */
+    FTD_NO_SEAT = 25,        /* the box: a seat number above 15 */
     FTD_SESSIONS = 26,       /* ftd_set_calendar: more than 8 sessions, one without a second or with an end above 86400,
                                 two that overlap, numbers that aren't three for each */
     FTD_HOLIDAY = 27,        /* ftd_set_calendar: more than 32 holidays, or one that isn't a real date */
@@ -133,6 +154,8 @@ enum ftd_limit {
     FTD_MOST_BYTES = 65794,      /* bytes that a packet can take on the line: room for a bufferful of packets */
     FTD_LOG_HEAD = 16,           /* bytes that a message takes in the log besides its content */
     FTD_RECORD_HEAD = 10,        /* bytes of a record (ftd_publish_several) besides its content */
+    FTD_SEATS = 16,              /* seats of a box, numbered from 0 */
+    FTD_PLACES = 384,            /* numbers of its seats' places: 16 seats, 8 series, three numbers each */
     FTD_MOST_SESSIONS = 8,       /* sessions of a calendar */
     FTD_MOST_HOLIDAYS = 32,      /* holidays of a calendar */
     FTD_CODE = 10,               /* bytes of a contract's code */
@@ -422,6 +445,89 @@ struct ftd_received_several {
     uint8_t answer;          /* enum ftd_several_answer */
     uint8_t origin;          /* message: enum ftd_origin, which of the two holds the content */
     uint8_t refusal;         /* refused: why */
+};
+
+/* ---- The box: state and answers ---- */
+
+/* A series of the day that is open below. */
+struct ftd_day_series {
+    size_t reserve;     /* bytes of the log that are reserved for the series */
+    size_t used;        /* bytes of the log that its messages have, with FTD_LOG_HEAD for each */
+    uint32_t published; /* how many messages were published below, so the last one's number */
+    uint16_t series;
+};
+
+/* The day that is open below, the same for all seats. */
+struct ftd_day {
+    size_t used;                                   /* bytes of the log in use, from its start */
+    struct ftd_day_series series[FTD_MOST_SERIES]; /* the first `count` are open, in the order of the box's opening */
+    size_t count;
+    uint32_t date; /* the day's trade date, unless dated is 0: no day was opened yet */
+    uint8_t dated;
+};
+
+/* Besides, the caller keeps the seats' places, FTD_PLACES numbers of eight bytes: seat by seat, for each the series in
+ * the day's order, for each of these three numbers: not 0 where the seat is logged in; the number that is sent next;
+ * how many packets of that message ftd_box_send_packet has written. The place of seat t and series i, both counted from
+ * 0, starts at number 24 * t + 3 * i. All 0: nobody is logged in; so they have to be for a fresh box. A call sets the
+ * three numbers of one place, or all of them to 0, or none; the others stay as they are. */
+struct ftd_box {
+    struct ftd_receiver receiver;     /* towards above */
+    size_t reserves[FTD_MOST_SERIES]; /* of its series, in their order */
+    struct ftd_day day;
+};
+
+struct ftd_box_opened {
+    struct ftd_box box;
+    uint8_t refusal;
+};
+
+struct ftd_box_confirmed {
+    struct ftd_box box;
+    uint32_t last; /* the series' last number: 0 on a new day */
+    uint8_t refusal;
+};
+
+/* As struct ftd_received. */
+struct ftd_box_received {
+    struct ftd_box box;
+    struct ftd_span content; /* message: where its content lies, from the first byte of the packet or of the buffer */
+    uint32_t last;           /* again, held, message: the series' last number; of a message its own */
+    uint32_t tid;            /* message: TID */
+    uint8_t answer;          /* enum ftd_receive_answer */
+    uint8_t origin;          /* message: enum ftd_origin, which of the two holds the content */
+    uint8_t refusal;
+};
+
+/* As struct ftd_received_several. */
+struct ftd_box_received_several {
+    struct ftd_box box;
+    struct ftd_span content; /* message: where its content lies, from the first byte of this call's packets or of the
+                                buffer */
+    size_t taken;            /* bytes taken, from the first on: the packets up to the message or refusal, and with it */
+    size_t missing;          /* short: how many bytes of the next packet are certainly missing, 1 to 65790 */
+    uint32_t last;           /* message: its number */
+    uint32_t tid;            /* message: TID */
+    uint8_t answer;          /* enum ftd_several_answer */
+    uint8_t origin;          /* message: enum ftd_origin, which of the two holds the content */
+    uint8_t refusal;         /* refused: why */
+};
+
+/* The box stays as it is, and isn't answered; of the places those of the seat and series alone change. */
+struct ftd_box_sent {
+    size_t bytes;    /* message: how many were written, all packets together */
+    uint32_t number; /* message: its number */
+    uint8_t answer;  /* enum ftd_send_answer */
+    uint8_t refusal;
+};
+
+/* Of one packet; FTD_SEND_MESSAGE: the packet was written. */
+struct ftd_box_sent_packet {
+    size_t bytes;    /* message: how many were written, one packet */
+    uint32_t number; /* message: its number */
+    uint8_t answer;  /* enum ftd_send_answer */
+    uint8_t refusal;
+    uint8_t last; /* message: 1 where the packet is its last one, and the seat has stepped on */
 };
 
 /* ---- The trading calendar: state and answers ---- */
@@ -765,6 +871,74 @@ struct ftd_received ftd_receive(struct ftd_receiver end, const uint8_t *packet, 
  * Refusals: those of ftd_receive but 12, each of its packet alone; what the packets before it left stays. */
 struct ftd_received_several ftd_receive_several(struct ftd_receiver end, const uint8_t *packets, size_t count,
                                                 uint8_t *buffer, size_t buffer_len);
+
+/* ---- The box ---- */
+
+/* A box with no series and no day. Its places are FTD_PLACES numbers 0. */
+struct ftd_box ftd_box_fresh(void);
+
+/* Opening: 1 to 8 differing series from 1 up, in any order, once for the box's life, and a reserve in bytes of the log
+ * for each (`reserve_count` is `count`), which every day below will have (ftd_sender_open says what reserves do). The
+ * log isn't looked at yet, and no day is open below. Refusal: 11. */
+struct ftd_box_opened ftd_box_open(struct ftd_box box, const uint16_t *series, size_t count,
+                                   const size_t *reserves, size_t reserve_count);
+
+/* Connect: a new line from above, as ftd_connect. The day below and the seats stay: they go on. */
+struct ftd_box ftd_box_connect(struct ftd_box box);
+
+/* Ask: as ftd_request_login, for the line from above. The box stays as it is, and isn't answered.
+ * Refusals: 7, 8, 9, 10, 13, 18. */
+struct ftd_written ftd_box_request_login(struct ftd_box box, uint16_t series, const uint8_t *content, size_t count,
+                                         uint8_t *output, size_t room);
+
+/* Answer: as ftd_confirm_login, for the line from above. Where the answer's trade date is above that of the day open
+ * below, or none is open, it opens its day there: with all series of the box and their reserves, nothing published, the
+ * log empty (its bytes stay, and are overwritten), and nobody logged in at any seat (all numbers of `places` are 0
+ * then). The series that aren't answered yet are refused (15) until they are, by an answer with the same date: answers
+ * with that date open nothing any more. The log is only measured: not a byte of it is read or changed.
+ * Refusals: 12, 1, 2, 4, 5, 6, 7, 8, 9, 10, 13, 15 (also: a date below that of the day open below), 16, 11 (it would
+ * open a day, and the reserves together are above `log_len`). A refusal changes nothing, and opens nothing. */
+struct ftd_box_confirmed ftd_box_confirm_login(struct ftd_box box, uint16_t series,
+                                               const uint8_t *packet, size_t packet_len,
+                                               const uint8_t *log, size_t log_len, uint64_t *places);
+
+/* Receive: as ftd_receive, for the line from above; a message that is handed on is also published below, as by
+ * ftd_publish: it goes into the log, under the same number. All calls are lent the same log and the same reassembly
+ * buffer, as the last call left them (the log may be moved or lengthened in between).
+ * Where its publication is refused the message isn't taken: that refusal is answered, the series' open chain is
+ * dropped, and all else stays as it was, every byte of log and buffer too. The number is still wanted then. With a full
+ * log (18) the series stands still until a longer log is lent or the next day comes; other series go on.
+ * Refusals: 12, 1, 3, 2, 4, 5, 6, 7, 13, 14, 15 (also: the series' date is below that of the day open below), 16, 17,
+ * 18 (of the reassembly buffer), and then those of ftd_publish, of S and L alone: 7, 8, 9, 10, 13, 20, 18 (of the log),
+ * 21. From 15 on, and by those of ftd_publish, the series' open chain is dropped, in `box`. */
+struct ftd_box_received ftd_box_receive(struct ftd_box box, const uint8_t *packet, size_t packet_len,
+                                        uint8_t *log, size_t log_len, uint8_t *buffer, size_t buffer_len);
+
+/* Receive for several: as ftd_box_receive for each of the packets, and as ftd_receive_several. A refused publication is
+ * a refusal, and its packet is taken.
+ * Refusals: those of ftd_box_receive but 12, each of its packet alone; what the packets before it left stays. */
+struct ftd_box_received_several ftd_box_receive_several(struct ftd_box box, const uint8_t *packets, size_t count,
+                                                        uint8_t *log, size_t log_len,
+                                                        uint8_t *buffer, size_t buffer_len);
+
+/* Login of a seat: as ftd_login, with the login packet of the seat's end, on the day open below. The place of the seat
+ * and series is set; no other changes. The box stays as it is, and isn't answered.
+ * Refusals: 25, 12, 1, 2, 4, 5, 6, 7, 8, 9, 10, 13 (also: no day is open yet), 15, 16, 18, 19. */
+struct ftd_written ftd_box_login(struct ftd_box box, size_t seat, uint16_t series,
+                                 const uint8_t *packet, size_t packet_len, const uint8_t *content, size_t count,
+                                 uint64_t *places, uint8_t *output, size_t room);
+
+/* Send of a seat: as ftd_send, from the seat's place in the series. A line of the seat that is lost needs no call: its
+ * end logs in anew.
+ * Refusals: 25, 13, 14, then FTD_SEND_NONE where nothing is left, 20, 18. */
+struct ftd_box_sent ftd_box_send(struct ftd_box box, size_t seat, uint16_t series, uint64_t *places,
+                                 const uint8_t *log, size_t log_len, uint8_t *output, size_t room);
+
+/* Send of a seat, one packet: as ftd_send_packet. A login of the seat for the series, a whole ftd_box_send of it and a
+ * new day (ftd_box_confirm_login) end the message under way; the calls of other seats and what is published don't.
+ * Refusals: 25, 13, 14, then FTD_SEND_NONE where nothing is left, 20, 18. */
+struct ftd_box_sent_packet ftd_box_send_packet(struct ftd_box box, size_t seat, uint16_t series, uint64_t *places,
+                                               const uint8_t *log, size_t log_len, uint8_t *output, size_t room);
 
 /* ---- The trading calendar ---- */
 

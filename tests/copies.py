@@ -17,8 +17,9 @@ import sys
 import tempfile
 
 LIMIT = 64
-# Where it starts: the Sends of the serving end, and the exported functions over them; of the box once it is there.
-STARTS = ["flow::sender::Sender::send", "flow::sender::Sender::send_packet", "exports::serving::ftd_send", "exports::serving::ftd_send_packet"]
+# Where it starts: the Sends of the serving end and of the box, and the exported functions over them.
+STARTS = ["flow::sender::Sender::send", "flow::sender::Sender::send_packet", "exports::serving::ftd_send", "exports::serving::ftd_send_packet",
+          "relay::relay::Relay::send", "relay::relay::Relay::send_packet", "exports::boxes::ftd_box_send", "exports::boxes::ftd_box_send_packet"]
 BOX = ["relay::"]
 KEYWORDS = set("as break const continue crate else enum extern false fn for ghost if impl in let loop match mod move mut pub ref return self "
                "Self static struct super true type use where while".split())

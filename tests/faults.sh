@@ -1,6 +1,6 @@
 #!/usr/bin/env bash
 # Deliberate faults, each in a copy of one side: the differential tests must find every one of them.
-#   tests/faults.sh          faults of the reader and of the models of the ends, and one of the library's exported functions
+#   tests/faults.sh          faults of the reader and of the models of the ends and of the box, and one of the library's exported functions
 #   tests/faults.sh --long   also ends that clause c shuts out, and one of the library's tables: the crates are proved anew for each
 # A fault of the library is one of its definitions and its code together, so that it is proved and built: the kind that no proof finds.
 # Needs what tests/run.sh has built.
@@ -136,14 +136,52 @@ fresh_reader
 change "$work/tests/reader/src/serving.rs" 'day.shares(place, size) > room' 'day.shares(place, content.len()) > room'
 expect "the head of an entry isn't counted in its series' share" "$root/target/lib" calls
 
+# Where the library has the box. (The wrong boxes of `calls .. wrong` are tried with and without it.)
+if grep -q '^default = \["box"\]' "$root/tests/outside/Cargo.toml"; then
+    echo "- the model of the box"
+    relay=$work/tests/reader/src/relay.rs
+    fresh_reader
+    change "$relay" '|(mark, day)| mark < day)' '|(mark, day)| mark > day)'
+    expect "a message of an older series is published in the new day" "$root/target/lib" calls
+    fresh_reader
+    change "$relay" 'mark) || lower(day)' 'mark)'
+    expect "an answer below the open day is taken" "$root/target/lib" calls
+    fresh_reader
+    change "$relay" '        self.seats = [[None; MOST_SERIES]; SEATS];
+' ''
+    expect "an opening below keeps the seats logged in" "$root/target/lib" calls
+    fresh_reader
+    change "$relay" 'day.is_none_or(|day| mark > day)' 'day.is_none()'
+    expect "the first day alone is opened below" "$root/target/lib" calls
+    fresh_reader
+    change "$relay" '!may_open(&series) || together > log as u128' '!may_open(&series)'
+    expect "an opening below doesn't look at the reserves" "$root/target/lib" calls
+    fresh_reader
+    change "$relay" '        part[held..length].copy_from_slice(piece.content);
+' ''
+    change "$relay" "        if piece.chain == b'L' {
+            let message" "        part[held..length].copy_from_slice(piece.content);
+        if piece.chain == b'L' {
+            let message"
+    change "$relay" '[&part[..held], piece.content].concat()' 'part[..length].to_vec()'
+    expect "a refused publication leaves its last piece in the chain buffer" "$root/target/lib" calls
+    fresh_reader
+    change "$relay" 'self.seats.get_mut(seat)' 'self.seats.get_mut(if seat < SEATS { seat / 2 } else { seat })'
+    expect "two seats in one place" "$root/target/lib" calls
+    fresh_reader
+    change "$relay" 'SEATS: usize = 16' 'SEATS: usize = 15'
+    change "$work/tests/outside/src/boxes.rs" 'PLACES: usize = SEATS *' 'PLACES: usize = 16 *'
+    expect "seat 15 is refused" "$root/target/lib" calls
+fi
+
 # A copy of the repository's library with one thing changed in code and definition, proved and built.
 fresh_library() {
     rm -rf "$work/library"
     mkdir -p "$work/library/crates" "$work/library/target"
-    for crate in ftd flow calendar book fix exports; do
+    for crate in ftd flow relay calendar book fix exports; do
         cp -R "$root/crates/$crate" "$work/library/crates/"
     done
-    printf 'ftd:\nflow: ftd\ncalendar: ftd\nbook: ftd\nfix: ftd\nexports: ftd flow calendar book fix\n' >"$work/library/crates.txt"
+    printf 'ftd:\nflow: ftd\nrelay: ftd flow\ncalendar: ftd\nbook: ftd\nfix: ftd\nexports: ftd flow relay calendar book fix\n' >"$work/library/crates.txt"
     # What is proved of ftd is taken over where ftd isn't changed.
     cp -R "$root/target/rlib" "$root/target/stamp" "$work/library/target/"
 }

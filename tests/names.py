@@ -97,15 +97,16 @@ for total, rows in tables:
         if names.startswith("of `ftd`: "):
             found = [sum(lines_in(f"crates/ftd/specs/{n}.antt") for n in names[10:].split(", "))]
         else:
-            paths = [f"crates/flow/{n}" if n.startswith(("src/", "specs/")) else f"crates/ftd/specs/{n}.antt" for n in names.split(", ")]
+            paths = [n if n.startswith("crates/") else f"crates/flow/{n}" if n.startswith(("src/", "specs/")) else f"crates/ftd/specs/{n}.antt"
+                     for n in names.split(", ")]
             found = [lines_in(p) for p in paths]
         there += sum(found)
         if said[: len(found)] != found:
             wrong.append(f"docs/GUIDE.md: lines of {names}: {found}, not {said[:len(found)]}")
     if numbers(total) != [there]:
         wrong.append(f"docs/GUIDE.md: {there} lines in all, not {total}")
-if len(tables) != 2:
-    wrong.append("docs/GUIDE.md: the two tables of lines to be believed are not where they were")
+if len(tables) != 3:
+    wrong.append("docs/GUIDE.md: the three tables of lines to be believed are not where they were")
 script = (root / "crates/ftdplay/stdin").read_text().count("\n")
 if numbers(re.search(r"Its stdin, ([\d,]+) lines", guide).group(1)) != [script]:
     wrong.append(f"docs/GUIDE.md: the player's script has {script} lines")

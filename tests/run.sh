@@ -1,7 +1,8 @@
 #!/usr/bin/env bash
 # The outside tests: builds the static library, the lister and the Rust side,
-# compares the proved library with the independent reader on generated inputs and captures, and the two ends with their models on random
-# lists of calls; the reader's frames with QuickFIX where that is installed; shows that deliberate faults are found, and times both sides.
+# compares the proved library with the independent reader on generated inputs and captures, and the two ends and the box with their
+# models on random lists of calls; the reader's frames with QuickFIX where that is installed; shows that deliberate faults and wrong
+# boxes are found, and times both sides.
 # Any failure makes it fail.
 #   tests/run.sh           all of it, some minutes on top of the proofs
 #   tests/run.sh --quick   the comparison alone, on a million inputs and calls: a minute or so where the crates are proved already
@@ -56,9 +57,12 @@ else
     "$outside/differ" 1000000 2 "$root/target/bin/ftdlist"
     "$outside/calls" 5000000 1
     "$outside/calls" 1000000 2
+    "$outside/calls" 100000 1 wrong
     bash tests/faults.sh
     "$outside/bench"
     "$outside/bench_ends"
+    # Built where the library has the box: the feature `box` of tests/outside/Cargo.toml.
+    [ ! -e "$outside/bench_box" ] || "$outside/bench_box"
     "$outside/bench_book"
     "$outside/bench_frames"
     "$outside/sends"

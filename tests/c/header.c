@@ -55,6 +55,13 @@ static void sizes(void) {
     EXPECT(sizeof(struct ftd_confirmed) == 272);
     EXPECT(sizeof(struct ftd_received) == 296);
     EXPECT(sizeof(struct ftd_received_several) == 312);
+    EXPECT(sizeof(struct ftd_day_series) == 24 && offsetof(struct ftd_day_series, series) == 20);
+    EXPECT(sizeof(struct ftd_day) == 216 && offsetof(struct ftd_day, dated) == 212);
+    EXPECT(sizeof(struct ftd_box) == 544 && offsetof(struct ftd_box, reserves) == 264);
+    EXPECT(offsetof(struct ftd_box, day) == 328);
+    EXPECT(sizeof(struct ftd_box_opened) == 552 && sizeof(struct ftd_box_confirmed) == 552);
+    EXPECT(sizeof(struct ftd_box_received) == 576 && sizeof(struct ftd_box_received_several) == 592);
+    EXPECT(sizeof(struct ftd_box_sent) == 16 && sizeof(struct ftd_box_sent_packet) == 16);
     EXPECT(sizeof(struct ftd_calendar) == 224);
     EXPECT(sizeof(struct ftd_calendar_step) == 228);
     EXPECT(sizeof(struct ftd_trade_time) == 8);
@@ -960,6 +967,97 @@ static void shares_beyond(void) {
     EXPECT(ftd_publish(end, 7, 0x7777, NULL, 0, day_log, sizeof day_log).refusal == FTD_TOO_SMALL);
 }
 
+/* ---- The box ---- */
+
+static uint64_t places[FTD_PLACES];
+static uint8_t box_log[2 * FTD_MOST_CONTENT], box_buffer[2 * FTD_MOST_CONTENT], below[FTD_MOST_OUTPUT];
+
+/* A box with both series, logged in to series 3 at the exchange; its day is the exchange's. */
+static struct ftd_box box_in(struct ftd_sender *sender) {
+    static const size_t reserves[2] = {0, 0};
+    struct ftd_box_opened opened = ftd_box_open(ftd_box_fresh(), series, 2, reserves, 2);
+    struct ftd_written asked = ftd_box_request_login(opened.box, 3, request, sizeof request, login, sizeof login);
+    struct ftd_logged_in in;
+    struct ftd_box_confirmed confirmed;
+
+    EXPECT(opened.refusal == 0 && opened.box.receiver.count == 2 && opened.box.day.count == 0);
+    EXPECT(ftd_box_open(opened.box, series, 2, reserves, 2).refusal == FTD_OPENING);
+    EXPECT(ftd_box_open(ftd_box_fresh(), series, 2, reserves, 1).refusal == FTD_OPENING);
+    in = ftd_login(*sender, 3, login, asked.bytes, answer, sizeof answer, output, sizeof output);
+    EXPECT(asked.refusal == 0 && in.refusal == 0);
+    memset(places, 1, sizeof places);
+    confirmed = ftd_box_confirm_login(opened.box, 3, output, in.bytes, box_log, sizeof box_log, places);
+    EXPECT(confirmed.refusal == 0 && confirmed.last == 0 && confirmed.box.day.dated == 1);
+    EXPECT(confirmed.box.day.date == 100 && confirmed.box.day.count == 2 && confirmed.box.day.series[1].series == 3);
+    EXPECT(places[0] == 0 && places[FTD_PLACES - 1] == 0);
+    places[0] = 7;
+    EXPECT(ftd_box_confirm_login(confirmed.box, 3, output, in.bytes, box_log, sizeof box_log, places).refusal == 0);
+    EXPECT(places[0] == 7);
+    places[0] = 0;
+    *sender = in.end;
+    return confirmed.box;
+}
+
+/* The exchange's two messages come in, the second in three packets; its publication is refused first. */
+static struct ftd_box box_fed(struct ftd_sender *sender) {
+    struct ftd_box box = box_in(sender);
+    struct ftd_sent sent = ftd_send(*sender, 3, day_log, sizeof day_log, output, sizeof output);
+    struct ftd_box_received got = ftd_box_receive(box, output, sent.bytes, box_log, sizeof box_log, box_buffer,
+                                                  sizeof box_buffer);
+    struct ftd_box_received_several taken;
+
+    EXPECT(got.answer == FTD_RECEIVE_MESSAGE && got.origin == FTD_IN_PACKET && got.last == 1 && got.tid == 0x7777);
+    EXPECT(got.box.day.series[1].published == 1 && got.box.day.used == 4006 + FTD_LOG_HEAD);
+    EXPECT(memcmp(box_log, day_log, 4006 + FTD_LOG_HEAD) == 0);
+    sent = ftd_send(sent.end, 3, day_log, sizeof day_log, output, sizeof output);
+    taken = ftd_box_receive_several(got.box, output, 2 * PACKET, box_log, sizeof box_log, box_buffer, sizeof box_buffer);
+    EXPECT(taken.answer == FTD_SEVERAL_END && taken.taken == 2 * PACKET && taken.box.receiver.series[1].pieces == 2);
+    memset(box_buffer + FTD_MOST_CONTENT + 2 * 4006, 'z', 4006);
+    got = ftd_box_receive(taken.box, output + 2 * PACKET, PACKET, box_log, got.box.day.used + 100, box_buffer,
+                          sizeof box_buffer);
+    EXPECT(got.refusal == FTD_TOO_SMALL && got.box.receiver.series[1].chain == 0 && got.box.day.used == 4006 + FTD_LOG_HEAD);
+    EXPECT(box_buffer[FTD_MOST_CONTENT + 2 * 4006] == 'z' && box_buffer[FTD_MOST_CONTENT + 3 * 4006 - 1] == 'z');
+    got = ftd_box_receive(taken.box, output + 2 * PACKET, PACKET, box_log, sizeof box_log, box_buffer, sizeof box_buffer);
+    EXPECT(got.answer == FTD_RECEIVE_MESSAGE && got.origin == FTD_IN_BUFFER && got.last == 2 && got.tid == 0x7778);
+    EXPECT(got.content.len == sizeof large && memcmp(box_buffer + got.content.start, large, sizeof large) == 0);
+    EXPECT(got.box.day.series[1].published == 2);
+    *sender = sent.end;
+    return got.box;
+}
+
+/* Seat 4 is sent what the exchange sent, byte for byte; no number of another place changes. */
+static void box_seats(void) {
+    struct ftd_sender sender = serving();
+    struct ftd_box box = box_fed(&sender);
+    struct ftd_receiver end = receiving();
+    struct ftd_written asked = ftd_request_login(end, 3, request, sizeof request, login, sizeof login);
+    struct ftd_written in;
+    struct ftd_box_sent sent;
+    struct ftd_box_sent_packet piece;
+    size_t i, others = 0, at = 4 * 24 + 3;
+
+    in = ftd_box_login(box, 16, 3, login, asked.bytes, answer, sizeof answer, places, below, sizeof below);
+    EXPECT(in.refusal == FTD_NO_SEAT);
+    EXPECT(ftd_box_send(box, 16, 9, places, box_log, sizeof box_log, below, sizeof below).refusal == FTD_NO_SEAT);
+    EXPECT(ftd_box_send(box, 4, 3, places, box_log, sizeof box_log, below, sizeof below).refusal == FTD_NOT_LOGGED_IN);
+    in = ftd_box_login(box, 4, 3, login, asked.bytes, answer, sizeof answer, places, below, sizeof below);
+    EXPECT(in.refusal == 0 && places[at] == 1 && places[at + 1] == 1 && places[at + 2] == 0);
+    EXPECT(ftd_confirm_login(end, 3, below, in.bytes).refusal == 0);
+    sent = ftd_box_send(box, 4, 3, places, box_log, sizeof box_log, below, sizeof below);
+    EXPECT(sent.answer == FTD_SEND_MESSAGE && sent.number == 1 && sent.bytes == PACKET && places[at + 1] == 2);
+    piece = ftd_box_send_packet(box, 4, 3, places, box_log, sizeof box_log, below, sizeof below);
+    EXPECT(piece.answer == FTD_SEND_MESSAGE && piece.number == 2 && piece.last == 0 && places[at + 2] == 1);
+    EXPECT(memcmp(below, output, PACKET) == 0);
+    sent = ftd_box_send(box, 4, 3, places, box_log, sizeof box_log, below, sizeof below);
+    EXPECT(sent.number == 2 && sent.bytes == 3 * PACKET && memcmp(below, output, 3 * PACKET) == 0);
+    EXPECT(places[at + 1] == 3 && places[at + 2] == 0);
+    EXPECT(ftd_box_send(box, 4, 3, places, box_log, sizeof box_log, below, sizeof below).answer == FTD_SEND_NONE);
+    EXPECT(ftd_box_connect(box).receiver.series[1].login == 0 && ftd_box_connect(box).day.used == box.day.used);
+    for (i = 0; i < FTD_PLACES; i++)
+        others += i / 3 != at / 3 && places[i] != 0;
+    EXPECT(others == 0);
+}
+
 /* ---- The trading calendar ---- */
 
 /* Four sessions, the first late, and eight holidays. */
@@ -1689,6 +1787,7 @@ int main(void) {
     reserves_opened();
     shares_published();
     shares_beyond();
+    box_seats();
     calendar_set();
     calendar_asked();
     marks();

@@ -87,7 +87,7 @@ module _ {A B C : Type 0} (put : A → B → C) where
   second-back f back (x ∷ l) (y ∷ m) e = rw (back x y, second-back f back l m (omega arith)) refl
 
 -- A trade date and a Bool as numbers, and back.
-date-back : (d : TradeDate) → dateFor (datedFlag d) (dateOf d) ≡ d
+pub date-back : (d : TradeDate) → dateFor (datedFlag d) (dateOf d) ≡ d
 unfolding dateFor
 date-back None = refl
 date-back (At d) = refl
@@ -117,7 +117,7 @@ sender-back e a b =
       second-back servedNumbers placeFor place-back (e .day .series) (e .seat .places) same,
     ) refl
 
-receiver-back : (e : Receiver) → length (e .kept .series) ≡ 8 → length (e .live .series) ≡ 8
+pub receiver-back : (e : Receiver) → length (e .kept .series) ≡ 8 → length (e .live .series) ≡ 8
     → receiverFor (receiverNumbers e) ≡ e
 unfolding receiverFor receiverNumbers
 receiver-back e a b =
@@ -143,7 +143,7 @@ module _ {E A B : Type 0} (R : Repeated E A B) (Keeps : E → Type 0)
       go none k = k
       go (some b) k = one e x l h
 
-  several-keeps : (e : E) (bytes l : List ℕ) → Keeps e → Keeps (severalOf R e bytes l .end)
+  pub several-keeps : (e : E) (bytes l : List ℕ) → Keeps e → Keeps (severalOf R e bytes l .end)
   unfolding severalOf
   several-keeps e bytes l h =
       let cut = runOf (R .form) bytes in
@@ -169,7 +169,7 @@ module _ (e : Sender) (z : SenderEight e) where
   opened-is date ss rs log r (open-refused q) = sender-is e z
   opened-is date ss rs log r (open-taken q h g k) = sender-is (openedSender date ss rs) (opened-eight date ss rs q)
 
-  published-eight : (s tid : ℕ) (content log : List ℕ) (r : Wrote Sender Published)
+  pub published-eight : (s tid : ℕ) (content log : List ℕ) (r : Wrote Sender Published)
       → PublishDone e s tid content log r → SenderEight (r .end)
   published-eight s tid content log r (publish-refused q) = z
   published-eight s tid content log r (publish-taken t) = eight-entry e s (t .served) z (16 + length content)
@@ -265,14 +265,14 @@ module _ (n : FtdSender) (e : Sender) (h : SenderIs n e) where
 
 -- ─── The receiving end, call by call ───
 
-receiver-eight : (e : Receiver) → ReceiverEight e → length (receiverNumbers e .series) ≡ 8
+pub receiver-eight : (e : Receiver) → ReceiverEight e → length (receiverNumbers e .series) ≡ 8
 unfolding receiverNumbers
 receiver-eight e z = all-eight keptNumbers (e .kept .series) (e .live .series) (z .kept) (z .live)
 
 receiver-is : (e : Receiver) → ReceiverEight e → ReceiverIs (receiverNumbers e) e
 receiver-is e z = (receiver-back e (z .kept) (z .live), receiver-eight e z)
 
-end-eight : (n : FtdReceiver) → length (n .series) ≡ 8 → ReceiverEight (receiverFor n)
+pub end-eight : (n : FtdReceiver) → length (n .series) ≡ 8 → ReceiverEight (receiverFor n)
 unfolding receiverFor
 end-eight n h = record { kept = length-map (n .series) keptFor ∙ h; live = length-map (n .series) liveFor ∙ h }
 

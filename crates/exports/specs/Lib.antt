@@ -4,6 +4,7 @@ pub mod Items
 pub mod Serving
 pub mod Receiving
 pub mod Several
+pub mod Boxes
 pub mod Trading
 pub mod Quotes
 pub mod Frames

@@ -1,6 +1,6 @@
-// The library for C and Rust: functions on numbers, byte slices, and the two ends, the trading calendar and the book of
-// a contract by value. Each calls `ftd`, `flow`, `calendar`, `book` or `fix` and gives its answer as numbers;
-// include/ftd.h says what they mean. Here: packets, fields and messages.
+// The library for C and Rust: functions on numbers, byte slices, and the two ends, the box, the trading calendar and
+// the book of a contract by value. Each calls `ftd`, `flow`, `relay`, `calendar`, `book` or `fix` and gives its answer
+// as numbers; include/ftd.h says what they mean. Here: packets, fields and messages.
 ghost use mathlib.Core.Bool.{true};
 ghost use mathlib.Core.Path.{_≡_};
 ghost use Prim.Native.Nat.{_+_, _≤_};
@@ -13,7 +13,7 @@ ghost use Rattle.ftd.specs.Packet.Helpers.{SaysLengths};
 ghost use Rattle.ftd.specs.Content.{contentCheck};
 ghost use Rattle.ftd.specs.Write.{writtenAnswer, writtenOutput, packetBytes, plainVerdict, fieldVerdict};
 ghost use Rattle.ftd.specs.Chain.{packetsOf, sizeAnswer, chainVerdict};
-ghost use Rattle.exports.specs.Laws.{EndLaws};
+ghost use Rattle.exports.specs.Laws.{EndLaws, BoxLaws};
 ghost use Rattle.exports.specs.Numbers.{plainNumbers, linkNumbers, skippedNumbers, packetNumbers};
 ghost use Rattle.exports.specs.Numbers.{datedNumbers, fieldNumbers, stepOf, directionFor, verdictNumber};
 ghost use Rattle.exports.specs.Numbers.{spanNumbers, messageFor, sizeNumbers, writtenNumbers};
@@ -56,6 +56,7 @@ pub mod resume; // the start field
 pub mod serving; // the serving end
 pub mod receiving; // the receiving end
 pub mod several; // a bufferful of packets or records in one call of an end
+pub mod boxes; // the box
 pub mod trading; // the trading calendar
 pub mod quotes; // the book of a contract
 pub mod frames; // frames of JR/T 0087
@@ -422,4 +423,9 @@ pub extern "C" fn ftd_write_plain(
 // The ends as numbers and back, as a promise.
 pub fn keeps_end_laws()
     ensures { λ _. ⌜ EndLaws ⌝ }
+{}
+
+// The box as numbers and back, as a promise.
+pub fn keeps_box_laws()
+    ensures { λ _. ⌜ BoxLaws ⌝ }
 {}

@@ -192,7 +192,7 @@ pub extern "C" fn ftd_connect(end: FtdReceiver) -> FtdReceiver
 }
 
 // What Ask answers.
-fn requested(a: Requested) -> FtdWritten
+pub(crate) fn requested(a: Requested) -> FtdWritten
     ensures { λ r. ⌜ r ≡ requestedNumbers a ⌝ }
 {
     match a {

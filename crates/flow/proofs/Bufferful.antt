@@ -47,7 +47,7 @@ module _ (s after : List ℕ) (at n : ℕ) where
       sym (part-part s at n (c .start) (c .len) (omega (arith, h, length-take n (drop at s))))
   same-content Buffer c h = refl
 
-  received-fits : (a : Received) → AnswerIn (length x) a
+  pub received-fits : (a : Received) → AnswerIn (length x) a
       → StopFits receiving s after (receivedSaid x after a) (receivedStops at a)
   received-fits Idle h = refl
   received-fits (Duplicate k) h = refl

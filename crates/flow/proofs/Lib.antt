@@ -8,6 +8,7 @@ pub mod source
 pub mod steps
 pub mod pieces
 pub mod right
+pub mod lines
 pub mod logins
 pub mod first
 pub mod second

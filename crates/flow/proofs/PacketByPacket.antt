@@ -4,11 +4,11 @@ use Prim.Native.Nat.{ℕ, suc, _+_, _≤_, _<_}
 use native.Mathlib.Omega.{arith}
 use mathlib.Core.Path.{_≡_, refl, sym, ap, _∙_}
 use mathlib.Core.Logic.{_↔_}
-use mathlib.Core.List.{List, [], _∷_, _++_, map, append-nil}
+use mathlib.Core.List.{List, [], _∷_, _++_}
 use mathlib.Core.Bool.{Bool, true, false, not, _&&_}
 use mathlib.Core.Option.{some}
 use borrow.Author.Tests.{not-true, eqb-true, eqb-false}
-use lib.ListN.{length, take, drop, getElem?, length-map}
+use lib.ListN.{length, drop, getElem?, length-map}
 use lib.Seq.{take-append-seam}
 use lib.Dec.{T, eqb}
 use Rattle.ftd.specs.Chain.{packetsOf}
@@ -25,12 +25,12 @@ use Rattle.flow.specs.declared.sender.SentPacket.the-variants.{Drained a
 use Rattle.flow.specs.declared.sender.SentPacket.the-variants.{Refused as NotPacket}
 use Rattle.flow.specs.declared.sender.Published.{Published}
 use Rattle.flow.specs.Ends.{Wrote, isServed, publishedOf, placeOf, withEntry}
-use Rattle.flow.specs.Log.{entryOf, entryBytes}
+use Rattle.flow.specs.Log.{entryBytes}
 use Rattle.flow.specs.Answers.{Message}
-use Rattle.flow.specs.Serving.{noneLeft, sendPackets, sendBytes, sendOf, sendPacketOf, publishOf}
-use Rattle.flow.specs.World.{Event, dated, publish, send, whole, Transmission, transmission, brokenOff, goesOn, endedIn}
-use Rattle.flow.specs.World.{packetsIn, afterPublish, afterSend, SenderSide, World, serves, start, step, run}
-use Rattle.flow.specs.Agreement.{of, publishedOn}
+use Rattle.flow.specs.Serving.{noneLeft, sendBytes, sendOf, sendPacketOf, publishOf}
+use Rattle.flow.specs.World.{whole, Transmission, transmission, brokenOff, goesOn, endedIn}
+use Rattle.flow.specs.World.{packetsIn, afterPublish, afterSend, SenderSide, World, serves, start, run}
+use Rattle.flow.specs.Agreement.{of}
 use Rattle.flow.specs.PacketByPacket.{headedAt, Begins, restOf, toCome, hasLeft, AllSent, exampleRows}
 use Rattle.flow.specs.PacketByPacket.{PacketByPacket}
 use Rattle.flow.proofs.bench.Opened.{opened}
@@ -46,13 +46,12 @@ use Rattle.flow.proofs.calls.Serving.{send-unknown, send-outside, send-
 use Rattle.flow.proofs.calls.Serving.{send-taken, send-cases, some-left, PacketDone, packet-unknown}
 use Rattle.flow.proofs.calls.Serving.{packet-outside, packet-drained, packet-damaged, packet-missing, packet-small}
 use Rattle.flow.proofs.calls.Serving.{packet-taken, packet-cases}
-use Rattle.flow.proofs.packets.Genuine.{Begun, BegunIn}
+use Rattle.flow.proofs.packets.Genuine.{BegunIn}
 use Rattle.flow.proofs.source.Moves.{publishedSide, publishes}
-use Rattle.flow.proofs.source.Kept.{move-served, published-count}
+use Rattle.flow.proofs.source.Kept.{move-served}
 use Rattle.flow.proofs.source.Served.{ServedSide}
 use Rattle.flow.proofs.source.Entries.{NextEntry, next-entry, cut-packets}
-use Rattle.flow.proofs.source.Messages.{sent-genuine}
-use Rattle.flow.proofs.source.Goings.{nextPackets, entry-packets}
+use Rattle.flow.proofs.source.Goings.{entry-packets}
 use Rattle.flow.proofs.source.Sources.{Source, run-source}
 use Rattle.flow.proofs.single.Packets.{one-packet, no-packet, publishing-allowed, from-first}
 
@@ -244,7 +243,7 @@ none-left e s log out more = (
 )
 
 module _ (v : SenderSide) (h : Source v) (s : ℕ) (out : List ℕ) where
-  packet-damaged-never : (r : Wrote Sender SentPacket) → PacketDone (v .end) s (v .log) out r
+  pub packet-damaged-never : (r : Wrote Sender SentPacket) → PacketDone (v .end) s (v .log) out r
       → r .answer ≡ NotPacket DamagedLog → ⊥
   packet-damaged-never r (packet-unknown a) q = let z : _≡_ {A = ℕ} 0 1 = cc in omega arith
   packet-damaged-never r (packet-outside a b) q = let z : _≡_ {A = ℕ} 0 1 = cc in omega arith

@@ -4,7 +4,7 @@
 use Prim.Native.Nat.{ℕ, zero, suc, _+_, _-_, _≤_, _<_}
 use native.Mathlib.Omega.{arith}
 use mathlib.Core.Path.{_≡_, refl, sym, ap, _∙_}
-use mathlib.Core.Logic.{_↔_, _⊎_, inl, inr}
+use mathlib.Core.Logic.{_⊎_, inl, inr}
 use mathlib.Core.List.{List, [], _∷_, map}
 use mathlib.Core.Bool.{Bool, true, false, cond, not, _||_}
 use borrow.Author.Tests.{ltb-true, ltb-false, lt-ltb, le-ltb, not-true, not-false}
@@ -21,7 +21,6 @@ use Rattle.flow.specs.declared.sender.DaySeries.{DaySeries}
 use Rattle.flow.specs.declared.sender.Sender.{Sender}
 use Rattle.flow.specs.declared.sender.Opened.{Opened}
 use Rattle.flow.specs.declared.sender.Opened.the-variants.{Done}
-use Rattle.flow.specs.declared.sender.Opened.the-variants.{Refused as NotOpened}
 use Rattle.flow.specs.declared.sender.Published.{Published}
 use Rattle.flow.specs.declared.sender.Published.the-variants.{Number}
 use Rattle.flow.specs.declared.sender.Published.the-variants.{Refused as NotPublished}
@@ -37,7 +36,7 @@ use Rattle.flow.specs.Serving.{afterPacket, lastPacket}
 use Rattle.flow.specs.Shares.{ServingCall, opening, publish, login, send, sendPacket, served, servedAll, OneLength}
 use Rattle.flow.specs.Shares.{isOpening, fromOpening, withPublished, counted, countedAll}
 use Rattle.flow.specs.Shares.{AllOneLength, usedBytes, reserves, AllZero, refusedBefore, exampleRows, Shares}
-use Rattle.flow.proofs.common.Bools.{or-neither, clash}
+use Rattle.flow.proofs.common.Bools.{or-neither}
 use Rattle.flow.proofs.common.Rows.{by-when}
 use Rattle.flow.proofs.ends.Lookups.{index-inside}
 use Rattle.flow.proofs.ends.SenderOpened.{openedSender, opened-taken}
@@ -122,7 +121,7 @@ module _ (e : Sender) (s : ℕ) (o : isServed e s ≡ true) (size : ℕ) where
   unfolding withEntry sharesOf
   shares-more = sum-set shareOf (e .day .count) all at (grownSeries e s size) noSeries inside
 
-  used-day : withEntry e s size .day .used ≡ e .day .used + size
+  pub used-day : withEntry e s size .day .used ≡ e .day .used + size
   unfolding withEntry
   used-day = refl
 
@@ -157,15 +156,15 @@ pub record Accounts (e : Sender) : Type 0 where
 abbrev pub Within : ℕ → Sender → Type 0
 Within n e = sharesOf e ≤ n
 
-accounts-least : (e : Sender) → Accounts e → e .day .used ≤ sharesOf e
+pub accounts-least : (e : Sender) → Accounts e → e .day .used ≤ sharesOf e
 unfolding sharesOf
 accounts-least e a = let h = a .sum in let k = sum-least (take (e .day .count) (e .day .series)) in omega arith
 
-entry-accounts : (e : Sender) (s : ℕ) → isServed e s ≡ true → (size : ℕ) → Accounts e → Accounts (withEntry e s size)
+pub entry-accounts : (e : Sender) (s : ℕ) → isServed e s ≡ true → (size : ℕ) → Accounts e → Accounts (withEntry e s size)
 entry-accounts e s o size a =
     record { sum = let h = a .sum in let k = used-more e s o size in let d = used-day e s o size in omega arith }
 
-fresh-accounts : Accounts freshSender
+pub fresh-accounts : Accounts freshSender
 unfolding freshSender
 fresh-accounts = record { sum = refl }
 
@@ -194,7 +193,7 @@ opened-shares (s ∷ ss) (r ∷ rs) =
     let k = opened-shares ss rs in
     omega arith
 
-opened-accounts : (date : ℕ) (ss rs : List ℕ) → Accounts (openedSender date ss rs)
+pub opened-accounts : (date : ℕ) (ss rs : List ℕ) → Accounts (openedSender date ss rs)
 opened-accounts date ss rs = record { sum = rw (opened-taken ss rs) (sym (opened-none ss rs)) }
 
 opened-within : (date : ℕ) (ss rs : List ℕ) (n : ℕ) → sumOf rs ≤ n → Within n (openedSender date ss rs)

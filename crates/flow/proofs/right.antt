@@ -10,11 +10,12 @@ pub mod End
 use Prim.Native.Nat.{ℕ, suc}
 use mathlib.Core.Path.{_≡_}
 use mathlib.Core.List.{List, [], _++_, map}
+use mathlib.Core.Bool.{true}
 use mathlib.Core.Option.{some}
 use lib.ListN.{getElem?}
 use Rattle.ftd.specs.declared.tags.TradeDate.the-variants.{At}
 use Rattle.flow.specs.declared.receiver.Receiver.{Receiver}
-use Rattle.flow.specs.Ends.{dayOf, freshReceiver}
+use Rattle.flow.specs.Ends.{dayOf, freshReceiver, isOpen, keptOf, loggedIn, withSeries}
 use Rattle.flow.specs.Answers.{Message, confirmedSaid, receivedSaid, messageIn, reportIn}
 use Rattle.flow.specs.Receiving.{openEndOf, connectOf, confirmLoginOf, receiveOf}
 use Rattle.flow.specs.World.{Dated, dated}
@@ -22,7 +23,7 @@ use Rattle.flow.specs.Agreement.{of}
 use Rattle.flow.proofs.ends.ReceiverLookups.{Eight}
 use Rattle.flow.proofs.pieces.Takes.{PacketAt}
 use Rattle.flow.proofs.right.End.{EndRight, fresh-right, grown-right, open-right, connect-right, confirm-right}
-use Rattle.flow.proofs.right.End.{receive-right}
+use Rattle.flow.proofs.right.End.{drop-right, receive-right}
 
 pub record RightLaws : Type 0 where
   pub fresh : (buffer : List ℕ) → EndRight [] [] [] freshReceiver buffer
@@ -38,6 +39,10 @@ pub record RightLaws : Type 0 where
       → EndRight P H R e buffer → Eight e → (s : ℕ) (p : List ℕ) →
       let r = confirmLoginOf e s p in
       EndRight P H (R ++ map (dated s (dayOf (r .end) s)) (reportIn (confirmedSaid (r .answer)))) (r .end) buffer
+  -- A chain is dropped.
+  pub drops : (P H : List (Dated Message)) (R : List (Dated ℕ)) (e : Receiver) (buffer : List ℕ)
+      → EndRight P H R e buffer → Eight e → (s : ℕ) → isOpen e s ≡ true
+      → EndRight P H R (withSeries e s (keptOf e s .date) (keptOf e s .last) loggedIn) buffer
   -- Receive of packet j of the message x, published at a place of day d, whatever came before: the chain's count tells
   -- what it holds.
   pub receives : (P H : List (Dated Message)) (R : List (Dated ℕ)) (e : Receiver) (buffer : List ℕ)
@@ -55,5 +60,6 @@ right-laws =
       opens = open-right;
       connects = connect-right;
       confirms = confirm-right;
+      drops = drop-right;
       receives = receive-right;
     }

@@ -5,6 +5,7 @@ pub mod Receiving
 pub mod Answers
 pub mod Promises
 pub mod World
+pub mod Deciding
 pub mod Agreement
 pub mod PacketByPacket
 pub mod EveryPiece

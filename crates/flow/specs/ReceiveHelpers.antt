@@ -1,15 +1,13 @@
 -- Definitions of private contracts of Receive: the parts that the code has, over the one series that a packet names, by
 -- what is kept of it, what it has on this connection, its place and the count of the open ones. No call's promise names
 -- them.
-use Prim.Native.Nat.{ℕ, _+_, _*_, _<_}
-use mathlib.Core.List.{List}
+use Prim.Native.Nat.{ℕ, _+_, _*_}
 use mathlib.Core.Bool.{Bool, true, false, not, _||_}
-use lib.ListN.{length}
 use lib.Dec.{ltb, leb}
-use Rattle.ftd.specs.Bytes.{put}
 use Rattle.ftd.specs.Fields.{mostContent}
 use Rattle.ftd.specs.Packet.{span}
-use Rattle.ftd.specs.declared.refusal.Refusal.the-variants.{NotLoggedIn, OtherDay, OutOfLine, BrokenChain, TooSmall}
+use Rattle.ftd.specs.declared.refusal.Refusal.the-variants.{UnknownSeries, NotLoggedIn, OtherDay, OutOfLine}
+use Rattle.ftd.specs.declared.refusal.Refusal.the-variants.{BrokenChain, TooSmall}
 use Rattle.ftd.specs.declared.tags.TradeDate.{TradeDate}
 use Rattle.ftd.specs.declared.tags.PacketPlace.{PacketPlace}
 use Rattle.ftd.specs.declared.packet.Span.{Span}
@@ -25,7 +23,12 @@ use Rattle.flow.specs.declared.receiver.Origin.the-variants.{Packet as F
 use Rattle.flow.specs.declared.receiver.Received.{Received}
 use Rattle.flow.specs.declared.receiver.Received.the-variants.{Duplicate, Partial, Complete}
 use Rattle.flow.specs.declared.receiver.Received.the-variants.{Refused as NotTaken}
-use Rattle.flow.specs.Ends.{_when_else_, Wrote, wrote, mostSeries, differs, loggedIn, holding}
+use Rattle.flow.specs.declared.receiver.Target.{Target}
+use Rattle.flow.specs.declared.receiver.Target.the-variants.{Nothing}
+use Rattle.flow.specs.declared.receiver.Target.the-variants.{At as To}
+use Rattle.flow.specs.declared.receiver.Decision.{Decision}
+use Rattle.flow.specs.Ends.{_when_else_, mostSeries, before, differs, indexOf, loggedIn, holding}
+use Rattle.flow.specs.Ends.{keptSeries, isOpen, keptOf, liveOf}
 use Rattle.flow.specs.Helpers.{seriesAt}
 use Rattle.flow.specs.Receiving.{outOfLine, brokenChain, misplaced, oneMore}
 
@@ -34,10 +37,6 @@ use Rattle.flow.specs.Receiving.{outOfLine, brokenChain, misplaced, oneM
 -- All parts of the buffer, by the count of the open series; a count above 8 is 8.
 abbrev pub partsOf : ℕ → ℕ
 partsOf count = mostContent * count when ltb count mostSeries else mostContent * mostSeries
-
--- A place has a part of the buffer.
-abbrev pub InParts : ℕ → ℕ → Type 0
-InParts i count = (i < count) × (i < mostSeries)
 
 -- 18, by the buffer's length and the piece's: shorter than all parts, or the chain passes 32,768.
 abbrev pub noRoom : ℕ → ℕ → ℕ → ℕ → Bool
@@ -56,63 +55,78 @@ wrongPiece live h place Last = outOfChain live h place
 
 -- ─── What a packet leaves of its series ───
 
--- With every byte of the buffer.
-pub record OneWrote : Type 0 where
-  pub step : OneStep
-  pub bytes : List ℕ
-
-abbrev pub leaves : OneStep → List ℕ → OneWrote
-leaves step bytes = record { step = step; bytes = bytes }
-
-abbrev pub oneStep : KeptSeries → LiveSeries → Received → OneStep
-oneStep kept live answer = record { kept = kept; live = live; answer = answer }
+abbrev pub oneStep : KeptSeries → LiveSeries → Received → Target → OneStep
+oneStep kept live answer target = record { kept = kept; live = live; answer = answer; target = target }
 
 -- A way out that drops the chain.
 abbrev pub oneDropping : KeptSeries → Received → OneStep
-oneDropping kept answer = oneStep kept loggedIn answer
+oneDropping kept answer = oneStep kept loggedIn answer Nothing
 
 -- A message is handed on: its number is the last one, and no chain is open.
-abbrev pub oneCompleting : KeptSeries → Header → Origin → Span → OneStep
-oneCompleting kept h origin at =
+abbrev pub oneCompleting : KeptSeries → Header → Origin → Span → Target → OneStep
+oneCompleting kept h origin at target =
     oneStep (record { series = kept .series; date = kept .date; last = h .number }) loggedIn
-    (Complete (h .number) (h .tid) origin at)
+    (Complete (h .number) (h .tid) origin at) target
 
 -- The next piece is held: its chain is open with so many bytes, and one piece more.
-abbrev pub oneKeeping : KeptSeries → ℕ → ℕ → ℕ → OneStep
-oneKeeping kept tid held pieces = oneStep kept (holding tid held (oneMore pieces)) (Partial (kept .last))
+abbrev pub oneKeeping : KeptSeries → ℕ → ℕ → ℕ → Target → OneStep
+oneKeeping kept tid held pieces target =
+    oneStep kept (holding tid held (oneMore pieces)) (Partial (kept .last)) target
 
--- A piece behind `held` bytes of its chain, so many pieces; the last one makes it whole.
-unfoldable pub oneHolds : KeptSeries → ℕ → ℕ → Header → ℕ → ℕ → Bool → List ℕ → List ℕ → OneWrote
-oneHolds kept i count h held pieces whole content buffer =
-    leaves (oneDropping kept (NotTaken TooSmall)) buffer when noRoom count (length buffer) held (length content) else
-    leaves (oneCompleting kept h FromBuffer (span (mostContent * i) (held + length content)))
-    (put buffer (mostContent * i + held) content) when whole else
-    leaves (oneKeeping kept (h .tid) (held + length content) pieces) (put buffer (mostContent * i + held) content)
+-- A piece of so many bytes (`more`) behind `held` bytes of its chain, so many pieces, for a buffer of so many (`size`);
+-- the last one makes it whole.
+unfoldable pub oneHolds : KeptSeries → ℕ → ℕ → Header → ℕ → ℕ → Bool → ℕ → ℕ → OneStep
+oneHolds kept i count h held pieces whole more size =
+    oneDropping kept (NotTaken TooSmall) when noRoom count size held more else
+    oneCompleting kept h FromBuffer (span (mostContent * i) (held + more)) (To (mostContent * i + held)) when whole else
+    oneKeeping kept (h .tid) (held + more) pieces (To (mostContent * i + held))
 
 -- The next number's packet, by its chain letter.
-abbrev pub oneTaken : KeptSeries → LiveSeries → ℕ → ℕ → Header → Span → List ℕ → List ℕ → Chain → OneWrote
-oneTaken kept live i count h at content buffer Single = leaves (oneCompleting kept h FromPacket at) buffer
-oneTaken kept live i count h at content buffer First = oneHolds kept i count h 0 0 false content buffer
-oneTaken kept live i count h at content buffer Middle =
-    oneHolds kept i count h (live .held) (live .pieces) false content buffer
-oneTaken kept live i count h at content buffer Last =
-    oneHolds kept i count h (live .held) (live .pieces) true content buffer
+abbrev pub oneTaken : KeptSeries → LiveSeries → ℕ → ℕ → Header → Span → ℕ → Chain → OneStep
+oneTaken kept live i count h at size Single = oneCompleting kept h FromPacket at Nothing
+oneTaken kept live i count h at size First = oneHolds kept i count h 0 0 false (at .len) size
+oneTaken kept live i count h at size Middle =
+    oneHolds kept i count h (live .held) (live .pieces) false (at .len) size
+oneTaken kept live i count h at size Last =
+    oneHolds kept i count h (live .held) (live .pieces) true (at .len) size
 
-abbrev pub onePiece : KeptSeries → LiveSeries → ℕ → ℕ → Header → PacketPlace → Span → List ℕ → List ℕ → Chain → OneWrote
-onePiece kept live i count h place at content buffer chain =
-    leaves (oneDropping kept (NotTaken BrokenChain)) buffer when wrongPiece live h place chain else
-    oneTaken kept live i count h at content buffer chain
+abbrev pub onePiece : KeptSeries → LiveSeries → ℕ → ℕ → Header → PacketPlace → Span → ℕ → Chain → OneStep
+onePiece kept live i count h place at size chain =
+    oneDropping kept (NotTaken BrokenChain) when wrongPiece live h place chain else
+    oneTaken kept live i count h at size chain
 
--- A message packet of an open series: rows 14 to 18.
-unfoldable pub takesOne : KeptSeries → LiveSeries → ℕ → ℕ → Header → TradeDate → PacketPlace → Span → List ℕ → List ℕ
-    → OneWrote
-takesOne kept live i count h date place at content buffer =
-    leaves (oneStep kept live (NotTaken NotLoggedIn)) buffer when not (live .login) else
-    leaves (oneDropping kept (NotTaken OtherDay)) buffer when differs date (kept .date) else
-    leaves (oneDropping kept (NotTaken OutOfLine)) buffer when outOfLine (kept .last) (h .number) else
-    leaves (oneDropping kept (Duplicate (kept .last))) buffer when leb (h .number) (kept .last) else
-    onePiece kept live i count h place at content buffer (h .chain)
+-- A message packet of an open series: rows 14 to 18; 15 also of a day before some trade date.
+unfoldable pub takesOne : TradeDate → KeptSeries → LiveSeries → ℕ → ℕ → Header → TradeDate → PacketPlace → Span → ℕ
+    → OneStep
+takesOne floor kept live i count h date place at size =
+    oneStep kept live (NotTaken NotLoggedIn) Nothing when not (live .login) else
+    oneDropping kept (NotTaken OtherDay) when differs date (kept .date) else
+    oneDropping kept (NotTaken OtherDay) when before (kept .date) floor else
+    oneDropping kept (NotTaken OutOfLine) when outOfLine (kept .last) (h .number) else
+    oneDropping kept (Duplicate (kept .last)) when leb (h .number) (kept .last) else
+    onePiece kept live i count h place at size (h .chain)
+
+-- ─── What is decided on a packet ───
+
+-- The end stays.
+abbrev pub stayed : Receiver → Received → ℕ → Span → Decision
+stayed e answer s at = record { end = e; answer = answer; series = s; content = at; target = Nothing }
 
 -- What is left of the series is put back at its place.
-abbrev pub putBack : Receiver → ℕ → OneWrote → Wrote Receiver Received
-putBack e i w = wrote (seriesAt e i (w .step .kept) (w .step .live)) (w .step .answer) (w .bytes)
+abbrev pub putBack : Receiver → ℕ → ℕ → Span → OneStep → Decision
+putBack e i s at r =
+    record {
+      end = seriesAt e i (r .kept) (r .live);
+      answer = r .answer;
+      series = s;
+      content = at;
+      target = r .target;
+    }
+
+-- A message packet: rows 13 to 18.
+unfoldable pub decidesWith : TradeDate → Receiver → Header → TradeDate → PacketPlace → Span → ℕ → Decision
+decidesWith floor e h date place at size =
+    let s = h .series in
+    let i = indexOf s (keptSeries e) in
+    stayed e (NotTaken UnknownSeries) s at when not (isOpen e s) else
+    putBack e i s at (takesOne floor (keptOf e s) (liveOf e s) i (e .kept .count) h date place at size)

@@ -4,7 +4,7 @@ ghost use Rattle.flow.specs.Ends.{before, upTo, differs};
 use ftd::tags::TradeDate;
 
 // A trade date is at most as high as another one that is there.
-pub(crate) fn is_up_to(date: u32, other: TradeDate) -> bool
+pub fn is_up_to(date: u32, other: TradeDate) -> bool
     ensures { λ r. ⌜ r ≡ upTo date other ⌝ }
 {
     match other {
@@ -21,7 +21,7 @@ pub(crate) fn is_up_to(date: u32, other: TradeDate) -> bool
 }
 
 // Both are there, and the first is below the second.
-pub(crate) fn before(a: TradeDate, b: TradeDate) -> bool
+pub fn before(a: TradeDate, b: TradeDate) -> bool
     ensures { λ r. ⌜ r ≡ before a b ⌝ }
 {
     match a {

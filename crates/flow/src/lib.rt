@@ -10,7 +10,7 @@ ghost use Rattle.flow.specs.Shares.{Shares};
 
 pub mod limits; // the limits of both
 pub mod series; // series in a list
-mod days; // trade dates compared
+pub mod days; // trade dates compared
 mod header; // tests on a login packet
 mod log; // the log of the serving end
 mod login; // the serving end's Login

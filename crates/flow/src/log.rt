@@ -1,11 +1,12 @@
 // The log of the serving end (01, "The serving end", row 20): entry behind entry in one lent slice, an entry written,
 // and the walk up to the entry wanted.
-ghost use mathlib.Core.List.{[]};
+ghost use mathlib.Core.List.{[], _++_};
 ghost use mathlib.Core.Path.{_≡_};
 ghost use Prim.Native.Nat.{suc, _+_, _-_, _<_, _≤_};
 ghost use lib.ListN.{length, drop};
 ghost use lib.Dec.{eqb};
 ghost use Rattle.ftd.specs.Bytes.{put};
+ghost use Rattle.ftd.specs.Fields.{mostContent};
 ghost use Rattle.ftd.specs.Runs.{front, runOf};
 ghost use Rattle.flow.specs.Log.{entryBytes, entry, walk, entryOf};
 ghost use Rattle.flow.specs.Helpers.{checked, PlaceInside, EntryIn};
@@ -33,24 +34,38 @@ pub(crate) enum EntryStep {
     Passed { place: usize, number: u32 },
 }
 
-// An entry is put at a place: series 2 bytes, zero 2, TID 4, number 4, content length 4, then the content.
+// How many bytes the entry of a content takes that lies in two parts.
+pub(crate) fn entry_length(head: &[u8], tail: &[u8]) -> usize
+    requires { ⌜ length (now head ++ now tail) ≤ mostContent ⌝ }
+    ensures { λ r. ⌜ r ≡ 16 + length (now (head .entry) ++ now (tail .entry)) ⌝ }
+{
+    16 + (head.len() + tail.len())
+}
+
+// An entry is put at a place: series 2 bytes, zero 2, TID 4, number 4, content length 4, then the content, which lies
+// in two parts, one behind the other.
 pub(crate) fn put_entry(
     log: &mut [u8],
     at: usize,
     series: u16,
     tid: u32,
     number: u32,
-    content: &[u8],
+    head: &[u8],
+    tail: &[u8],
 )
-    requires { ⌜ (at + 16 + length (now content) ≤ length (now log)) × (length (now content) < 4294967296) ⌝ }
-    ensures { λ _. ⌜ now (log .exit) ≡ put (now (log .entry)) at (entryBytes series tid number (now (content .entry))) ⌝ }
+    requires { ⌜ (at + 16 + length (now head ++ now tail) ≤ length (now log))
+        × (length (now head ++ now tail) < 4294967296) ⌝ }
+    ensures { λ _. ⌜ now (log .exit) ≡ put (now (log .entry)) at
+        (entryBytes series tid number (now (head .entry) ++ now (tail .entry))) ⌝ }
 {
+    let n = head.len() + tail.len();
     put16(log, at, series);
     put16(log, at + 2, 0);
     put32(log, at + 4, tid);
     put32(log, at + 8, number);
-    put32(log, at + 12, (content.len() % 4294967296) as u32);
-    copy_at(log, at + 16, content);
+    put32(log, at + 12, (n % 4294967296) as u32);
+    copy_at(log, at + 16, head);
+    copy_at(log, at + 16 + head.len(), tail);
 }
 
 // How many bytes the entry at a place takes; 0 where none stands there whole.

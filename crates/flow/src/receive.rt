@@ -1,23 +1,22 @@
 // Receive at the receiving end (01, "The receiving end"): its tests in the refusal table's order, and its answer. The
-// packet's series is taken out of the end, decided on, and put back once.
+// packet's series is taken out of the end, decided on, and put back once. Nothing is written (02, No. 3).
 ghost use mathlib.Core.Path.{_≡_};
-ghost use Prim.Native.Nat.{_+_, _≤_};
-ghost use lib.ListN.{length};
-ghost use Rattle.ftd.specs.Bytes.{put};
-ghost use Rattle.ftd.specs.Fields.{mostContent};
-ghost use Rattle.flow.specs.Ends.{wrote};
-ghost use Rattle.flow.specs.Receiving.{outOfLine, brokenChain, misplaced, oneMore, receiveWith};
-ghost use Rattle.flow.specs.ReceiveHelpers.{partsOf, noRoom, InParts, outOfChain, wrongPiece, leaves};
-ghost use Rattle.flow.specs.ReceiveHelpers.{oneDropping, oneCompleting, oneKeeping, oneHolds, onePiece, takesOne};
+ghost use Prim.Native.Nat.{_+_, _<_};
+ghost use lib.Dec.{leb};
+ghost use Rattle.flow.specs.Ends.{loggedIn};
+ghost use Rattle.flow.specs.Receiving.{outOfLine, brokenChain, misplaced, oneMore};
+ghost use Rattle.flow.specs.ReceiveHelpers.{partsOf, noRoom, outOfChain, wrongPiece, oneStep, oneDropping};
+ghost use Rattle.flow.specs.ReceiveHelpers.{oneCompleting, oneKeeping, oneHolds, onePiece, takesOne, decidesWith};
+use crate::days::before;
 use crate::days::differs;
+use crate::receiver::Decision;
 use crate::receiver::KeptSeries;
 use crate::receiver::LiveSeries;
 use crate::receiver::Origin;
-use crate::receiver::ReceiveStep;
 use crate::receiver::Received;
 use crate::receiver::Receiver;
+use crate::receiver::Target;
 use crate::series::SeriesPlace;
-use ftd::bytes::copy_at;
 use ftd::bytes::number16;
 use ftd::packet::Chain;
 use ftd::packet::Header;
@@ -26,11 +25,12 @@ use ftd::refusal::Refusal;
 use ftd::tags::PacketPlace;
 use ftd::tags::TradeDate;
 
-// What a packet leaves of its series, and the answer.
+// What a packet leaves of its series, the answer, and where its content is copied.
 pub(crate) struct OneStep {
     pub kept: KeptSeries,
     pub live: LiveSeries,
     pub answer: Received,
+    pub target: Target,
 }
 
 // Refusal 16: number 0, above last + 1 or above 1,000,000.
@@ -122,18 +122,9 @@ fn no_room(count: usize, size: usize, held: usize, more: usize) -> bool
     Receiver::PART - more < held
 }
 
-// A piece is copied behind the bytes that are held in a part of the buffer.
-fn put_piece(buffer: &mut [u8], start: usize, held: usize, content: &[u8])
-    requires { ⌜ (start + mostContent ≤ length (now buffer)) × (held + length (now content) ≤ mostContent) ⌝ }
-    ensures { λ _. ⌜ now (buffer .exit) ≡ put (now (buffer .entry)) (start + held) (now (content .entry)) ⌝ }
-{
-    let end = start + Receiver::PART;
-    copy_at(&mut buffer[start..end], held, content);
-}
-
-// A way out that drops the chain: logged in, and last stays.
-fn drop_chain(kept: KeptSeries, answer: Received) -> OneStep
-    ensures { λ r. ⌜ r ≡ oneDropping kept answer ⌝ }
+// A way out with no chain: logged in.
+fn leave(kept: KeptSeries, answer: Received, target: Target) -> OneStep
+    ensures { λ r. ⌜ r ≡ oneStep kept loggedIn answer target ⌝ }
 {
     OneStep {
         kept: kept,
@@ -145,15 +136,23 @@ fn drop_chain(kept: KeptSeries, answer: Received) -> OneStep
             pieces: 0,
         },
         answer: answer,
+        target: target,
     }
 }
 
+// A way out that drops the chain: last stays, and nothing is copied.
+fn drop_chain(kept: KeptSeries, answer: Received) -> OneStep
+    ensures { λ r. ⌜ r ≡ oneDropping kept answer ⌝ }
+{
+    leave(kept, answer, Target::Nothing)
+}
+
 // A message is handed on: its number is the last one, and no chain is open.
-fn complete(kept: KeptSeries, h: Header, origin: Origin, content: Span) -> OneStep
-    ensures { λ r. ⌜ r ≡ oneCompleting kept h origin content ⌝ }
+fn complete(kept: KeptSeries, h: Header, origin: Origin, content: Span, target: Target) -> OneStep
+    ensures { λ r. ⌜ r ≡ oneCompleting kept h origin content target ⌝ }
 {
     let date = kept.date;
-    drop_chain(
+    leave(
         KeptSeries {
             series: kept.series,
             date: date,
@@ -165,12 +164,13 @@ fn complete(kept: KeptSeries, h: Header, origin: Origin, content: Span) -> OneSt
             origin: origin,
             content: content,
         },
+        target,
     )
 }
 
 // The next piece is held: its chain is open with so many bytes, and one piece more.
-fn keep_chain(kept: KeptSeries, tid: u32, held: usize, pieces: u32) -> OneStep
-    ensures { λ r. ⌜ r ≡ oneKeeping kept tid held pieces ⌝ }
+fn keep_chain(kept: KeptSeries, tid: u32, held: usize, pieces: u32, target: Target) -> OneStep
+    ensures { λ r. ⌜ r ≡ oneKeeping kept tid held pieces target ⌝ }
 {
     OneStep {
         kept: kept,
@@ -182,10 +182,11 @@ fn keep_chain(kept: KeptSeries, tid: u32, held: usize, pieces: u32) -> OneStep
             pieces: one_more(pieces),
         },
         answer: Received::Partial(kept.last),
+        target: target,
     }
 }
 
-// A piece behind the bytes held of its chain, so many pieces; 18. The last one hands the message on.
+// A piece of so many bytes behind the bytes held of its chain, so many pieces; 18. The last one hands the message on.
 fn hold(
     kept: KeptSeries,
     i: usize,
@@ -194,30 +195,30 @@ fn hold(
     held: usize,
     pieces: u32,
     whole: bool,
-    content: &[u8],
-    buffer: &mut [u8],
+    more: usize,
+    size: usize,
 ) -> OneStep
-    requires { ⌜ InParts i count ⌝ }
-    ensures { λ r. ⌜ leaves r (now (buffer .exit)) ≡ oneHolds kept i count h held pieces whole (now (content .entry))
-        (now (buffer .entry)) ⌝ }
+    requires { ⌜ i < 8 ⌝ }
+    ensures { λ r. ⌜ r ≡ oneHolds kept i count h held pieces whole more size ⌝ }
 {
-    if no_room(count, buffer.len(), held, content.len()) {
+    if no_room(count, size, held, more) {
         return drop_chain(kept, Received::Refused(Refusal::TooSmall));
     }
     let start = Receiver::PART * i;
-    let len = held + content.len();
-    put_piece(buffer, start, held, content);
+    let len = held + more;
+    let target = Target::At(start + held);
     if whole {
         let all = Span {
             start: start,
             len: len,
         };
-        return complete(kept, h, Origin::Buffer, all);
+        return complete(kept, h, Origin::Buffer, all, target);
     }
-    keep_chain(kept, h.tid, len, pieces)
+    keep_chain(kept, h.tid, len, pieces, target)
 }
 
-// The next number's packet, by its chain letter; 17 and 18. F starts a chain, replacing any.
+// The next number's packet, by its chain letter, for a buffer of so many bytes; 17 and 18. F starts a chain, replacing
+// any.
 fn take_piece(
     kept: KeptSeries,
     live: LiveSeries,
@@ -226,30 +227,30 @@ fn take_piece(
     h: Header,
     place: PacketPlace,
     at: Span,
-    content: &[u8],
-    buffer: &mut [u8],
+    size: usize,
 ) -> OneStep
-    requires { ⌜ InParts i count ⌝ }
-    ensures { λ r. ⌜ leaves r (now (buffer .exit)) ≡ onePiece kept live i count h place at (now (content .entry))
-        (now (buffer .entry)) (h .chain) ⌝ }
+    requires { ⌜ i < 8 ⌝ }
+    ensures { λ r. ⌜ r ≡ onePiece kept live i count h place at size (h .chain) ⌝ }
 {
     if wrong_piece(live, h, place) {
         return drop_chain(kept, Received::Refused(Refusal::BrokenChain));
     }
     let held = live.held;
     let pieces = live.pieces;
+    let more = at.len;
     let chain = h.chain;
     match chain {
-        Chain::Single => complete(kept, h, Origin::Packet, at),
-        Chain::First => hold(kept, i, count, h, 0, 0, false, content, buffer),
-        Chain::Middle => hold(kept, i, count, h, held, pieces, false, content, buffer),
-        Chain::Last => hold(kept, i, count, h, held, pieces, true, content, buffer),
+        Chain::Single => complete(kept, h, Origin::Packet, at, Target::Nothing),
+        Chain::First => hold(kept, i, count, h, 0, 0, false, more, size),
+        Chain::Middle => hold(kept, i, count, h, held, pieces, false, more, size),
+        Chain::Last => hold(kept, i, count, h, held, pieces, true, more, size),
     }
 }
 
 // A message packet of an open series, by what is kept of it, what it has on this connection, its place and the count of
-// the open ones: 14, 15, 16, again, and then its piece.
+// the open ones: 14, 15, also of a day before some trade date, 16, again, and then its piece.
 fn take_one(
+    floor: TradeDate,
     kept: KeptSeries,
     live: LiveSeries,
     i: usize,
@@ -258,16 +259,17 @@ fn take_one(
     date: TradeDate,
     place: PacketPlace,
     at: Span,
-    content: &[u8],
-    buffer: &mut [u8],
+    size: usize,
 ) -> OneStep
-    requires { ⌜ InParts i count ⌝ }
-    ensures { λ r. ⌜ leaves r (now (buffer .exit)) ≡ takesOne kept live i count h date place at (now (content .entry))
-        (now (buffer .entry)) ⌝ }
+    requires { ⌜ i < 8 ⌝ }
+    ensures { λ r. ⌜ r ≡ takesOne floor kept live i count h date place at size ⌝ }
 {
     if live.login {
         let own = kept.date;
         if differs(date, own) {
+            return drop_chain(kept, Received::Refused(Refusal::OtherDay));
+        }
+        if before(own, floor) {
             return drop_chain(kept, Received::Refused(Refusal::OtherDay));
         }
         if out_of_line(kept.last, h.number) {
@@ -276,33 +278,36 @@ fn take_one(
         if h.number <= kept.last {
             return drop_chain(kept, Received::Duplicate(kept.last));
         }
-        return take_piece(kept, live, i, count, h, place, at, content, buffer);
+        return take_piece(kept, live, i, count, h, place, at, size);
     }
     OneStep {
         kept: kept,
         live: live,
         answer: Received::Refused(Refusal::NotLoggedIn),
+        target: Target::Nothing,
     }
 }
 
-// A message packet, as header, trade date, place in its message, and place and bytes of its content: 13 to 18, again,
-// or a piece. Its series is taken out of the end and put back once.
+// A message packet, as header, trade date, place in its message and place of its content, for a buffer of so many
+// bytes: 13 to 18, again, or a piece. Its series is taken out of the end and put back once.
 pub(crate) fn take_packet(
     e: Receiver,
+    floor: TradeDate,
     h: Header,
     date: TradeDate,
     place: PacketPlace,
     at: Span,
-    content: &[u8],
-    buffer: &mut [u8],
-) -> ReceiveStep
-    ensures { λ r. ⌜ wrote (r .end) (r .answer) (now (buffer .exit)) ≡ receiveWith e h date place at
-        (now (content .entry)) (now (buffer .entry)) ⌝ }
+    size: usize,
+) -> Decision
+    ensures { λ r. ⌜ r ≡ decidesWith floor e h date place at size ⌝ }
 {
     match e.find(h.series) {
-        SeriesPlace::Unknown => ReceiveStep {
+        SeriesPlace::Unknown => Decision {
             end: e,
             answer: Received::Refused(Refusal::UnknownSeries),
+            series: h.series,
+            content: at,
+            target: Target::Nothing,
         },
         SeriesPlace::At(i) => {
             let all = e.kept;
@@ -310,14 +315,28 @@ pub(crate) fn take_packet(
             let kept = all.series[i];
             let line = e.live;
             let live = line.series[i];
-            let step = take_one(kept, live, i, count, h, date, place, at, content, buffer);
+            let step = take_one(floor, kept, live, i, count, h, date, place, at, size);
             let left = step.kept;
             let now = step.live;
             let answer = step.answer;
-            ReceiveStep {
+            let target = step.target;
+            Decision {
                 end: e.with_at(i, left, now),
                 answer: answer,
+                series: h.series,
+                content: at,
+                target: target,
             }
         }
     }
+}
+
+// A piece of so many bytes fits at a place of a buffer of so many.
+pub(crate) fn fits_at(at: usize, more: usize, size: usize) -> bool
+    ensures { λ r. ⌜ r ≡ leb (at + more) size ⌝ }
+{
+    if size < more {
+        return false;
+    }
+    at <= size - more
 }

@@ -5,18 +5,24 @@ ghost use mathlib.Core.Path.{_≡_};
 ghost use Prim.Native.Nat.{_<_, _≤_};
 ghost use lib.ListN.{length, replicate};
 ghost use Rattle.ftd.specs.Fields.{shaped};
+ghost use Rattle.ftd.specs.Packet.{span};
+ghost use Rattle.flow.specs.Deciding.{Decides, droppedOf, copiedTo};
 ghost use Rattle.flow.specs.Ends.{wrote, requestContent, freshReceiver, receiverLimits, filled, newKept, noLive, mostSeries};
 ghost use Rattle.flow.specs.Helpers.{FindsKept, seriesAt};
 ghost use Rattle.flow.specs.Promises.{OpensEnd, Connects, Asks, Confirms, Receives};
 ghost use Rattle.flow.specs.Receiving.{nextWanted};
+ghost use Rattle.flow.specs.ReceiveHelpers.{stayed};
 ghost use Rattle.flow.specs.RequestHelpers.{requestAt};
+ghost use Rattle.flow.specs.World.{seriesIn};
 use crate::confirm::confirm_with;
 use crate::header::not_one_message;
 use crate::limits::Limits;
+use crate::receive::fits_at;
 use crate::receive::take_packet;
 use crate::sender::Opened;
 use crate::series::SeriesPlace;
 use crate::series::wrong_series;
+use ftd::bytes::copy_at;
 use ftd::composition::Direction;
 use ftd::content::check_content;
 use ftd::fields::count_field;
@@ -99,6 +105,23 @@ pub enum Received {
     Refused(Refusal),
 }
 
+// Where the content of a packet is copied that Receive takes: nowhere, or to a place of the reassembly buffer, behind
+// the bytes that are held.
+pub enum Target {
+    Nothing,
+    At(usize),
+}
+
+// What Receive decides before a byte is written: the end and the answer that it leaves, the packet's series, where the
+// packet's content lies in it, and where that is copied.
+pub struct Decision {
+    pub end: Receiver,
+    pub answer: Received,
+    pub series: u16,
+    pub content: Span,
+    pub target: Target,
+}
+
 // What a call leaves: the end, and its answer. Ask leaves the end as it is, and Connect answers nothing.
 pub struct OpenStep {
     pub end: Receiver,
@@ -160,6 +183,47 @@ fn next_wanted(last: u32) -> u32
         return last + 1;
     }
     0
+}
+
+// The end stays as it is; nothing is copied.
+fn stay(e: Receiver, answer: Received, series: u16) -> Decision
+    ensures { λ r. ⌜ r ≡ stayed e answer series (span 0 0) ⌝ }
+{
+    Decision {
+        end: e,
+        answer: answer,
+        series: series,
+        content: Span { start: 0, len: 0 },
+        target: Target::Nothing,
+    }
+}
+
+// The series in the header of what was read; 0 where there is none.
+fn series_in(read: Packet) -> u16
+    ensures { λ r. ⌜ r ≡ seriesIn read ⌝ }
+{
+    match read {
+        Packet::Message {
+            header,
+            extension: _,
+            content: _,
+        } => header.series,
+        _ => 0,
+    }
+}
+
+// The piece that was decided on is copied.
+pub fn copy_piece(target: Target, content: &[u8], buffer: &mut [u8])
+    ensures { λ _. ⌜ now (buffer .exit) ≡ copiedTo target (now (content .entry)) (now (buffer .entry)) ⌝ }
+{
+    match target {
+        Target::Nothing => {}
+        Target::At(n) => {
+            if fits_at(n, content.len(), buffer.len()) {
+                copy_at(buffer, n, content);
+            }
+        }
+    }
 }
 
 impl Receiver {
@@ -350,42 +414,72 @@ impl Receiver {
         }
     }
 
-    // Receive: a packet. A piece of a chain is copied into the series' part of the reassembly buffer.
-    pub fn receive(self, packet: &[u8], buffer: &mut [u8]) -> ReceiveStep
-        ensures { λ r. ⌜ Receives self (now (packet .entry)) (now (buffer .entry)) r (now (buffer .exit)) ⌝ }
+    // What Receive decides, for an end that takes nothing of a day before a trade date; nothing is written (02, No. 3).
+    pub fn decide(self, floor: TradeDate, packet: &[u8], buffer: &[u8]) -> Decision
+        ensures { λ r. ⌜ Decides self floor (now (packet .entry)) (now (buffer .entry)) r ⌝ }
     {
-        if not_one_packet(packet) {
-            return ReceiveStep {
-                end: self,
-                answer: Received::Refused(Refusal::NotOnePacket),
-            };
-        }
         let d = read_dated(packet);
         let read = d.packet;
         let date = d.date;
         let place = d.place;
+        if not_one_packet(packet) {
+            return stay(
+                self,
+                Received::Refused(Refusal::NotOnePacket),
+                series_in(read),
+            );
+        }
         match read {
             Packet::Message {
                 header,
                 extension: _,
                 content: span,
-            } => {
-                let at = span.start;
-                let n = span.len;
-                take_packet(self, header, date, place, span, &packet[at..at + n], buffer)
+            } => take_packet(self, floor, header, date, place, span, buffer.len()),
+            Packet::Refused(r) => stay(self, Received::Refused(r), 0),
+            Packet::Short(_) => stay(self, Received::Refused(Refusal::NotOnePacket), 0),
+            _ => stay(self, Received::Idle, 0),
+        }
+    }
+
+    // The chain of a series is dropped.
+    pub fn drop_chain(self, series: u16) -> Receiver
+        ensures { λ r. ⌜ r ≡ droppedOf self series ⌝ }
+    {
+        match self.find(series) {
+            SeriesPlace::Unknown => self,
+            SeriesPlace::At(i) => {
+                let all = self.kept;
+                let kept = all.series[i];
+                self.with_at(
+                    i,
+                    kept,
+                    LiveSeries {
+                        login: true,
+                        chain: false,
+                        tid: 0,
+                        held: 0,
+                        pieces: 0,
+                    },
+                )
             }
-            Packet::Refused(r) => ReceiveStep {
-                end: self,
-                answer: Received::Refused(r),
-            },
-            Packet::Short(_) => ReceiveStep {
-                end: self,
-                answer: Received::Refused(Refusal::NotOnePacket),
-            },
-            _ => ReceiveStep {
-                end: self,
-                answer: Received::Idle,
-            },
+        }
+    }
+
+    // Receive: a packet. A piece of a chain is copied into the series' part of the reassembly buffer.
+    pub fn receive(self, packet: &[u8], buffer: &mut [u8]) -> ReceiveStep
+        ensures { λ r. ⌜ Receives self (now (packet .entry)) (now (buffer .entry)) r (now (buffer .exit)) ⌝ }
+    {
+        let d = self.decide(TradeDate::None, packet, buffer);
+        let end = d.end;
+        let answer = d.answer;
+        let target = d.target;
+        let span = d.content;
+        let at = span.start;
+        let n = span.len;
+        copy_piece(target, &packet[at..at + n], buffer);
+        ReceiveStep {
+            end: end,
+            answer: answer,
         }
     }
 }

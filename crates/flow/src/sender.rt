@@ -1,4 +1,5 @@
 // The serving end (01, "The serving end"): its state by value, and what its calls answer.
+ghost use mathlib.Core.List.{_++_};
 ghost use mathlib.Core.Option.{some};
 ghost use mathlib.Core.Path.{_≡_};
 ghost use Prim.Native.Nat.{_≤_, _<_};
@@ -19,6 +20,7 @@ use crate::header::not_one_message;
 use crate::limits::Limits;
 use crate::limits::Most;
 use crate::log::EntryPlace;
+use crate::log::entry_length;
 use crate::log::find_entry;
 use crate::log::put_entry;
 use crate::login::log_in;
@@ -36,6 +38,7 @@ use ftd::content::check_content;
 use ftd::items::Checked;
 use ftd::packet::Packet;
 use ftd::packet::read_dated;
+use ftd::parts::check_parts;
 use ftd::refusal::Refusal;
 use ftd::tags::TradeDate;
 use ftd::write::Written;
@@ -241,7 +244,7 @@ impl Sender {
     }
 
     // Where a series stands among the open ones: its first place.
-    pub(crate) fn find(self, series: u16) -> SeriesPlace
+    pub fn find(self, series: u16) -> SeriesPlace
         ensures { λ r. ⌜ Finds self series r ⌝ }
     {
         let day = self.day;
@@ -316,21 +319,24 @@ impl Sender {
     }
 
     // Publish in a series found, of content that passed: 20, 18 and 21, then the entry behind the used part of the log.
+    // The content lies in two parts, one behind the other.
     fn publish_at(
         self,
         at: usize,
         series: u16,
         tid: u32,
-        content: &[u8],
+        head: &[u8],
+        tail: &[u8],
         log: &mut [u8],
     ) -> PublishStep
-        requires { ⌜ (contentCheck tid Down (now content) mostContent ≡ Passed) × Finds self series (At at) ⌝ }
-        ensures { λ r. ⌜ Publishes self series tid (now (content .entry)) (now (log .entry)) r (now (log .exit)) ⌝ }
+        requires { ⌜ (contentCheck tid Down (now head ++ now tail) mostContent ≡ Passed) × Finds self series (At at) ⌝ }
+        ensures { λ r. ⌜ Publishes self series tid (now (head .entry) ++ now (tail .entry)) (now (log .entry)) r
+            (now (log .exit)) ⌝ }
     {
         let mut day = self.day;
         let seat = self.seat;
         let one = day.series[at];
-        let size = 16 + content.len();
+        let size = entry_length(head, tail);
         if log.len() < day.used {
             return self.not_published(Refusal::DamagedLog);
         }
@@ -344,7 +350,7 @@ impl Sender {
             return self.not_published(Refusal::DayFull);
         }
         let number = one.published + 1;
-        put_entry(log, day.used, series, tid, number, content);
+        put_entry(log, day.used, series, tid, number, head, tail);
         day.series[at] = DaySeries {
             series: series,
             published: number,
@@ -361,19 +367,50 @@ impl Sender {
         }
     }
 
+    // Publish of content that passed: 13, or in the series found.
+    fn publish_passed(
+        self,
+        series: u16,
+        tid: u32,
+        head: &[u8],
+        tail: &[u8],
+        log: &mut [u8],
+    ) -> PublishStep
+        requires { ⌜ contentCheck tid Down (now head ++ now tail) mostContent ≡ Passed ⌝ }
+        ensures { λ r. ⌜ Publishes self series tid (now (head .entry) ++ now (tail .entry)) (now (log .entry)) r
+            (now (log .exit)) ⌝ }
+    {
+        match self.find(series) {
+            SeriesPlace::Unknown => self.not_published(Refusal::UnknownSeries),
+            SeriesPlace::At(at) => self.publish_at(at, series, tid, head, tail, log),
+        }
+    }
+
     // Publish: series, TID and content; 7 to 10, 13, 20, 18 and 21. It writes the message's entry into the log.
     pub fn publish(self, series: u16, tid: u32, content: &[u8], log: &mut [u8]) -> PublishStep
         ensures { λ r. ⌜ Publishes self series tid (now (content .entry)) (now (log .entry)) r (now (log .exit)) ⌝ }
     {
         match check_content(tid, Direction::Down, content, Sender::MOST_CONTENT) {
-            Checked::Refused(r) => {
-                return self.not_published(r);
-            }
-            Checked::Passed => {}
+            Checked::Refused(r) => self.not_published(r),
+            Checked::Passed => self.publish_passed(series, tid, &content[..0], content, log),
         }
-        match self.find(series) {
-            SeriesPlace::Unknown => self.not_published(Refusal::UnknownSeries),
-            SeriesPlace::At(at) => self.publish_at(at, series, tid, content, log),
+    }
+
+    // Publish of a content that lies in two parts, one behind the other.
+    pub fn publish_parts(
+        self,
+        series: u16,
+        tid: u32,
+        head: &[u8],
+        tail: &[u8],
+        log: &mut [u8],
+    ) -> PublishStep
+        ensures { λ r. ⌜ Publishes self series tid (now (head .entry) ++ now (tail .entry)) (now (log .entry)) r
+            (now (log .exit)) ⌝ }
+    {
+        match check_parts(tid, Direction::Down, head, tail, Sender::MOST_CONTENT) {
+            Checked::Refused(r) => self.not_published(r),
+            Checked::Passed => self.publish_passed(series, tid, head, tail, log),
         }
     }
 

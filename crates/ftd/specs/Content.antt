@@ -1,4 +1,5 @@
 -- The content check (01, refusal table, last line): 7, 8, 9 and 10, in that order.
+pub mod Helpers
 use Prim.Native.Nat.{ℕ}
 use mathlib.Core.List.{List}
 use mathlib.Core.Bool.{cond}

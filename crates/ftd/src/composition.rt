@@ -2,6 +2,7 @@
 ghost use mathlib.Core.Path.{_≡_};
 ghost use Prim.Native.Nat.{_+_, _<_};
 ghost use Rattle.ftd.specs.Composition.Rule.{CompositionRule};
+ghost use Rattle.ftd.specs.Composition.Helpers.{lineOf};
 ghost use Rattle.ftd.specs.Composition.{directionOf, inRange, appendixE, lineAt, lineHolds, allHold, composed};
 use crate::bytes::number16;
 use crate::bytes::size8;
@@ -441,7 +442,7 @@ pub enum Direction {
 }
 
 // The direction's number in the table.
-fn direction_number(d: Direction) -> u8
+pub(crate) fn direction_number(d: Direction) -> u8
     ensures { λ r. ⌜ r ≡ directionOf d ⌝ }
 {
     match d {
@@ -463,22 +464,42 @@ fn in_range(least: usize, most: usize, n: usize) -> bool
     n <= most
 }
 
+// Line i of Appendix E is of the message.
+pub(crate) fn line_of(i: usize, tid: u32, direction: u8) -> bool
+    requires { ⌜ i < 82 ⌝ }
+    ensures { λ r. ⌜ r ≡ lineOf (lineAt i) tid direction ⌝ }
+{
+    if number16(TID[i]) == tid {
+        return DIRECTION[i] == direction;
+    }
+    false
+}
+
+// The field of line i.
+pub(crate) fn line_field(i: usize) -> u32
+    requires { ⌜ i < 82 ⌝ }
+    ensures { λ r. ⌜ r ≡ lineAt i .fid ⌝ }
+{
+    number16(FID[i])
+}
+
+// Line i allows a count of its field.
+pub(crate) fn line_allows(i: usize, n: usize) -> bool
+    requires { ⌜ i < 82 ⌝ }
+    ensures { λ r. ⌜ r ≡ inRange (lineAt i .least) (lineAt i .most) n ⌝ }
+{
+    in_range(size8(LEAST[i]), size8(MOST[i]), n)
+}
+
 // Line i of Appendix E, if it is of the message, has its field as often as it says.
 fn line_holds(i: usize, tid: u32, direction: u8, content: &[u8]) -> bool
     requires { ⌜ i < 82 ⌝ }
     ensures { λ r. ⌜ r ≡ lineHolds (lineAt i) tid direction (now (content .entry)) ⌝ }
 {
-    if number16(TID[i]) != tid {
-        return true;
+    if line_of(i, tid, direction) {
+        return line_allows(i, count_field(content, line_field(i)));
     }
-    if DIRECTION[i] != direction {
-        return true;
-    }
-    in_range(
-        size8(LEAST[i]),
-        size8(MOST[i]),
-        count_field(content, number16(FID[i])),
-    )
+    true
 }
 
 // All lines of Appendix E hold.

@@ -18,6 +18,7 @@ pub mod kinds; // the kinds of items' types
 pub mod gregorian; // real dates: leap years and months
 pub mod values; // which bytes are a value of an item's type
 pub mod content; // the content check as one
+pub mod parts; // the content check of a content in two parts
 pub mod mode; // the mode of a message type
 pub mod places; // an item of a field by place
 pub mod signed; // Numbers and Floats: read, written, and as signed integers

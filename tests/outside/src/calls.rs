@@ -16,6 +16,7 @@ use reader::start::start_field_bytes;
 use std::collections::BTreeMap;
 use std::rc::Rc;
 
+pub mod boxes;
 mod packets;
 mod pieces;
 mod several;
@@ -220,6 +221,25 @@ fn near_place(r: &mut Random, letter: u8, chain: Option<Chain>) -> Option<u16> {
         6 => Some(chain.map_or(0, |chain| chain.pieces) as u16),
         _ => Some(pieces as u16),
     }
+}
+
+/// A packet of a chain letter, of a place or none, and of one of these marks, sometimes one more or less. What isn't whole
+/// fields is written as none.
+fn made_packet(
+    r: &mut Random,
+    tid: u32,
+    (series, number): (u16, u32),
+    (chain, place): (u8, Option<u16>),
+    marks: [Option<u32>; 4],
+    content: &[u8],
+) -> Vec<u8> {
+    let near = |r: &mut Random, mark: u32| mark.wrapping_add(r.pick(&[0, 0, 0, 0, 0, 0, 1, u32::MAX]));
+    let mark = r.pick(&marks).map(|mark| near(r, mark));
+    let whole = reader::makeup::shape_right(content, 4080);
+    let mut out = vec![];
+    let header = Header { tid, series, number, mark };
+    write_placed(&mut out, &header, place, chain, if whole { content } else { &[] });
+    out
 }
 
 /// Room for so many bytes: exactly enough, one byte less, none, more.
@@ -562,27 +582,7 @@ impl Lists {
             content.extend(start_field_bytes(if r.once_in(8) { self.series(r) } else { series }, number));
         }
         let place = some_place(r);
-        self.packet(r, LOGIN, (0, 0), (b'S', place), [None, Some(mark), Some(mark), Some(mark)], &content)
-    }
-
-    /// A packet of a chain letter, of a place or none, and of one of these marks, sometimes one more or less. What isn't whole
-    /// fields is written as none.
-    fn packet(
-        &self,
-        r: &mut Random,
-        tid: u32,
-        (series, number): (u16, u32),
-        (chain, place): (u8, Option<u16>),
-        marks: [Option<u32>; 4],
-        content: &[u8],
-    ) -> Vec<u8> {
-        let near = |r: &mut Random, mark: u32| mark.wrapping_add(r.pick(&[0, 0, 0, 0, 0, 0, 1, u32::MAX]));
-        let mark = r.pick(&marks).map(|mark| near(r, mark));
-        let whole = reader::makeup::shape_right(content, 4080);
-        let mut out = vec![];
-        let header = Header { tid, series, number, mark };
-        write_placed(&mut out, &header, place, chain, if whole { content } else { &[] });
-        out
+        made_packet(r, LOGIN, (0, 0), (b'S', place), [None, Some(mark), Some(mark), Some(mark)], &content)
     }
 
     fn answer(&mut self, r: &mut Random) -> Result<(), String> {
@@ -597,7 +597,7 @@ impl Lists {
                 let mark = kept.and_then(|one| one.mark).unwrap_or(r.below(3) as u32);
                 let (content, place) = (self.contents.answer(r), some_place(r));
                 let marks = [None, Some(mark), Some(mark), Some(mark)];
-                packet = self.packet(r, LOGIN, (0, 0), (b'S', place), marks, content).into();
+                packet = made_packet(r, LOGIN, (0, 0), (b'S', place), marks, content).into();
             }
             if r.once_in(4) {
                 packet = damaged(r, &packet).into();
@@ -715,7 +715,7 @@ impl Lists {
         };
         let (letter, tid) = (r.pick(b"SFFCCL"), r.pick(&[STRANGE, STRANGE, STRANGE, MATCHES]));
         let (mark, place) = (kept.mark, near_place(r, letter, kept.chain));
-        self.packet(r, tid, (series, number), (letter, place), [None, mark, mark, mark], &content)
+        made_packet(r, tid, (series, number), (letter, place), [None, mark, mark, mark], &content)
     }
 
     /// A chain up to the most bytes that it may have, and around them.
@@ -729,13 +729,13 @@ impl Lists {
         let places = r.once_in(2);
         for i in 0..8 {
             let letter = (if i == 0 { b'F' } else { b'C' }, places.then_some(i));
-            let packet = self.packet(r, STRANGE, of, letter, [None; 4], &plain(4074));
+            let packet = made_packet(r, STRANGE, of, letter, [None; 4], &plain(4074));
             self.receive(r, &packet)?;
         }
         let last = plain(r.pick(&[0, 121, 122, 123, 124, 4074]));
         let place = r.pick(&[None, Some(7), Some(8), Some(8), Some(9)]);
         let letter = (r.pick(b"CL"), place);
-        let packet = self.packet(r, STRANGE, of, letter, [None; 4], &last);
+        let packet = made_packet(r, STRANGE, of, letter, [None; 4], &last);
         self.receive(r, &packet)
     }
 

@@ -164,7 +164,7 @@ pub struct PublishedSeveral {
 }
 
 /// The open places of a list; all where another one isn't 0.
-fn shown<T: Default + PartialEq>(all: &[T; MOST_SERIES], count: usize) -> &[T] {
+pub(crate) fn shown<T: Default + PartialEq>(all: &[T; MOST_SERIES], count: usize) -> &[T] {
     let open = count.min(MOST_SERIES);
     if all[open..].iter().all(|one| *one == T::default()) {
         &all[..open]
@@ -349,7 +349,7 @@ impl Receiver {
 // --- The models in the library's numbers ---
 
 /// The first places by a list, the others 0.
-fn places<T: Copy, U: Copy + Default>(few: &Few<T>, number: impl Fn(&T) -> U) -> [U; MOST_SERIES] {
+pub(crate) fn places<T: Copy, U: Copy + Default>(few: &Few<T>, number: impl Fn(&T) -> U) -> [U; MOST_SERIES] {
     let mut all = [U::default(); MOST_SERIES];
     for (place, one) in all.iter_mut().zip(few.iter()) {
         *place = number(one);

@@ -46,6 +46,16 @@ impl History {
         self.logged_in.clear();
     }
 
+    /// Is anything owed for the series, as soon as it is delivered?
+    pub fn owes(&self, series: u16) -> bool {
+        self.logged_in.contains_key(&series)
+    }
+
+    /// A message of the series isn't taken for want of room: nothing is owed for it any more.
+    pub fn let_off(&mut self, series: u16) {
+        self.logged_in.remove(&series);
+    }
+
     pub fn published(&mut self, series: u16, tid: u32, content: &[u8]) {
         self.published.entry((series, self.day)).or_default().push((tid, content.to_vec()));
     }
@@ -96,6 +106,17 @@ impl History {
             return Ok(());
         }
         Err(format!("demand 3: message {count} handed on of series {series}, day {mark}, isn't the one published"))
+    }
+
+    /// How many were handed on of a series and day.
+    pub fn handed(&self, series: u16, mark: u32) -> usize {
+        self.handed_on.get(&(series, mark)).copied().unwrap_or(0)
+    }
+
+    /// Is this the message with that number, from 1, that was published of a series and day?
+    pub fn is_published(&self, series: u16, mark: u32, number: usize, tid: u32, content: &[u8]) -> bool {
+        let one = self.published.get(&(series, mark)).and_then(|all| all.get(number.wrapping_sub(1)));
+        one.is_some_and(|(of, bytes)| *of == tid && bytes == content)
     }
 
     pub fn answered(&mut self, series: u16, mark: u32, last: u32) -> Result<(), String> {

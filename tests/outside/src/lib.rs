@@ -7,6 +7,7 @@ use reader::makeup::Direction;
 pub mod accounts;
 pub mod bench;
 pub mod book;
+pub mod boxes;
 pub mod calendar;
 pub mod calls;
 pub mod compare;

@@ -16,7 +16,7 @@ use reader::serving::{OnePacket, Serving};
 pub type Both<T> = Result<Result<T, u8>, String>;
 
 /// What stands in an output before a call.
-const PATTERN: u8 = 0xA5;
+pub(crate) const PATTERN: u8 = 0xA5;
 
 #[derive(Default)]
 pub struct World {
@@ -36,7 +36,7 @@ pub struct World {
 }
 
 /// Bytes that should be the same on both sides.
-fn same_bytes(asked: &mut Asked, what: &str, library: &[u8], reader: &[u8]) -> Result<(), String> {
+pub(crate) fn same_bytes(asked: &mut Asked, what: &str, library: &[u8], reader: &[u8]) -> Result<(), String> {
     asked.0 += 1;
     if library == reader {
         return Ok(());
@@ -71,7 +71,7 @@ fn noisy_sender(r: &mut Random, mut end: Sender) -> Sender {
     end
 }
 
-fn noisy_receiver(r: &mut Random, mut end: Receiver) -> Receiver {
+pub(crate) fn noisy_receiver(r: &mut Random, mut end: Receiver) -> Receiver {
     for (i, one) in end.series.iter_mut().enumerate() {
         if i >= end.count {
             (one.series, one.last, one.login) = (r.pick(&[0, 1, 2, 3]), r.next() as u32, r.byte());

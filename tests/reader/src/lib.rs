@@ -18,6 +18,7 @@ pub mod makeup;
 pub mod packet;
 pub mod plain;
 pub mod receiving;
+pub mod relay;
 pub mod script;
 pub mod serving;
 pub mod several;

@@ -32,7 +32,7 @@ pub struct Answer {
 }
 
 /// How long the packet, or record, at the front is; end or short where it isn't there whole. Its head has `head` bytes.
-fn whole(rest: &[u8], head: usize, length: fn(&[u8]) -> usize) -> Result<usize, Stop> {
+pub(crate) fn whole(rest: &[u8], head: usize, length: fn(&[u8]) -> usize) -> Result<usize, Stop> {
     if rest.is_empty() {
         return Err(Stop::End);
     }

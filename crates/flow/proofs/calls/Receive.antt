@@ -205,14 +205,14 @@ pub data Received-as (e : Receiver) (p buffer : List ℕ) : Wrote Receiver Recei
       → Took e h (datedOf p .date) (datedOf p .place) c (part p (c .start) (c .len)) buffer w → Received-as e p buffer w
 
 -- What the reader refuses has a number from 1 to 7.
-abbrev Low : Packet → Type 0
+abbrev pub Low : Packet → Type 0
 Low (Short n) = Unit
 Low (Link kind extension) = Unit
 Low (Skipped kind extension body) = Unit
 Low (Message h extension c) = Unit
 Low (Unread r) = numberOf r < 13
 
-read-low : (p : List ℕ) → Low (datedOf p .packet)
+pub read-low : (p : List ℕ) → Low (datedOf p .packet)
 unfolding datedOf withTags readOf wholeOf messageOf acceptedOf
 read-low p =
     by-when Low (headMissing p) (λ q. tt) λ q.

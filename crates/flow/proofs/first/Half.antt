@@ -1,9 +1,7 @@
 -- The first half of the agreement, from genuine messages: exactly n were handed on, the first n published, after every
 -- list of calls. Assumes nothing.
 use Prim.Native.Nat.{ℕ}
-use mathlib.Core.Path.{_≡_, refl}
-use mathlib.Core.List.{List, [], _∷_}
-use mathlib.Core.Bool.{true}
+use mathlib.Core.List.{List}
 use lib.ListN.{getElem?}
 use Rattle.flow.specs.World.{Event, openSender, publish, login, send, sendPacket, openReceiver, connect}
 use Rattle.flow.specs.World.{requestLogin, confirmLogin, receive, World, start, step, run}
@@ -14,9 +12,12 @@ use Rattle.flow.proofs.common.Lists.{every-at}
 use Rattle.flow.proofs.first.Safe.{Safe, safe-published, safe-reopen, safe-connect, safe-request}
 use Rattle.flow.proofs.first.Answer.{safe-confirm}
 use Rattle.flow.proofs.first.Receive.{safe-receive}
+use Rattle.flow.proofs.first.Turned.{safe-answer-turned, safe-receive-turned}
+use Rattle.flow.proofs.lines.Steps.{LineStep, calls, rests, turns-answer, turns-receive, Steps, none, then}
+use Rattle.flow.proofs.lines.Steps.{run-steps}
+use Rattle.flow.proofs.lines.Moves.{line-moves}
 use Rattle.flow.proofs.common.Rows.{by-given}
 use Rattle.flow.proofs.right.End.{fresh-right}
-use Rattle.flow.proofs.source.Moves.{step-moves}
 use Rattle.flow.proofs.source.Sources.{Source, move-source}
 
 abbrev pub SafeWorld : World → Type 0
@@ -50,11 +51,24 @@ step-safe w (receive i j) g h =
     safe-receive (w .serving .published) (w .receiving) h i j m p
     (every-at (BegunIn (w .serving .published)) (w .serving .transmissions) i m g q) r
 
+-- Each step of a line.
+pub line-safe : {w v : World} → LineStep w v → AllBegun (w .serving) → SafeWorld w → SafeWorld v
+line-safe {w} (calls e) g h = step-safe w e g h
+line-safe rests g h = h
+line-safe {w} (turns-answer i a q x) g h =
+    safe-answer-turned (w .serving .published) (w .receiving) h x (a .series) (a .what)
+line-safe {w} (turns-receive i j m p q f o b x) g h =
+    safe-receive-turned (w .serving .published) (w .receiving) h x i j m p o
+
+-- After every list of steps.
+pub steps-safe : {w v : World} → Steps w v → Source (w .serving) → SafeWorld w → SafeWorld v
+steps-safe none g h = h
+steps-safe {w} (then {v = u} l ls) g h =
+    steps-safe ls (move-source (w .serving) (u .serving) (line-moves l) g) (line-safe l (g .begun) h)
+
 -- After every list of events.
 pub run-safe : (w : World) → Source (w .serving) → SafeWorld w → (es : List Event) → SafeWorld (run w es)
-run-safe w g h [] = h
-run-safe w g h (e ∷ es) =
-    run-safe (step w e) (move-source (w .serving) (step w e .serving) (step-moves w e) g) (step-safe w e (g .begun) h) es
+run-safe w g h es = steps-safe (run-steps w es) g h
 
 -- "exactly n messages were handed on: the first n published there, in order, each once"
 pub safe-agreed : (w : World) (s d : ℕ) → SafeWorld w → Agreed w s d

@@ -28,6 +28,8 @@ use Rattle.flow.proofs.source.Answers.{GenuineAnswer, GenuineAnswers}
 use Rattle.flow.proofs.steps.Turns.{Turn, stays, opens, connects, confirms, receives, open-turn, request-turn}
 use Rattle.flow.proofs.steps.Turns.{confirm-turn, receive-turn, by-series}
 use native.Mathlib.Omega.{arith}
+use Rattle.flow.proofs.lines.Steps.{LineStep, calls, rests, turns-answer, turns-receive}
+use Rattle.flow.proofs.steps.Turns.{refused}
 
 pub record Consistent (e : Receiver) : Type 0 where
   pub eight : Eight e
@@ -122,6 +124,13 @@ answer-upto o a h =
     ∙ ap (λ (x : Read). x .date) (login-back (At (h .date)) (h .content) (h .shape)) in
     rw f (upto-test (h .date) o (h .not-later))
 
+-- Of a line's step: a connection or not.
+abbrev pub isLink : {w v : World} → LineStep w v → Bool
+isLink (calls e) = isConnect e
+isLink rests = false
+isLink (turns-answer i a q x) = false
+isLink (turns-receive i j m p q f o b x) = false
+
 abbrev Quiet : World → World → Type 0
 Quiet w v = Turned (w .serving .day) false (w .receiving .end) (v .receiving .end)
 
@@ -145,3 +154,10 @@ step-turn w h (World.receive i j) =
     by-given (Quiet w) w (getElem? (w .serving .transmissions) i) (turned stays)
     (λ m e. by-given (Quiet w) w (getElem? (m .packets) j) (turned stays)
     (λ p f. turned (receive-turn (w .serving .day) false (w .receiving .end) p (w .receiving .buffer))))
+
+pub line-turn : {w v : World} → GenuineAnswers (w .serving) → (l : LineStep w v)
+    → Turned (w .serving .day) (isLink l) (w .receiving .end) (v .receiving .end)
+line-turn {w} h (calls e) = step-turn w h e
+line-turn h rests = turned stays
+line-turn h (turns-answer i a q x) = turned stays
+line-turn h (turns-receive i j m p q f o b x) = turned (receives _ o b refused)

@@ -19,7 +19,8 @@ use Rattle.flow.proofs.source.Moves.{step-moves}
 use Rattle.flow.proofs.logins.Taken.{LoginTaken, startAt}
 use Rattle.flow.proofs.steps.Turns.{turn-onward}
 use Rattle.flow.proofs.logins.Consistent.{isConnect, Turned, step-turn, Consistent, turn-behind, turn-consistent}
-use Rattle.flow.proofs.logins.Consistent.{fresh-consistent}
+use Rattle.flow.proofs.logins.Consistent.{fresh-consistent, line-turn}
+use Rattle.flow.proofs.lines.Steps.{LineStep, calls, rests, turns-answer, turns-receive, Steps, none, then}
 use Rattle.flow.proofs.common.Rows.{by-given}
 use Rattle.flow.proofs.common.Days.{Upto, upto-along}
 use Rattle.flow.proofs.source.Days.{day-rises}
@@ -79,6 +80,19 @@ module _ (w : World) (h : Timely w) where
       by-given (Then false) w (getElem? (w .serving .transmissions) i) (on false w refl)
       (λ m e. by-given (Then false) w (getElem? (m .packets) j) (on false w refl) (λ p f. on false _ refl))
 
+  -- A call that the serving end does not see and that asks for no login.
+  timely-turned : (c : Bool) (v : World) → v .serving ≡ w .serving → v .receiving .requests ≡ w .receiving .requests
+      → Turned (w .serving .day) c (w .receiving .end) (v .receiving .end) → Timely v
+  timely-turned c v e q t =
+      let o = w .serving .day in
+      let r = w .receiving .end in
+      record {
+        source = rw e (h .source);
+        receiving = turn-consistent o c r (h .receiving) (v .receiving .end) _ _ (t .turn);
+        behind = rw e (turn-behind o c r (h .receiving) (h .behind) (v .receiving .end) _ _ (t .turn));
+        requests-ok = on c v q t .all;
+      }
+
   pub timely-step : (e : Event) → Timely (step w e)
   timely-step e =
       let o = w .serving .day in
@@ -94,6 +108,18 @@ module _ (w : World) (h : Timely w) where
             (day-rises (w .serving) (step w e .serving) m (h .source .served));
         requests-ok = requests-step e t .all;
       }
+
+pub timely-line : {w v : World} → Timely w → LineStep w v → Timely v
+timely-line {w} h (calls e) = timely-step w h e
+timely-line h rests = h
+timely-line {w} h (turns-answer i a q x) =
+    timely-turned w h false _ refl refl (line-turn {w = w} (h .source .answers) (turns-answer i a q x))
+timely-line {w} h (turns-receive i j m p q f o b x) =
+    timely-turned w h false _ refl refl (line-turn {w = w} (h .source .answers) (turns-receive i j m p q f o b x))
+
+pub timely-steps : {w v : World} → Timely w → Steps w v → Timely v
+timely-steps h none = h
+timely-steps h (then l ls) = timely-steps (timely-line h l) ls
 
 pub timely-run : (w : World) → Timely w → (es : List Event) → Timely (run w es)
 timely-run w h [] = h

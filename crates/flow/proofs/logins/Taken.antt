@@ -49,7 +49,7 @@ pub record LoginTaken (w : World) (e : Event) (s : ℕ) (a : List ℕ) : Type 0 
 
 -- ─── Appended lists ───
 
-no-append : {A : Type 0} (l : List A) (x : A) → l ≡ l ++ (x ∷ []) → ⊥
+pub no-append : {A : Type 0} (l : List A) (x : A) → l ≡ l ++ (x ∷ []) → ⊥
 no-append l x q = let k = ap length q ∙ length-append l (x ∷ []) in omega arith
 
 same-last : {A : Type 0} (l : List A) (x y : A) → l ++ (x ∷ []) ≡ l ++ (y ∷ []) → x ≡ y

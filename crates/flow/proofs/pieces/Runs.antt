@@ -2,7 +2,7 @@
 -- the end is ready for the message there is one. Only the arrival of all that is sent needs it. Assumes nothing.
 use Prim.Native.Nat.{ℕ, zero, suc, _<_}
 use native.Mathlib.Omega.{arith}
-use mathlib.Core.Path.{_≡_, refl}
+use mathlib.Core.Path.{_≡_, refl, sym, _∙_}
 use mathlib.Core.List.{List}
 use mathlib.Core.Bool.{true}
 use borrow.Author.Tests.{eqb-true}
@@ -26,29 +26,30 @@ pub record Run (e : Receiver) (buffer : List ℕ) (s t k d : ℕ) (c : List ℕ)
   pub holding : Holding e buffer s t k d c n
   pub opens : n < length (piecesOf c) → Wants e buffer s k d → Chain-open e s
 
--- By the receiving end's previous call: packet j of the transmission at place i of the line, at the end of a run; of
--- every message that the transmission is the start of. Nothing is known otherwise.
-abbrev pub Behind : List Transmission → Receiver → List ℕ → Previous → Type 0
-Behind ts e buffer (came i j) =
+-- Of a series s and day d, by the receiving end's previous call: packet j of the transmission at place i of the line, at
+-- the end of a run; of every message of that series and day that the transmission is the start of. Nothing is known
+-- otherwise. It holds if none of them was turned away since the run began.
+abbrev pub Behind : ℕ → ℕ → List Transmission → Receiver → List ℕ → Previous → Type 0
+Behind s d ts e buffer (came i j) =
     (m : Transmission) × (getElem? ts i ≡ some m)
-    × ((t k d : ℕ) (c : List ℕ) → Extends (m .packets) (packetsOf (headed (m .series) t k d) c)
+    × (m .series ≡ s → (t k : ℕ) (c : List ℕ) → Extends (m .packets) (packetsOf (headed (m .series) t k d) c)
     → shaped c mostContent ≡ true → Run e buffer (m .series) t k d c (suc j))
-Behind ts e buffer other = Unit
+Behind s d ts e buffer other = Unit
 
 -- The transmissions go on: a longer start is one of no more messages.
-pub behind-onward : (ts us : List Transmission) → Onward ts us → (e : Receiver) (buffer : List ℕ) (p : Previous)
-    → Behind ts e buffer p → Behind us e buffer p
-behind-onward ts us o e buffer (came i j) b =
+pub behind-onward : (s d : ℕ) (ts us : List Transmission) → Onward ts us → (e : Receiver) (buffer : List ℕ)
+    (p : Previous) → Behind s d ts e buffer p → Behind s d us e buffer p
+behind-onward s d ts us o e buffer (came i j) b =
     let x = onward-at ts us o i (b .0) (b .1) in
     let l = x .2 in (
       x .0,
       x .1,
-      λ t k d c w q.
+      λ n t k c w q.
           let f : Extends (x .0 .packets) (packetsOf (headed (b .0 .series) t k d) c) = rw (l .series) at w in
           rw (l .series)
-          (b .2 t k d c (extends-along (b .0 .packets) (x .0 .packets) _ (l .packets) f) q),
+          (b .2 (sym (l .series) ∙ n) t k c (extends-along (b .0 .packets) (x .0 .packets) _ (l .packets) f) q),
     )
-behind-onward ts us o e buffer other b = tt
+behind-onward s d ts us o e buffer other b = tt
 
 -- A packet that continues a run comes right behind the one before it.
 was-before : (p : Previous) (i j : ℕ) → behind p i j ≡ true → p ≡ came i j

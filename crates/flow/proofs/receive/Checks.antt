@@ -11,7 +11,7 @@ use Rattle.ftd.specs.declared.packet.Header.{Header}
 use Rattle.ftd.specs.declared.packet.Chain.the-variants.{Single, First, Middle, Last}
 use Rattle.flow.specs.declared.receiver.LiveSeries.{LiveSeries}
 use Rattle.flow.specs.Receiving.{outOfLine, brokenChain, misplaced, oneMore}
-use Rattle.flow.specs.ReceiveHelpers.{partsOf, InParts, noRoom, outOfChain, wrongPiece}
+use Rattle.flow.specs.ReceiveHelpers.{partsOf, noRoom, outOfChain, wrongPiece}
 
 -- ─── 16 ───
 
@@ -65,14 +65,6 @@ parts-below count h = rw (lt-ltb count 8 h)
 
 pub parts-above : (count : ℕ) → 8 ≤ count → 262144 ≡ partsOf count
 parts-above count h = rw (le-ltb count 8 h)
-
--- A part lies within all parts.
-pub part-within : (i count : ℕ) → InParts i count → 32768 * i + 32768 ≤ partsOf count
-part-within i count h = go (ltb count 8) refl
-  where
-    go : (b : Bool) → ltb count 8 ≡ b → 32768 * i + 32768 ≤ partsOf count
-    go true p = rw p (omega (arith, h .0))
-    go false p = rw p (omega (arith, h .1))
 
 module _ (count size held more parts : ℕ) (q : parts ≡ partsOf count) where
   pub room-short : size < parts → true ≡ noRoom count size held more

@@ -1,14 +1,14 @@
 -- A receiving end that is right for a source, of each series: what it handed on and reported, and what its chains hold.
 -- Each of its calls keeps it so, in any state and of any bytes, if Receive is handed packets of published messages, in any
 -- order and number. Assumes nothing.
-use Prim.Native.Nat.{ℕ, suc, _+_, _<_}
+use Prim.Native.Nat.{ℕ, suc, _+_}
 use native.Mathlib.Omega.{arith}
 use mathlib.Core.Path.{_≡_, refl, ap}
 use mathlib.Core.List.{List, [], _∷_, _++_, map, append-nil}
 use mathlib.Core.Bool.{Bool, true, false}
 use mathlib.Core.Option.{some}
 use borrow.Author.Tests.{eqb-true, eqb-false}
-use lib.ListN.{length, getElem?}
+use lib.ListN.{getElem?}
 use lib.Dec.{eqb}
 use Rattle.ftd.specs.Packet.{datedOf}
 use Rattle.ftd.specs.declared.tags.TradeDate.{TradeDate}
@@ -27,9 +27,6 @@ use Rattle.flow.proofs.ends.ReceiverLookups.{Eight, with-changed}
 use Rattle.flow.proofs.calls.Receiving.{Opened-as, opens, open-as, Confirmed-as, confirms, confirm-as}
 use Rattle.flow.proofs.ends.ReceiverOpened.{fresh-closed, opened-live, connect-live, openedWith}
 use Rattle.flow.proofs.steps.Moves.{Moves, Same, moves-with, opened-same, connect-same}
-use Rattle.flow.proofs.pieces.Pieces.{firstPieces}
-use Rattle.flow.proofs.pieces.Chained.{Chain-open}
-use Rattle.flow.proofs.pieces.Completes.{Wants}
 use Rattle.flow.proofs.pieces.Outcomes.{Delivered}
 use Rattle.flow.proofs.pieces.Others.{with-elsewhere}
 use Rattle.flow.proofs.pieces.Takes.{PacketAt, Before, take-holds, take-delivers, take-elsewhere}
@@ -95,6 +92,30 @@ module _ (P H : List (Dated Message)) (R : List (Dated ℕ)) (e : Receiver) (buf
             chain-elsewhere P e buffer (withSeries e s date last loggedIn) buffer u
             (with-elsewhere e eight s o date last loggedIn u (eqb-false u s q) buffer buffer (λ k l. refl))
             (h .chains u)
+
+    -- ─── A chain that is dropped ───
+
+    pub drop-same : isOpen e s ≡ true
+        → Same e (withSeries e s (keptOf e s .date) (keptOf e s .last) loggedIn)
+    drop-same o t = go (eqb t s) refl
+      where
+        m : Moves e (withSeries e s (keptOf e s .date) (keptOf e s .last) loggedIn) s (keptOf e s .date)
+            (keptOf e s .last)
+        m = moves-with e eight s o (keptOf e s .date) (keptOf e s .last) loggedIn
+
+        go : (b : Bool) → eqb t s ≡ b
+            → (dayOf (withSeries e s (keptOf e s .date) (keptOf e s .last) loggedIn) t ≡ dayOf e t)
+            × (lastOf (withSeries e s (keptOf e s .date) (keptOf e s .last) loggedIn) t ≡ lastOf e t)
+        go true q = let y : t ≡ s = eqb-true t s q in rw (y, m .date, m .last, o) (refl, refl)
+        go false q = m .other t (eqb-false t s q)
+
+    pub drop-right : isOpen e s ≡ true
+        → EndRight P H R (withSeries e s (keptOf e s .date) (keptOf e s .last) loggedIn) buffer
+    drop-right o =
+        record {
+          right = right-stays P H R e _ (drop-same o) (h .right);
+          chains = others (keptOf e s .date) (keptOf e s .last) o;
+        }
 
     module _ (d : ℕ) (o : isOpen e s ≡ true) (b : before (At d) (keptOf e s .date) ≡ false) where
       abbrev last : ℕ

@@ -13,15 +13,16 @@ use Rattle.ftd.specs.Login.{loginBytes}
 use Rattle.ftd.specs.declared.tags.TradeDate.{TradeDate}
 use Rattle.ftd.specs.declared.tags.TradeDate.the-variants.{At}
 use Rattle.flow.specs.Ends.{isOpen, keptOf}
-use Rattle.flow.specs.World.{Event, World, start, step, run}
+use Rattle.flow.specs.World.{inSeries, Event, World, start, step, run}
 use Rattle.flow.specs.Agreement.{publishedOn, handedOn, reported, since, CaughtUp}
-use Rattle.flow.proofs.logins.Taken.{answer-taken, startAt}
+use Rattle.flow.proofs.logins.Taken.{no-append, answer-taken, startAt}
 use Rattle.flow.proofs.second.SentFrom.{sentIn}
 use Rattle.flow.proofs.second.SentSince.{login-sends, all-sent}
-use Rattle.flow.proofs.first.Half.{SafeWorld, start-safe, run-safe, safe-agreed}
-use Rattle.flow.proofs.second.Followed.{Follows, start-followed, step-followed}
+use Rattle.flow.proofs.first.Half.{SafeWorld, start-safe, line-safe, steps-safe, run-safe, safe-agreed}
+use Rattle.flow.proofs.lines.Steps.{LineStep, calls, rests, turns-answer, turns-receive, Steps, SparesAll}
+use Rattle.flow.proofs.lines.Steps.{run-steps, run-spares}
 use Rattle.flow.proofs.packets.Answers.{tests-content}
-use Rattle.flow.proofs.logins.Starts.{Timely, timely-step, timely-run, timely-start, login-day, login-opens}
+use Rattle.flow.proofs.logins.Starts.{Timely, timely-step, timely-steps, timely-start, login-day, login-opens}
 use Rattle.flow.proofs.logins.Starts.{login-reached}
 use Rattle.flow.proofs.second.Sending.{sent-whole, numbered-each}
 use Rattle.flow.proofs.second.Due.{Due, waiting, due-run, room-back}
@@ -41,11 +42,10 @@ pub record AllThere (w : World) (s d : ℕ) : Type 0 where
   pub date : keptOf (w .receiving .end) s .date ≡ At d
   pub last : length (publishedOn w s d) ≤ keptOf (w .receiving .end) s .last
 
-pub caught-up : (u : World) (e : Event) (fs : List Event) (s d : ℕ) (a out : List ℕ) → Timely u → Follows (step u e)
-    → CaughtUp u (step u e) (run (step u e) fs) s d a out → AllThere (run (step u e) fs) s d
-caught-up u e fs s d a out h b c =
+pub caught-up : (u : World) (e : Event) {w : World} (fs : Steps (step u e) w) (s d : ℕ) (a out : List ℕ)
+    → SparesAll s d fs → Timely u → CaughtUp u (step u e) w s d a out → AllThere w s d
+caught-up u e {w} fs s d a out spares h c =
     let v = step u e in
-    let w = run v fs in
     let t = answer-taken u e s a (c .login) in
     let served = h .source .served in
     let answering = tests-content (u .serving .end) s (t .header) _ _ (t .content) (t .out) (t .tests) in
@@ -59,11 +59,11 @@ caught-up u e fs s d a out h b c =
     let numbered =
     numbered-each s d (startAt t) sent λ j ps q. sent-whole (w .serving) s d (startAt t + j) ps (g .each j ps q) in
     let h′ = timely-step u h e in
-    let room = room-back s d n (t .content) answering v h′ opens fs (c .room) in
-    let due : Due s d n (t .content) answering (since (v .receiving .delivered) (w .receiving .delivered))
-    (v .receiving .end) =
+    let room = room-back s d n (t .content) answering h′ opens fs (c .room) in
+    let due : Due s d n (t .content) answering (since (v .receiving .delivered) (w .receiving .delivered)) v =
     waiting (startAt t) sent opens (login-reached u h e s d a t (c .day)) numbered refl (rw is at (c .delivered)) in
-    let ready = due-run s d n (t .content) answering v fs h′ b (c .day) (c .no-opening) (c .no-restart) room due in
+    let ready =
+    due-run s d n (t .content) answering fs spares h′ (c .day) (c .no-opening) (c .no-restart) room due in
     let reached = ready .reached in
     record { opens = ready .opens; date = ready .date; last = omega arith }
 
@@ -84,11 +84,22 @@ settled w s d x safe =
 pub safe-run : (log buffer : List ℕ) (es : List Event) → SafeWorld (run (start log buffer) es)
 safe-run log buffer es = run-safe (start log buffer) (start-source log buffer) (start-safe log buffer) es
 
--- Runs are followed, after every list of events.
-followed-run : (w : World) → Timely w → Follows w → (es : List Event) → Follows (run w es)
-followed-run w h b [] = b
-followed-run w h b (e ∷ es) =
-    followed-run (step w e) (timely-step w h e) (step-followed w e (h .receiving .eight) b) es
+-- Of a line: u before the login, v behind it, w at the end; what is due is spared.
+pub line-complete : {o u v w : World} → Timely o → SafeWorld o → Steps o u → LineStep u v → (fs : Steps v w)
+    → (s d : ℕ) (a out : List ℕ) → SparesAll s d fs → CaughtUp u v w s d a out
+    → reported w s d ≡ length (publishedOn w s d)
+line-complete {u = u} {w = w} h safe es (calls e) fs s d a out spares c =
+    let hu = timely-steps h es in
+    let safe-u = steps-safe es (h .source) safe in
+    let safe-v = line-safe (calls e) (hu .source .begun) safe-u in
+    let hv = timely-step u hu e in
+    settled w s d (caught-up u e fs s d a out spares hu c) (steps-safe fs (hv .source) safe-v)
+line-complete {u = u} h safe es rests fs s d a out spares c =
+    absurd (no-append (u .serving .answers) (inSeries s a) (c .login))
+line-complete {u = u} h safe es (turns-answer i x q y) fs s d a out spares c =
+    absurd (no-append (u .serving .answers) (inSeries s a) (c .login))
+line-complete {u = u} h safe es (turns-receive i j m p q f o b x) fs s d a out spares c =
+    absurd (no-append (u .serving .answers) (inSeries s a) (c .login))
 
 pub complete : (log buffer : List ℕ) (es fs : List Event) (e : Event) (s d : ℕ) (a out : List ℕ)
     → let u = run (start log buffer) es in
@@ -98,9 +109,5 @@ pub complete : (log buffer : List ℕ) (es fs : List Event) (e : Event) (s d : �
 complete log buffer es fs e s d a out c =
     let o = start log buffer in
     let u = run o es in
-    let t = timely-start log buffer in
-    let h = timely-run o t es in
-    let b = step-followed u e (h .receiving .eight) (followed-run o t (record { behind = start-followed log buffer }) es) in
-    let q : run o (es ++ (e ∷ fs)) ≡ run (step u e) fs = run-append o es (e ∷ fs) in
-    settled (run (step u e) fs) s d (caught-up u e fs s d a out h b c)
-    (rw q at (safe-run log buffer (es ++ (e ∷ fs))))
+    line-complete (timely-start log buffer) (start-safe log buffer) (run-steps o es) (calls e)
+    (run-steps (step u e) fs) s d a out (run-spares s d (step u e) fs) c

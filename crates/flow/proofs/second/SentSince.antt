@@ -15,13 +15,14 @@ use Rattle.flow.specs.declared.sender.Sent.the-variants.{Drained}
 use Rattle.flow.specs.Ends.{isServed, publishedOf, placeOf}
 use Rattle.flow.specs.Log.{entryOf}
 use Rattle.flow.specs.Serving.{sendPackets, sendBytes, nextPacket, lastPacket, afterPacket, sendOf}
-use Rattle.flow.specs.World.{InSeries, inSeries, only, soFar, packetsIn, Event, SenderSide, World, step, run}
+use Rattle.flow.specs.World.{InSeries, inSeries, only, soFar, packetsIn, Event, SenderSide, World, step}
 use Rattle.flow.specs.Agreement.{since, inThat, publishedOn}
 use Rattle.flow.proofs.ends.SenderLookups.{served-next, place-next, place-other}
 use Rattle.flow.proofs.calls.Serving.{Seated}
 use Rattle.flow.proofs.source.Moves.{Move, stays, opens, publishes, logs-in, sends, sends-packet, sentSide}
 use Rattle.flow.proofs.source.Moves.{packetSide, step-moves}
-use Rattle.flow.proofs.source.Moves.{run-keeps}
+use Rattle.flow.proofs.lines.Steps.{Steps}
+use Rattle.flow.proofs.lines.Moves.{steps-keep}
 use Rattle.flow.proofs.source.Growth.{Grown, grown-same, grown-along, move-grows}
 use Rattle.flow.proofs.source.Served.{ServedSide}
 use Rattle.flow.proofs.source.Kept.{move-served, published-count}
@@ -210,34 +211,31 @@ module _ (v : SenderSide) (s d k : ℕ) where
 -- u before the login, then the login, then fs.
 module _
     (u : World) (right : ServedSide (u .serving)) (going : Unfinished (u .serving)) (e : Event) (s d : ℕ) (a : List ℕ) (t : LoginTaken u e s a)
-    (day : step u e .serving .day ≡ At d) (fs : List Event) where
+    (day : step u e .serving .day ≡ At d) {w : World} (fs : Steps (step u e) w) where
   still-served : isServed (step u e .serving .end) s ≡ true
   still-served =
       ap (λ (w : World). isServed (w .serving .end) s) (t .effect)
       ∙ served-next (u .serving .end) s (t .tests .served) (startAt t) 0 s ∙ t .tests .served
 
-  login-since : Since (step u e .serving) (run (step u e) fs .serving) s d (startAt t)
+  login-since : Since (step u e .serving) (w .serving) s d (startAt t)
   login-since =
-      run-keeps (λ (v : SenderSide). Since (step u e .serving) v s d (startAt t))
-      (move-since (step u e .serving) s d (startAt t)) (step u e) fs
+      steps-keep (λ (v : SenderSide). Since (step u e .serving) v s d (startAt t))
+      (move-since (step u e .serving) s d (startAt t)) fs
       (since-login (step u e .serving) s d (startAt t)
       (move-served (u .serving) (step u e .serving) (step-moves u e) right)
       (move-unfinished (u .serving) (step u e .serving) (step-moves u e) right going) day still-served
       (login-next u e s a (right .eight) t .0))
 
   module _
-      (no-opening : run (step u e) fs .serving .openings ≡ step u e .serving .openings)
-      (last : inThat s (since (step u e .serving .answers) (run (step u e) fs .serving .answers)) ≡ []) where
-    pub login-sends : SentFrom (step u e .serving) (run (step u e) fs .serving) s d (startAt t)
+      (no-opening : w .serving .openings ≡ step u e .serving .openings)
+      (last : inThat s (since (step u e .serving .answers) (w .serving .answers)) ≡ []) where
+    pub login-sends : SentFrom (step u e .serving) (w .serving) s d (startAt t)
     login-sends = login-since .sent no-opening last
 
     -- None is left: the messages sent since reach from the start to the last one published.
-    pub all-sent : (out : List ℕ) → sendOf (run (step u e) fs .serving .end) s (run (step u e) fs .serving .log)
-        out .answer ≡ Drained →
-        startAt t + length (sentIn (step u e .serving) (run (step u e) fs .serving) s) ≡ suc
-        (length (publishedOn (run (step u e) fs) s d))
+    pub all-sent : (out : List ℕ) → sendOf (w .serving .end) s (w .serving .log) out .answer ≡ Drained →
+        startAt t + length (sentIn (step u e .serving) (w .serving) s) ≡ suc (length (publishedOn w s d))
     all-sent out q =
-        let w : World = run (step u e) fs in
         let h : ServedSide (w .serving) = login-since .served in
         let f = login-sends in
         let g = drained-exactly (w .serving) h s out d (f .day) .0 q in

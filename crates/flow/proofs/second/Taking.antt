@@ -32,7 +32,6 @@ use Rattle.flow.specs.declared.receiver.Received.{Received}
 use Rattle.flow.specs.Ends.{Wrote, before, loggedIn, isOpen, keptOf, withSeries, allParts, dayOf, lastOf}
 use Rattle.flow.specs.Receiving.{lastAfter, confirmLoginOf, advance, receiveWith, receiveOf}
 use Rattle.flow.specs.Answers.{Message, receivedSaid, messageIn}
-use Rattle.flow.specs.World
 use Rattle.flow.specs.World.{whole, Transmission, World, continues}
 use Rattle.flow.proofs.packets.Answers.{Answering, confirmByLogin, confirm-by-login}
 use Rattle.flow.proofs.ends.ReceiverLookups.{kept-same, live-same, open-stays, Eight}
@@ -85,7 +84,7 @@ accepted-same : (g h : Header) (a b x y : Span) → Accepted g a b ≡ Accepted 
 accepted-same g h a b x y q = cc
 
 -- Two messages with the same packet have the same series, number and day.
-same-head : (m n : Headed) (c b : List ℕ) (j : ℕ) (p : List ℕ) → shaped c 32768 ≡ true → shaped b 32768 ≡ true
+pub same-head : (m n : Headed) (c b : List ℕ) (j : ℕ) (p : List ℕ) → shaped c 32768 ≡ true → shaped b 32768 ≡ true
     → getElem? (packetsOf m c) j ≡ some p
     → getElem? (packetsOf n b) j ≡ some p → (m .series ≡ n .series) × (m .number ≡ n .number) × (m .date ≡ n .date)
 unfolding headerFor
@@ -165,7 +164,7 @@ wanted r buffer s d k few room h = go (eqb k (keptOf r s .last + 1)) refl
               (eqb-false k (keptOf r s .last + 1) q);
         })
 
-module _ (w : World) (eight : Eight (w .receiving .end)) (followed : Followed w) (begun : AllBegun (w .serving))
+module _ (w : World) (eight : Eight (w .receiving .end)) (begun : AllBegun (w .serving))
     (i j : ℕ) (m : Transmission)
     (here : getElem? (w .serving .transmissions) i ≡ some m)
     (all : m .stands ≡ whole)
@@ -173,9 +172,9 @@ module _ (w : World) (eight : Eight (w .receiving .end)) (followed : Followed w)
     (room : allParts (w .receiving .end) ≤ length (w .receiving .buffer))
   where
     pub next-ready : (p : List ℕ) → getElem? (m .packets) j ≡ some p → suc j ≡ length (m .packets) → (s d k : ℕ)
-        → Whole s d k (m .packets) → Ready (w .receiving .end) s d k
+        → Whole s d k (m .packets) → Followed s d w → Ready (w .receiving .end) s d k
         → Ready (receiveOf (w .receiving .end) p (w .receiving .buffer) .end) s d (suc k)
-    next-ready p at last s d k g h =
+    next-ready p at last s d k g followed h =
         elim (wanted (w .receiving .end) (w .receiving .buffer) s d k (g .few) room h) [
           | inl x ↦ handed x
           | inr x ↦ turn-ready (w .receiving .end) eight s d (suc k) _ _ _
@@ -195,8 +194,8 @@ module _ (w : World) (eight : Eight (w .receiving .end)) (followed : Followed w)
             let day : d ≡ o .day = at-same d (o .day) (same .2) in
             let y = rw (same .0, same .1, day) at x in
             let done =
-            receive-completes (w .serving .transmissions) e (w .receiving .buffer) eight (w .receiving .previous) followed
-            i j m p here at line (w .serving .published) o all (omega arith) y in
+            receive-completes s d (w .serving .transmissions) e (w .receiving .buffer) eight (w .receiving .previous)
+            followed i j m p here at line (sym (same .0)) (w .serving .published) o all (omega arith) (sym day) y in
             let q = packet-handed s d k (m .packets) g j p at e (w .receiving .buffer) (o .what) done in
             let f = kept-same e shape s (x .open-series) (keptOf e s .date) k loggedIn in
             rw q (record {

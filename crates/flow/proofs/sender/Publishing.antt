@@ -1,5 +1,6 @@
 -- Publish, test by test: what the call leaves meets its promise. Assumes nothing.
 use Prim.Native.Nat.{ℕ, _+_, _-_, _<_, _≤_}
+use native.Mathlib.Omega.{arith}
 use mathlib.Core.Path.{_≡_, refl, sym, ap, _∙_}
 use mathlib.Core.List.{List}
 use mathlib.Core.Bool.{Bool, true, false, not, _||_}
@@ -91,26 +92,29 @@ module _ (e : Sender) (s tid : ℕ) (content log : List ℕ) where
       publish-damaged p a q =
           rw q (meets (refused DamagedLog) (passed ∙ rw (g .0, lt-ltb (length log) (e .day .used) a)))
 
-      -- The log is not shorter than its used part.
-      module _ (a : e .day .used ≤ length log) where
+      -- The log is not shorter than its used part, and the entry takes so many bytes.
+      module _ (a : e .day .used ≤ length log) (size : ℕ) (z : size ≡ 16 + length content) where
         whole : ltb (length log) (e .day .used) ≡ false
         whole = le-ltb (length log) (e .day .used) a
 
-        pub publish-small : (p : PublishStep) → left < 16 + length content → p ≡ unpublished e TooSmall
+        pub publish-small : (p : PublishStep) → left < size → p ≡ unpublished e TooSmall
             → Publishes e s tid content log p log
         unfolding logShort entryFits
         publish-small p b q =
-            rw q (meets (refused TooSmall) (passed ∙ rw (g .0, whole, lt-ltb left (16 + length content) b)))
+            rw q (meets (refused TooSmall) (passed ∙ rw (g .0, whole, ← z, lt-ltb left size b)))
 
         -- The entry fits.
-        module _ (b : 16 + length content ≤ left) where
+        module _ (b : size ≤ left) where
+          pub entry-within : e .day .used + 16 + length content ≤ length log
+          entry-within = omega (arith, a, b, z)
+
           fits : ltb left (16 + length content) ≡ false
-          fits = le-ltb left (16 + length content) b
+          fits = rw (← z) (le-ltb left size b)
 
           -- `over` is whether the shares would pass the log's length.
-          module _ (over : Bool) (o : over ≡ ltb (length log) (sharesIn (e .day) at (16 + length content))) where
+          module _ (over : Bool) (o : over ≡ ltb (length log) (sharesIn (e .day) at size)) where
             over-is : overShares e s log content ≡ over
-            over-is = rw (shares-entry e s at (g .1) (16 + length content)) (sym o)
+            over-is = rw (← z, shares-entry e s at (g .1) size) (sym o)
 
             pub publish-over : over ≡ true → (p : PublishStep) → p ≡ unpublished e TooSmall
                 → Publishes e s tid content log p log
@@ -120,10 +124,10 @@ module _ (e : Sender) (s tid : ℕ) (content log : List ℕ) where
             -- The shares are within the log's length.
             module _ (within : over ≡ false) where
               -- So is what the series then uses.
-              pub publish-within : one .used + (16 + length content) ≤ length log
+              pub publish-within : one .used + size ≤ length log
               publish-within =
-                  used-within e s at (g .1) (16 + length content) (g .0) (length log)
-                  (ltb-false (length log) (sharesIn (e .day) at (16 + length content)) (sym o ∙ within))
+                  used-within e s at (g .1) size (g .0) (length log)
+                  (ltb-false (length log) (sharesIn (e .day) at size) (sym o ∙ within))
 
               pub publish-full : (p : PublishStep) → 1000000 ≤ published → p ≡ unpublished e DayFull
                   → Publishes e s tid content log p log
@@ -144,9 +148,9 @@ module _ (e : Sender) (s tid : ℕ) (content log : List ℕ) where
                           series = s;
                           published = published + 1;
                           reserve = one .reserve;
-                          used = one .used + (16 + length content);
+                          used = one .used + size;
                         }))
-                        (e .day .used + (16 + length content)) (e .seat .places);
+                        (e .day .used + size) (e .seat .places);
                     answer = Number (published + 1);
                   })
                   o
@@ -154,6 +158,7 @@ module _ (e : Sender) (s tid : ℕ) (content log : List ℕ) where
               publish-done o n q =
                   rw (
                     q,
+                    z,
                     ← published-is,
                     reserve-at e s at (g .1),
                     used-at e s at (g .1),

@@ -7,26 +7,38 @@ use native.Mathlib.Numerals.{add-one}
 use borrow.Author.Tests.{eq-eqb, ne-eqb}
 use lib.ListN.{length, getD, drop, drop-of-length-le, List·getD-map}
 use lib.Seq.{drop-cons}
+use lib.Dec.{eqb}
 use Rattle.ftd.specs.Fields.{countOf}
 use Rattle.ftd.specs.Composition.{CompositionLine, appendixE, lineTids, directions, fids, leasts, mosts, lineAt}
 use Rattle.ftd.specs.Composition.{inRange, lineHolds, allHold}
+use Rattle.ftd.specs.Composition.Helpers.{lineOf}
 
 abbrev pub noLine : CompositionLine
 noLine = record { tid = 0; direction = 0; fid = 0; least = 0; most = 0 }
 
-module _ (r : CompositionLine) (tid direction : ℕ) (content : List ℕ) (x : ℕ) (p : x ≡ r .tid) where
-  pub other-tid : (x ≡ tid → ⊥) → true ≡ lineHolds r tid direction content
+-- By TID and direction, whether a line is of the message.
+module _ (r : CompositionLine) (tid direction x : ℕ) (p : x ≡ r .tid) where
+  pub other-tid : (x ≡ tid → ⊥) → false ≡ lineOf r tid direction
   other-tid n = rw (← p, ne-eqb x tid n)
 
-  module _ (same : x ≡ tid) where
-    pub other-direction : (r .direction ≡ direction → ⊥) → true ≡ lineHolds r tid direction content
-    other-direction n = rw (← p, eq-eqb x tid same, ne-eqb (r .direction) direction n)
+  pub same-tid : x ≡ tid → eqb (r .direction) direction ≡ lineOf r tid direction
+  same-tid e = rw (← p, eq-eqb x tid e)
 
-    pub line-here : r .direction ≡ direction → (least most fid n : ℕ) → least ≡ r .least → most ≡ r .most → fid ≡ r .fid
-        → n ≡ countOf fid content
-        → (b : Bool) → b ≡ inRange least most n → b ≡ lineHolds r tid direction content
-    line-here d least most fid n q s f c b e =
-        e ∙ rw (← p, eq-eqb x tid same, eq-eqb (r .direction) direction d, q, s, c, f)
+-- The counts that a line allows.
+pub line-range : (r : CompositionLine) (least most n : ℕ) → least ≡ r .least → most ≡ r .most → (b : Bool)
+    → b ≡ inRange least most n
+    → b ≡ inRange (r .least) (r .most) n
+line-range r least most n p q b e = e ∙ rw (p, q)
+
+-- By the count, whether it holds.
+module _ (r : CompositionLine) (tid direction : ℕ) (content : List ℕ) (o : Bool) (p : o ≡ lineOf r tid direction) where
+  pub line-other : o ≡ false → true ≡ lineHolds r tid direction content
+  line-other e = rw (← p, e)
+
+  pub line-here : o ≡ true → (fid n : ℕ) → fid ≡ r .fid → n ≡ countOf fid content → (b : Bool)
+      → b ≡ inRange (r .least) (r .most) n
+      → b ≡ lineHolds r tid direction content
+  line-here e fid n f c b q = q ∙ rw (← p, e, c, f)
 
 pub lines : length appendixE ≡ 82
 unfolding appendixE

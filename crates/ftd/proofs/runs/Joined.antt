@@ -1,7 +1,7 @@
 -- Entries joined are cut into the same entries, and those of a run are such entries. Assumes nothing.
 use Prim.Native.Nat.{ℕ, zero, suc, _+_, _<_, _≤_}
-use mathlib.Core.Path.{_≡_, refl, ap, _∙_}
-use mathlib.Core.List.{List, [], _∷_, _++_}
+use mathlib.Core.Path.{_≡_, refl, sym, ap, _∙_}
+use mathlib.Core.List.{List, [], _∷_, _++_, append-assoc, append-nil}
 use mathlib.Core.Bool.{Bool, true, false, cond}
 use native.Mathlib.Omega.{arith}
 use borrow.Author.Tests.{le-leb, leb-true}
@@ -27,6 +27,17 @@ cut-front more (x ∷ e) r h =
     ap (λ (t : List ℕ). inFront t (more (drop (suc (length e)) (x ∷ e ++ r)))) (take-append-seam (x ∷ e) r)
     ∙ ap (λ (t : List ℕ). inFront (x ∷ e) (more t)) (drop-append-seam (x ∷ e) r)
 
+-- Entries, joined, with anything behind them, are those entries and the run of what is behind.
+pub run-behind : (F : Form) → 0 < F .head → (es : List (List ℕ)) → Entries F es → (r : List ℕ)
+    → runOf F (joined es ++ r) ≡ record { entries = es ++ runOf F r .entries; rest = runOf F r .rest }
+run-behind F some [] a r = refl
+run-behind F some (e ∷ es) a r =
+    ap (runOf F) (append-assoc e (joined es) r)
+    ∙ run-step F some (e ++ (joined es ++ r))
+    ∙ ap (cutOff (runOf F) (e ++ (joined es ++ r))) (a .0 .stands (joined es ++ r))
+    ∙ cut-front (runOf F) e (joined es ++ r) (a .0 .some)
+    ∙ ap (inFront e) (run-behind F some es (a .1) r)
+
 run-empty : (F : Form) → runOf F [] ≡ record { entries = []; rest = [] }
 unfolding runOf
 run-empty F = refl
@@ -34,12 +45,10 @@ run-empty F = refl
 -- A run of entries, joined, is those entries.
 pub run-of : (F : Form) → 0 < F .head → (es : List (List ℕ)) → Entries F es
     → runOf F (joined es) ≡ record { entries = es; rest = [] }
-run-of F some [] a = run-empty F
-run-of F some (e ∷ es) a =
-    run-step F some (e ++ joined es)
-    ∙ ap (cutOff (runOf F) (e ++ joined es)) (a .0 .stands (joined es))
-    ∙ cut-front (runOf F) e (joined es) (a .0 .some)
-    ∙ ap (inFront e) (run-of F some es (a .1))
+run-of F some es a =
+    ap (runOf F) (sym (append-nil (joined es)))
+    ∙ run-behind F some es a []
+    ∙ rw (run-empty F, append-nil es)
 
 -- How many bytes follow is said by the head alone.
 abbrev pub Local : Form → Type 0

@@ -1,7 +1,7 @@
-//! Every piece counted in the lists (document 02, No. 10): single packets of any transmission, lost, repeated and late at will; and
-//! chains around the most packets that are counted.
+//! Every piece counted in the lists (document 02, No. 10): single packets of any transmission, lost, repeated and late
+//! at will; and chains around the most packets that are counted.
 
-use super::{near_place, Bytes, Kind, Lists, STRANGE};
+use super::{near_place, Bytes, Kind, Lists, Transmission, STRANGE};
 use reader::generate::Random;
 use reader::packet::{read, Packet};
 use reader::receiving::{Chain, Kept};
@@ -30,48 +30,52 @@ pub(super) fn any_count(r: &mut Random) -> u32 {
     ])
 }
 
-impl Lists {
-    /// Is this the message that its series wants next?
-    fn wanted(&self, packet: &[u8]) -> bool {
-        let next = |kept: &&Kept, packet: &reader::packet::MessagePacket| {
-            kept.series == packet.series && kept.mark == packet.mark && u64::from(kept.last) + 1 == packet.number.into()
-        };
-        match read(packet) {
-            Packet::Message(one) => self.world.receiving.open.iter().any(|kept| kept.logged_in && next(&kept, &one)),
-            _ => false,
-        }
+/// Is this the message that its series wants next?
+fn wanted(open: &[Kept], packet: &[u8]) -> bool {
+    let next = |kept: &&Kept, packet: &reader::packet::MessagePacket| {
+        kept.series == packet.series && kept.mark == packet.mark && u64::from(kept.last) + 1 == packet.number.into()
+    };
+    match read(packet) {
+        Packet::Message(one) => open.iter().any(|kept| kept.logged_in && next(&kept, &one)),
+        _ => false,
     }
+}
 
-    /// Single packets of a message, of all its transmissions: mostly the next one; some are lost, repeated or late. Often it is the
-    /// message that is wanted next, and mostly one of several packets.
-    pub(super) fn single_packets(&self, r: &mut Random) -> Vec<Bytes> {
-        let long = !r.once_in(6);
-        let all = || self.line.messages.iter().map(|of| &of.packets).filter(|of| of.len() > 1 || !long);
-        let next: Vec<&Bytes> = all().map(|of| &of[0]).filter(|first| self.wanted(first)).collect();
-        let of = if next.is_empty() || r.once_in(5) { all().map(|of| &of[0]).collect() } else { next };
-        let Some(&first) = super::late_place(r, of.len()).map(|i| &of[i]) else { return vec![] };
-        let same: Vec<&Vec<Bytes>> = all().filter(|of| of[0] == *first).collect();
-        let most = same.iter().map(|of| of.len()).max().unwrap_or(1);
-        // In one of three the faults are few, so that long messages are completed too.
-        let seldom = if r.once_in(3) { 40 } else { 4 };
-        let (mut next, mut packets) = (if r.once_in(5) { r.below(most) } else { 0 }, vec![]);
-        for _ in 0..r.within(1, most + 2) {
-            if r.once_in(seldom) {
-                match r.below(4) {
-                    0 => next += 1,
-                    1 => next = next.saturating_sub(1),
-                    2 => next = 0,
-                    _ => next = r.below(most),
-                }
+/// Single packets of a message, of all its transmissions: mostly the next one; some are lost, repeated or late. Often
+/// it is the message that an end with these series wants next, and mostly one of several packets.
+pub(super) fn single_packets(r: &mut Random, messages: &[Transmission], open: &[Kept]) -> Vec<Bytes> {
+    let long = !r.once_in(6);
+    let all = || messages.iter().map(|of| &of.packets).filter(|of| of.len() > 1 || !long);
+    let next: Vec<&Bytes> = all().map(|of| &of[0]).filter(|first| wanted(open, first)).collect();
+    let of = if next.is_empty() || r.once_in(5) { all().map(|of| &of[0]).collect() } else { next };
+    let Some(&first) = super::late_place(r, of.len()).map(|i| &of[i]) else { return vec![] };
+    let same: Vec<&Vec<Bytes>> = all().filter(|of| of[0] == *first).collect();
+    let most = same.iter().map(|of| of.len()).max().unwrap_or(1);
+    // In one of three the faults are few, so that long messages are completed too.
+    let seldom = if r.once_in(3) { 40 } else { 4 };
+    let (mut next, mut packets) = (if r.once_in(5) { r.below(most) } else { 0 }, vec![]);
+    for _ in 0..r.within(1, most + 2) {
+        if r.once_in(seldom) {
+            match r.below(4) {
+                0 => next += 1,
+                1 => next = next.saturating_sub(1),
+                2 => next = 0,
+                _ => next = r.below(most),
             }
-            // Of a transmission that is broken off or unfinished there are the first ones alone.
-            let there: Vec<&Bytes> = same.iter().filter_map(|of| of.get(next)).collect();
-            if !there.is_empty() {
-                packets.push(there[r.below(there.len())].clone());
-            }
-            next = if next + 1 < most { next + 1 } else { 0 };
         }
-        packets
+        // Of a transmission that is broken off or unfinished there are the first ones alone.
+        let there: Vec<&Bytes> = same.iter().filter_map(|of| of.get(next)).collect();
+        if !there.is_empty() {
+            packets.push(there[r.below(there.len())].clone());
+        }
+        next = if next + 1 < most { next + 1 } else { 0 };
+    }
+    packets
+}
+
+impl Lists {
+    pub(super) fn single_packets(&self, r: &mut Random) -> Vec<Bytes> {
+        single_packets(r, &self.line.messages, &self.world.receiving.open)
     }
 
     /// These one by one, with calls of either end between them. They count as no run, whatever they come to.
@@ -128,7 +132,8 @@ impl Lists {
         *self.singles.entry(what).or_default() += 1;
     }
 
-    /// A chain with any count of packets, often about the most that are counted, and pieces of it with a place, or without.
+    /// A chain with any count of packets, often about the most that are counted, and pieces of it with a place, or
+    /// without.
     pub(super) fn counted_chain(&mut self, r: &mut Random) -> Result<(), String> {
         if self.world.receiving.open.is_empty() {
             return Ok(());
@@ -145,7 +150,7 @@ impl Lists {
             let content = if r.once_in(4) { super::plain(r.below(3)) } else { vec![] };
             let of = (kept.series, kept.last.wrapping_add(1));
             let at = near_place(r, letter, kept.chain);
-            let packet = self.packet(r, STRANGE, of, (letter, at), [None, None, None, kept.mark], &content);
+            let packet = super::made_packet(r, STRANGE, of, (letter, at), [None, None, None, kept.mark], &content);
             self.receive(r, &packet)?;
         }
         Ok(())

@@ -5,7 +5,7 @@ use borrow.Author.Needs.{needs}
 use mathlib.Core.List.{map}
 use Rattle.flow.proofs.series.Places.{unmapped}
 use Rattle.exports.specs.Receiving.{keptFor, liveFor, receiverFor}
-use Rattle.exports.proofs.Filled.{Filled, mapped-turn, mapped-end}
+use Rattle.relay.proofs.Filled.{Filled, mapped-turn, mapped-end}
 use Rattle.exports.proofs.receiving.receiver_for.Statement.{statement}
 use Rattle.exports.proofs.receiving.receiver_for.Tie as tie
 

@@ -5,7 +5,7 @@ use borrow.Author.Needs.{needs}
 use mathlib.Core.List.{map}
 use Rattle.flow.proofs.series.Places.{unmapped}
 use Rattle.exports.specs.Serving.{daySeriesFor, placeFor, senderFor}
-use Rattle.exports.proofs.Filled.{Filled, mapped-turn, mapped-end}
+use Rattle.relay.proofs.Filled.{Filled, mapped-turn, mapped-end}
 use Rattle.exports.proofs.serving.sender_for.Statement.{statement}
 use Rattle.exports.proofs.serving.sender_for.Tie as tie
 

@@ -3,11 +3,11 @@ use borrow.Author.Needs.{needs}
 use Rattle.flow.proofs.receive.complete.Statement.{statement}
 use Rattle.flow.proofs.receive.complete.Tie as tie
 
-drop-chain-requires : tie.Need-drop-chain-requires
-drop-chain-requires c κs = search needs
+leave-requires : tie.Need-leave-requires
+leave-requires c κs = search needs
 
 returns : tie.Need-returns
 returns c = search needs
 
 pub complete-spec : {M : Type 1} → statement M
-complete-spec = tie.close (tie.spec drop-chain-requires returns)
+complete-spec = tie.close (tie.spec leave-requires returns)

@@ -1,8 +1,7 @@
 -- `receive::hold` meets its contract. Assumes nothing.
 use native.Mathlib.Omega.{arith}
 use borrow.Author.Needs.{needs}
-use lib.ListN.{length}
-use Rattle.flow.proofs.receive.Pieces.{hold-small, part-fits, piece-fits, hold-whole, hold-done}
+use Rattle.flow.proofs.receive.Pieces.{piece-fits, hold-small, hold-whole, hold-done}
 use Rattle.flow.proofs.receive.hold.Statement.{statement}
 use Rattle.flow.proofs.receive.hold.Tie as tie
 
@@ -21,29 +20,26 @@ mul-start c = search needs
 add-len : tie.Need-add-len
 add-len c =
     let room = c .before .no-room in
-    let a = c .before .before .before .before .args in
-    let fits =
-    piece-fits (a .count) (length (a .buffer .now)) (a .held) (length (a .content .now)) (room .result) (room .ensures)
-    (c .if1 .left) in
+    let a = c .before .before .args in
+    let fits = piece-fits (a .count) (a .size) (a .held) (a .more) (room .result) (room .ensures) (c .if1 .left) in
     omega (arith, fits)
 
-put-piece-requires : tie.Need-put-piece-requires
-put-piece-requires c κs = search (needs, part-fits, piece-fits)
+add-t17 : tie.Need-add-t17
+add-t17 c =
+    let room = c .before .no-room in
+    let start = c .before .before in
+    let a = start .args in
+    let fits = piece-fits (a .count) (a .size) (a .held) (a .more) (room .result) (room .ensures) (c .if1 .left) in
+    omega (arith, fits, start .pre)
 
 complete-requires : tie.Need-complete-requires
 complete-requires c κs = search needs
-
-same-length : tie.Need-same-length
-same-length c = search needs
 
 returns-2 : tie.Need-returns-2
 returns-2 c = search (needs, hold-whole)
 
 keep-chain-requires : tie.Need-keep-chain-requires
 keep-chain-requires c κs = search needs
-
-same-length-2 : tie.Need-same-length-2
-same-length-2 c = search needs
 
 returns-3 : tie.Need-returns-3
 returns-3 c = search (needs, hold-done)
@@ -57,10 +53,8 @@ hold-spec =
     returns
     mul-start
     add-len
-    put-piece-requires
+    add-t17
     complete-requires
-    same-length
     returns-2
     keep-chain-requires
-    same-length-2
     returns-3)

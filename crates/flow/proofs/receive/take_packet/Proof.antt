@@ -1,7 +1,7 @@
 -- `receive::take_packet` meets its contract. Assumes nothing.
 use borrow.Author.Needs.{needs}
-use Rattle.flow.proofs.receiver.Lookups.{found-inside, found-scaled, eight}
-use Rattle.flow.proofs.receive.Back.{take-unknown, place-found, take-found}
+use Rattle.flow.proofs.receiver.Lookups.{found-inside, found-scaled}
+use Rattle.flow.proofs.receive.Back.{take-unknown, take-found}
 use Rattle.flow.proofs.receive.take_packet.Statement.{statement}
 use Rattle.flow.proofs.receive.take_packet.Tie as tie
 
@@ -27,7 +27,7 @@ element-copy-out-live : tie.Need-element-copy-out-live
 element-copy-out-live c = search (needs, found-inside)
 
 take-one-requires : tie.Need-take-one-requires
-take-one-requires c κs = search (needs, place-found)
+take-one-requires c κs = search (needs, found-inside)
 
 with-at-requires : tie.Need-with-at-requires
 with-at-requires c κs = search (needs, found-inside)
@@ -35,19 +35,8 @@ with-at-requires c κs = search (needs, found-inside)
 returns : tie.Need-returns
 returns c = search (needs, take-unknown)
 
-same-length : tie.Need-same-length
-same-length c = search needs
-
 returns-2 : tie.Need-returns-2
-returns-2 c =
-    let one = c .before .before .before .before .before in
-    let told = one .before .before .before .before .before .before .before in
-    let found = told .before .before in
-    let start = found .before .before .before in
-    let a = start .args in
-    take-found (a .e) (a .h) (found .find .result) (found .find .ensures) (told .i .given .0 .0) (told .i .given .1)
-    (eight (a .e) _ (start .good .0)) (a .date) (a .place) (a .at) (a .content .now) (a .buffer .now)
-    (one .take-one .result) _ (one .take-one .ensures) _ (c .with-at .ensures)
+returns-2 c = search (needs, take-found)
 
 pub take-packet-spec : {M : Type 1} → statement M
 take-packet-spec =
@@ -63,5 +52,4 @@ take-packet-spec =
     take-one-requires
     with-at-requires
     returns
-    same-length
     returns-2)

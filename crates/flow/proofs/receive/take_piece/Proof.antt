@@ -40,20 +40,11 @@ hold-requires-3 c κs = search needs
 returns-2 : tie.Need-returns-2
 returns-2 c = search (needs, piece-single)
 
-same-length : tie.Need-same-length
-same-length c = search needs
-
 returns-3 : tie.Need-returns-3
 returns-3 c = search (needs, piece-first)
 
-same-length-2 : tie.Need-same-length-2
-same-length-2 c = search needs
-
 returns-4 : tie.Need-returns-4
 returns-4 c = search (needs, piece-middle)
-
-same-length-3 : tie.Need-same-length-3
-same-length-3 c = search needs
 
 returns-5 : tie.Need-returns-5
 returns-5 c = search (needs, piece-last)
@@ -74,9 +65,6 @@ take-piece-spec =
     enum-told-4
     hold-requires-3
     returns-2
-    same-length
     returns-3
-    same-length-2
     returns-4
-    same-length-3
     returns-5)

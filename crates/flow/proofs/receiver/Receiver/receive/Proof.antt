@@ -1,88 +1,42 @@
 -- `receiver::Receiver::receive` meets its contract. Assumes nothing.
-use native.Mathlib.Omega.{arith}
 use borrow.Author.Needs.{needs}
-use Rattle.flow.proofs.login.Whole.{read-inside}
-use Rattle.flow.proofs.receive.Whole.{not-packet, read-message, read-refused, read-short, read-idle}
+use Rattle.flow.proofs.receive.Whole.{decided-copied}
 use Rattle.flow.proofs.receiver.Receiver.receive.Statement.{statement}
 use Rattle.flow.proofs.receiver.Receiver.receive.Tie as tie
 
-not-one-packet-requires : tie.Need-not-one-packet-requires
-not-one-packet-requires c κs = search needs
+decide-requires : tie.Need-decide-requires
+decide-requires c κs = search needs
 
-returns : tie.Need-returns
-returns c = search (needs, not-packet)
+add-copy-piece : tie.Need-add-copy-piece
+add-copy-piece c = search needs
 
-read-dated-requires : tie.Need-read-dated-requires
-read-dated-requires c κs = search needs
+sub-copy-piece : tie.Need-sub-copy-piece
+sub-copy-piece c = search needs
 
-enum-known-read : tie.Need-enum-known-read
-enum-known-read c = search needs
+part-copy-piece-start : tie.Need-part-copy-piece-start
+part-copy-piece-start c = search needs
 
-add-take-packet : tie.Need-add-take-packet
-add-take-packet c =
-    let r = c .before .before .before in
-    let m = c .before .read .given in
-    let k = r .before .before .before .before .before in
-    let d = r .read-dated in
-    let h = read-inside (k .args .packet .now) (d .result) (d .ensures) (m .0 .0) (m .0 .1 .0) (m .0 .1 .1 .0) (m .1) in
-    omega (arith, h, k .good .1 .1 .0)
+part-copy-piece-end : tie.Need-part-copy-piece-end
+part-copy-piece-end c = search needs
 
-sub-take-packet : tie.Need-sub-take-packet
-sub-take-packet c = search needs
-
-part-take-packet-start : tie.Need-part-take-packet-start
-part-take-packet-start c = search needs
-
-part-take-packet-end : tie.Need-part-take-packet-end
-part-take-packet-end c =
-    let r = c .before .before .before in
-    let m = c .before .read .given in
-    let k = r .before .before .before .before .before in
-    let d = r .read-dated in
-    let h = read-inside (k .args .packet .now) (d .result) (d .ensures) (m .0 .0) (m .0 .1 .0) (m .0 .1 .1 .0) (m .1) in
-    omega (arith, h)
-
-take-packet-requires : tie.Need-take-packet-requires
-take-packet-requires c κs = search needs
-
-enum-known-read-2 : tie.Need-enum-known-read-2
-enum-known-read-2 c = search needs
-
-enum-told : tie.Need-enum-told
-enum-told c = search needs
+copy-piece-requires : tie.Need-copy-piece-requires
+copy-piece-requires c κs = search needs
 
 same-length : tie.Need-same-length
 same-length c = search needs
 
-returns-2 : tie.Need-returns-2
-returns-2 c = search (needs, read-message)
-
-returns-3 : tie.Need-returns-3
-returns-3 c = search (needs, read-refused)
-
-returns-4 : tie.Need-returns-4
-returns-4 c = search (needs, read-short)
-
-returns-5 : tie.Need-returns-5
-returns-5 c = search (needs, read-idle)
+returns : tie.Need-returns
+returns c = search (needs, decided-copied)
 
 pub receive-spec : {M : Type 1} → statement M
 receive-spec =
     tie.close
     (tie.spec
-    not-one-packet-requires
-    returns
-    read-dated-requires
-    enum-known-read
-    add-take-packet
-    sub-take-packet
-    part-take-packet-start
-    part-take-packet-end
-    take-packet-requires
-    enum-known-read-2
-    enum-told
+    decide-requires
+    add-copy-piece
+    sub-copy-piece
+    part-copy-piece-start
+    part-copy-piece-end
+    copy-piece-requires
     same-length
-    returns-2
-    returns-3
-    returns-4
-    returns-5)
+    returns)

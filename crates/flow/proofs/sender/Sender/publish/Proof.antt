@@ -1,8 +1,7 @@
 -- `sender::Sender::publish` meets its contract. Assumes nothing.
 use mathlib.Core.Path.{sym, _∙_}
 use borrow.Author.Needs.{needs}
-use Rattle.flow.proofs.sender.Lookups.{found-at}
-use Rattle.flow.proofs.sender.Publishing.{publish-content, publish-unknown}
+use Rattle.flow.proofs.sender.Publishing.{publish-content}
 use Rattle.flow.proofs.sender.Sender.publish.Statement.{statement}
 use Rattle.flow.proofs.sender.Sender.publish.Tie as tie
 
@@ -15,43 +14,25 @@ enum-known-r c = search needs
 not-published-requires : tie.Need-not-published-requires
 not-published-requires c κs = search needs
 
-returns : tie.Need-returns
-returns c = search (needs, publish-content)
-
 enum-told : tie.Need-enum-told
 enum-told c = search needs
 
-find-requires : tie.Need-find-requires
-find-requires c κs = search needs
+slice-aggregate-publish-passed : tie.Need-slice-aggregate-publish-passed
+slice-aggregate-publish-passed c = search needs
 
-enum-told-2 : tie.Need-enum-told-2
-enum-told-2 c = search needs
+publish-passed-requires : tie.Need-publish-passed-requires
+publish-passed-requires c κs =
+    let told = c .before .before in
+    sym (told .before .before .check-content .ensures) ∙ told .enum-told .given .1
 
-not-published-requires-2 : tie.Need-not-published-requires-2
-not-published-requires-2 c κs = search needs
-
-enum-known-at : tie.Need-enum-known-at
-enum-known-at c = search needs
-
-publish-at-requires : tie.Need-publish-at-requires
-publish-at-requires c κs =
-    let k = c .before .before in
-    let find = k .before .before .find in
-    let check = k .before .before .before .before .before .check-content in
-    let passed = sym (check .ensures) ∙ k .before .before .before .enum-told .given .1 in
-    (passed, found-at _ _ _ _ (find .ensures) (k .at .given .1))
-
-returns-2 : tie.Need-returns-2
-returns-2 c =
-    let told = c .before .before .before .before in
-    let passed = sym (told .before .before .check-content .ensures) ∙ told .enum-told .given .1 in
-    search (needs, publish-unknown)
+returns : tie.Need-returns
+returns c = search (needs, publish-content)
 
 same-length : tie.Need-same-length
 same-length c = search needs
 
-returns-3 : tie.Need-returns-3
-returns-3 c = search needs
+returns-2 : tie.Need-returns-2
+returns-2 c = search needs
 
 pub publish-spec : {M : Type 1} → statement M
 publish-spec =
@@ -60,13 +41,9 @@ publish-spec =
     check-content-requires
     enum-known-r
     not-published-requires
-    returns
     enum-told
-    find-requires
-    enum-told-2
-    not-published-requires-2
-    enum-known-at
-    publish-at-requires
-    returns-2
+    slice-aggregate-publish-passed
+    publish-passed-requires
+    returns
     same-length
-    returns-3)
+    returns-2)

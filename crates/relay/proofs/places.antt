@@ -1,0 +1,2 @@
+-- Laws of the seats' numbers.
+pub mod Written

@@ -1,0 +1,2 @@
+-- The laws of a bufferful at the box.
+pub mod Turns

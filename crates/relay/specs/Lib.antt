@@ -1,0 +1,11 @@
+pub mod State
+pub mod Box
+pub mod Calls
+pub mod Together
+pub mod Promises
+pub mod Helpers
+pub mod Bufferful
+pub mod Examples
+pub mod World
+pub mod Seats
+pub mod Agreement

@@ -1,0 +1,29 @@
+// The box (02, No. 3): one receiving end joined to a serving end with 16 seats, over the contracts of `flow`.
+ghost use Rattle.relay.specs.Agreement.{BoxAgreement};
+ghost use Rattle.relay.specs.Bufferful.{BoxBufferful};
+ghost use Rattle.relay.specs.Calls.{BoxCalls};
+ghost use Rattle.relay.specs.Examples.{BoxExamples};
+
+pub mod places; // what the seats have, as numbers that are lent
+pub mod relay; // the box and its calls
+pub mod several; // a bufferful from above
+
+// The agreement of the box, as a promise.
+pub fn keeps_box()
+    ensures { λ _. ⌜ BoxAgreement ⌝ }
+{}
+
+// What each call of the box changes and leaves, as a promise.
+pub fn keeps_box_calls()
+    ensures { λ _. ⌜ BoxCalls ⌝ }
+{}
+
+// A bufferful from above is so many single calls, as a promise.
+pub fn keeps_box_bufferful()
+    ensures { λ _. ⌜ BoxBufferful ⌝ }
+{}
+
+// The worked examples, as a promise: the definitions answer what the papers say.
+pub fn keeps_box_examples()
+    ensures { λ _. ⌜ BoxExamples ⌝ }
+{}
