@@ -2,12 +2,13 @@
  * that joins them, the trading calendar, the book of a contract; and the frames of JR/T 0087-2012, after FIX 4.2.
  *
  * The library is libftd.a, for x86-64 Linux; README.md has the lines that build and link it. Of other libraries it
- * needs memcpy, memmove and memset alone. It keeps no state, takes no memory from the heap and at most 5500 bytes of
- * stack (ftd_book_take: 22000), makes no system call and always returns: each call has an answer for any bytes and
- * numbers, and is proved to give the answer, the state and every byte of every buffer that its definition says
- * (crates/exports/specs, crates/flow/specs, crates/calendar/specs, crates/book/specs, crates/fix/specs,
- * crates/ftd/specs). As calls share nothing, threads need no lock. examples/driver.c is a driver of both ends, and
- * examples/frames.c a session of frames, to be read along with this header.
+ * needs memcpy, memmove and memset alone. It keeps no state, takes no memory from the heap and at most 7500 bytes of
+ * stack (ftd_box_receive, ftd_box_receive_several: 14000; ftd_book_take: 22000), makes no system call and always
+ * returns: each call has an answer for any bytes and numbers, and is proved to give the answer, the state and every
+ * byte of every buffer that its definition says (crates/exports/specs, crates/relay/specs, crates/flow/specs,
+ * crates/calendar/specs, crates/book/specs, crates/fix/specs, crates/ftd/specs). As calls share nothing, threads need
+ * no lock. examples/driver.c is a driver of both ends, and examples/frames.c a session of frames, to be read along with
+ * this header.
  *
  * THE TERMS
  * A flow is a list of messages, numbered from 1 in each series and day. A series is a number from 1 up that both sides

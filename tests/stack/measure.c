@@ -22,6 +22,12 @@ static const size_t reserves[] = {1000, 1000, 1000, 1000, 1000, 1000, 1000, 4000
 static struct ftd_sender sender;
 static struct ftd_receiver receiver;
 static struct ftd_book book;
+static struct ftd_box box;
+static struct ftd_box_confirmed box_confirmed;
+static struct ftd_box_received box_received;
+static struct ftd_box_received_several box_taken;
+static uint64_t places[FTD_PLACES];
+static uint8_t box_log[LOG];
 static volatile uint8_t refusal;
 
 /* A field of n bytes in all behind the others of a content. */
@@ -130,6 +136,33 @@ static void receive_all(void)
         refusal = received.refusal;
     }
 }
+static void box_confirm(void)
+{
+    box_confirmed = ftd_box_confirm_login(box, 8, answer, logged_in.bytes, box_log, sizeof box_log, places);
+    refusal = box_confirmed.refusal;
+}
+static void box_receive(void)
+{
+    box_received.box = box;
+    for (size_t at = 0, n; at < sent.bytes; at += n) {
+        n = ftd_said_length(output + at, sent.bytes - at);
+        box_received = ftd_box_receive(box_received.box, output + at, n, box_log, sizeof box_log, buffer, sizeof buffer);
+        refusal = box_received.refusal;
+    }
+}
+static void box_several(void)
+{
+    box_taken = ftd_box_receive_several(box, output, sent.bytes, box_log, sizeof box_log, buffer, sizeof buffer);
+    refusal = box_taken.refusal;
+}
+static void box_login(void)
+{
+    refusal = ftd_box_login(box, 15, 8, packet, asked.bytes, text, texts, places, answer, sizeof answer).refusal;
+}
+static void box_send(void)
+{
+    refusal = ftd_box_send(box, 15, 8, places, box_log, sizeof box_log, output, sizeof output).refusal;
+}
 static void take(void)
 {
     struct ftd_book_step step = ftd_book_take(book, 0x2001, quotes, quoted);
@@ -231,6 +264,18 @@ int main(void)
     if (several.answer != FTD_SEVERAL_MESSAGE || several.content.len != filled)
         puts("not handed on");
     row("ftd_connect", reconnect);
+    box = ftd_box_open(ftd_box_fresh(), series, 8, reserves, 8).box;
+    row("ftd_box_confirm_login", box_confirm);
+    box = box_confirmed.box;
+    row("ftd_box_receive_several", box_several);
+    if (box_taken.answer != FTD_SEVERAL_MESSAGE)
+        puts("not handed on");
+    row("ftd_box_receive", box_receive);
+    if (box_received.answer != FTD_RECEIVE_MESSAGE || box_received.content.len != filled)
+        puts("not handed on");
+    box = box_received.box;
+    row("ftd_box_login", box_login);
+    row("ftd_box_send", box_send);
     for (uint8_t i = 0; i < 64; i++) { /* buying, absolute, each at a price of its own */
         uint8_t bytes[33] = "cu0405    \0\1\0" "0000010.0000\0\0\0\7\0\0\0";
         bytes[18] = '1' + i / 8;
