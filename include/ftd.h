@@ -65,14 +65,20 @@
  * line of its own: what ftd_box_login and ftd_box_send write for a seat goes to its end alone, and login packets of
  * that end alone to ftd_box_login for the seat.
  *
+ * NAMED PLACES
+ * A receiving end can be marked before a line test and returned to afterwards: ftd_keep lays its trade dates and last
+ * numbers away under a name, ftd_return brings them back. What was handed on between the two comes once more then.
+ * ftd_keep and ftd_return say what a program may count on.
+ *
  * RULES OF ALL CALLS
  * Bytes are lent as a pointer and a count. A call reads and writes only within what it is lent, and keeps no pointer.
  * Where the count is 0 the pointer may be null. What a call writes to (output, log, buffer) must not overlap what it
  * reads.
- * A state (struct ftd_sender, struct ftd_receiver, struct ftd_box, struct ftd_calendar, struct ftd_book) is given and
- * answered by value: the caller keeps `end`, `box`, `calendar` or `book` of the answer from then on, also of a refusal.
- * It is plain data with no pointer; it may be copied, compared member by member and laid away. Any values of its
- * members are a state. The places of a box's seats are numbers that are lent, and any numbers are places.
+ * A state (struct ftd_sender, struct ftd_receiver, struct ftd_checkpoints, struct ftd_box, struct ftd_calendar, struct
+ * ftd_book) is given and answered by value: the caller keeps `end`, `checkpoints`, `box`, `calendar` or `book` of the
+ * answer from then on, also of a refusal. It is plain data with no pointer; it may be copied, compared member by member
+ * and laid away. Any values of its members are a state. The places of a box's seats are numbers that are lent, and any
+ * numbers are places.
  * `refusal` is 0, or a number of enum ftd_refusal: then the call did nothing, state and buffers are as they were (one
  * exception is said at ftd_receive and ftd_box_receive; of a bufferful it is said of the refused packet or record
  * alone). Where more than one refusal applies, the answer is the one that stands first in the call's list below. What
@@ -130,6 +136,9 @@ enum ftd_refusal {
     FTD_NOT_ONE_FRAME = 28,  /* frames: not exactly the bytes of one whole frame, or a number wrong */
     FTD_REQUIRED_TAG = 29,   /* frames: a required tag missing, it or the flag (43) twice */
     FTD_LOW_NUMBER = 30,     /* ftd_frame_read: a number lower than the expected one, without the flag */
+    FTD_WRONG_NAME = 31,     /* ftd_keep, ftd_return: not 1 to 8 letters A to Z */
+    FTD_FIFTH_NAME = 32,     /* ftd_keep: the name isn't in use, and four are */
+    FTD_UNKNOWN_NAME = 33,   /* ftd_return: the name isn't in use */
     FTD_NOT_PLAIN = 255      /* ftd_write_plain alone: neither a link packet nor a skipped one; not in the table */
 };
 
@@ -155,6 +164,8 @@ enum ftd_limit {
     FTD_MOST_BYTES = 65794,      /* bytes that a packet can take on the line: room for a bufferful of packets */
     FTD_LOG_HEAD = 16,           /* bytes that a message takes in the log besides its content */
     FTD_RECORD_HEAD = 10,        /* bytes of a record (ftd_publish_several) besides its content */
+    FTD_MOST_NAMES = 4,          /* named places of a receiving end */
+    FTD_MOST_LETTERS = 8,        /* letters of such a name */
     FTD_SEATS = 16,              /* seats of a box, numbered from 0 */
     FTD_PLACES = 384,            /* numbers of its seats' places: 16 seats, 8 series, three numbers each */
     FTD_MOST_SESSIONS = 8,       /* sessions of a calendar */
@@ -446,6 +457,42 @@ struct ftd_received_several {
     uint8_t answer;          /* enum ftd_several_answer */
     uint8_t origin;          /* message: enum ftd_origin, which of the two holds the content */
     uint8_t refusal;         /* refused: why */
+};
+
+/* ---- Named places of a receiving end: state and answers ---- */
+
+/* What a checkpoint keeps of a series. */
+struct ftd_checkpoint_series {
+    uint32_t date; /* the trade date, unless dated is 0 */
+    uint32_t last; /* the last number */
+    uint16_t series;
+    uint8_t dated;
+};
+
+/* One place: what a receiving end kept when it was given the name. */
+struct ftd_checkpoint {
+    uint64_t name; /* its letters as one number, the first in the lowest byte: "AB" is 0x4241; 0: none */
+    size_t count;  /* how many series were open; 0: the end wasn't opened yet. Above 8 it counts as 8 */
+    struct ftd_checkpoint_series series[FTD_MOST_SERIES]; /* the first `count` count, in the opening's order */
+};
+
+/* Of one receiving end, beside its state: no other call reads or changes it. 456 bytes. */
+struct ftd_checkpoints {
+    size_t count;                                 /* how many names are in use; above 4 it counts as 4 */
+    struct ftd_checkpoint places[FTD_MOST_NAMES]; /* the first `count`, in the order in which the names came first; of
+                                                     equal names, which no call leaves, the first place counts */
+};
+
+/* What ftd_keep leaves. */
+struct ftd_kept_step {
+    struct ftd_checkpoints checkpoints;
+    uint8_t refusal;
+};
+
+/* What ftd_return leaves. */
+struct ftd_returned {
+    struct ftd_receiver end;
+    uint8_t refusal;
 };
 
 /* ---- The box: state and answers ---- */
@@ -872,6 +919,42 @@ struct ftd_received ftd_receive(struct ftd_receiver end, const uint8_t *packet, 
  * Refusals: those of ftd_receive but 12, each of its packet alone; what the packets before it left stays. */
 struct ftd_received_several ftd_receive_several(struct ftd_receiver end, const uint8_t *packets, size_t count,
                                                 uint8_t *buffer, size_t buffer_len);
+
+/* ---- Named places of a receiving end ---- */
+
+/* No name is in use. */
+struct ftd_checkpoints ftd_checkpoints_fresh(void);
+
+/* Keep: lays trade date and last number of every series away under a name, 1 to 8 letters A to Z as bytes (no closing
+ * 0, no spaces behind them; "A" and "AA" are two names). A name that is in use gets the new values in place of the old,
+ * also where four are in use; a name can't be given up. Login, open chain and the buffer's bytes aren't kept. An end
+ * may be kept before its opening. It is only read, and isn't answered.
+ * Refusals: 31, 32. */
+struct ftd_kept_step ftd_keep(struct ftd_checkpoints checkpoints, struct ftd_receiver end,
+                              const uint8_t *name, size_t name_len);
+
+/* Return: every open series gets the trade date and the last number that were kept of it under the name, none and 0
+ * where it wasn't open then (so all of them, where the end was kept before its opening). Login and open chain of all
+ * are cleared, as by ftd_connect, so that each series has to log in anew. The open series, their order and the
+ * reassembly buffer stay; and all checkpoints stay, also this one and those kept later: one may return again and again,
+ * to any of them. They are only read, and aren't answered. Before the opening there is nothing to bring back.
+ * Refusals: 31, 33.
+ *
+ * What a program may count on. What counts of all that was handed on and reported is the list up to the last ftd_keep
+ * of the name, followed by what comes after the return; where there were returns before that ftd_keep, the list up to
+ * it is counted in the same way. Of this list everything holds that holds of a receiving end: the messages of a series
+ * and day are the first that were published there, once each, in order and whole, as many as the last number reported
+ * says, and numbered 1, 2, 3 and on. What was published isn't taken back: it counts whole. So whoever keeps the
+ * messages takes those away that came between ftd_keep and the return, and is given them again.
+ * That everything arrives is owed, as on a new line, from a login on that is asked for (ftd_request_login) after the
+ * return; with several, after the last. A login packet from before the return may ask for a number that is too high,
+ * and the messages before it then don't come; nothing wrong is handed on even so. A message of which some packets came
+ * before ftd_keep comes anew, whole.
+ * A driver that holds bytes not taken yet (ftd_receive_several) drops them at the return, with the line: packets from
+ * before it are refused with 14 until the next answer. The box has no such call, as what it published below can't be
+ * taken back. */
+struct ftd_returned ftd_return(struct ftd_checkpoints checkpoints, struct ftd_receiver end,
+                               const uint8_t *name, size_t name_len);
 
 /* ---- The box ---- */
 

@@ -1,6 +1,7 @@
 #!/usr/bin/env bash
 # Deliberate faults, each in a copy of one side: the differential tests must find every one of them.
-#   tests/faults.sh          faults of the reader and of the models of the ends and of the box, and one of the library's exported functions
+#   tests/faults.sh          faults of the reader and of the models of the ends, of named places and of the box, and one
+#                            of the library's exported functions
 #   tests/faults.sh --long   also ends that clause c shuts out, and one of the library's tables: the crates are proved anew for each
 # A fault of the library is one of its definitions and its code together, so that it is proved and built: the kind that no proof finds.
 # Needs what tests/run.sh has built.
@@ -136,8 +137,45 @@ fresh_reader
 change "$work/tests/reader/src/serving.rs" 'day.shares(place, size) > room' 'day.shares(place, content.len()) > room'
 expect "the head of an entry isn't counted in its series' share" "$root/target/lib" calls
 
+# With the library's calls, or without the feature `checkpoints` with the definitions in their place. (`calls .. wrong`
+# tries wrong programs in the library's place.)
+echo "- the model of named places"
+named=$work/tests/reader/src/checkpoints.rs
+fresh_reader
+change "$named" "(b'A'..=b'Z')" "(b'@'..=b'Z')"
+expect "@ is a letter" "$root/target/lib" calls
+fresh_reader
+change "$named" '(1..=MOST_LETTERS)' '(0..=MOST_LETTERS)'
+expect "a name may have no letter" "$root/target/lib" calls
+fresh_reader
+change "$named" 'None if self.places.len() >= MOST_NAMES' 'None if self.places.len() > MOST_NAMES'
+expect "five names may be in use" "$root/target/lib" calls
+fresh_reader
+change "$named" 'Some(place) => self.places[place].kept = kept,' 'Some(_) => {}'
+expect "keeping under a used name leaves what was there" "$root/target/lib" calls
+fresh_reader
+change "$named" 'Some(place) => self.places[place].kept = kept,
+            None if self.places.len() >= MOST_NAMES => return Err(32),' '_ if self.places.len() >= MOST_NAMES => return Err(32),
+            Some(place) => self.places[place].kept = kept,'
+expect "32 for a used name too" "$root/target/lib" calls
+fresh_reader
+change "$named" 'end: &mut Receiving, name: &[u8]) -> Result<(), u8> {
+' 'end: &mut Receiving, name: &[u8]) -> Result<(), u8> {
+        self.place(name).ok_or(33)?;
+'
+expect "33 before 31" "$root/target/lib" calls
+fresh_reader
+change "$named" '(one.mark, one.last) = (then.mark, then.last);' 'one.last = then.last;'
+expect "a return brings last back without the mark" "$root/target/lib" calls
+fresh_reader
+change "$named" '(one.logged_in, one.chain) = (false, None);' 'one.chain = None;'
+expect "a return keeps the logins" "$root/target/lib" calls
+fresh_reader
+change "$named" '.copied().unwrap_or_default();' '.copied().unwrap_or(Position { series: one.series, mark: one.mark, last: one.last });'
+expect "what was kept before the opening brings nothing back" "$root/target/lib" calls
+
 # Where the library has the box. (The wrong boxes of `calls .. wrong` are tried with and without it.)
-if grep -q '^default = \["box"\]' "$root/tests/outside/Cargo.toml"; then
+if grep -q '^default = .*"box"' "$root/tests/outside/Cargo.toml"; then
     echo "- the model of the box"
     relay=$work/tests/reader/src/relay.rs
     fresh_reader

@@ -55,6 +55,13 @@ static void sizes(void) {
     EXPECT(sizeof(struct ftd_confirmed) == 272);
     EXPECT(sizeof(struct ftd_received) == 296);
     EXPECT(sizeof(struct ftd_received_several) == 312);
+    EXPECT(sizeof(struct ftd_checkpoint_series) == 12 && offsetof(struct ftd_checkpoint_series, last) == 4);
+    EXPECT(offsetof(struct ftd_checkpoint_series, series) == 8 && offsetof(struct ftd_checkpoint_series, dated) == 10);
+    EXPECT(sizeof(struct ftd_checkpoint) == 112 && offsetof(struct ftd_checkpoint, count) == 8);
+    EXPECT(offsetof(struct ftd_checkpoint, series) == 16);
+    EXPECT(sizeof(struct ftd_checkpoints) == 456 && offsetof(struct ftd_checkpoints, places) == 8);
+    EXPECT(sizeof(struct ftd_kept_step) == 464 && offsetof(struct ftd_kept_step, refusal) == 456);
+    EXPECT(sizeof(struct ftd_returned) == 272 && offsetof(struct ftd_returned, refusal) == 264);
     EXPECT(sizeof(struct ftd_day_series) == 24 && offsetof(struct ftd_day_series, series) == 20);
     EXPECT(sizeof(struct ftd_day) == 216 && offsetof(struct ftd_day, dated) == 212);
     EXPECT(sizeof(struct ftd_box) == 544 && offsetof(struct ftd_box, reserves) == 264);
@@ -967,6 +974,204 @@ static void shares_beyond(void) {
     EXPECT(ftd_publish(end, 7, 0x7777, NULL, 0, day_log, sizeof day_log).refusal == FTD_TOO_SMALL);
 }
 
+/* ---- Named places of a receiving end ---- */
+
+static int same_checkpoint(const struct ftd_checkpoint *a, const struct ftd_checkpoint *b) {
+    int i, same = a->name == b->name && a->count == b->count;
+
+    for (i = 0; i < FTD_MOST_SERIES; i++)
+        same = same && a->series[i].date == b->series[i].date && a->series[i].last == b->series[i].last &&
+               a->series[i].series == b->series[i].series && a->series[i].dated == b->series[i].dated;
+    return same;
+}
+
+static int same_checkpoints(const struct ftd_checkpoints *a, const struct ftd_checkpoints *b) {
+    int i, same = a->count == b->count;
+
+    for (i = 0; i < FTD_MOST_NAMES; i++)
+        same = same && same_checkpoint(&a->places[i], &b->places[i]);
+    return same;
+}
+
+static int same_end(const struct ftd_receiver *a, const struct ftd_receiver *b) {
+    int i, same = a->count == b->count;
+
+    for (i = 0; i < FTD_MOST_SERIES; i++)
+        same = same && a->series[i].held == b->series[i].held && a->series[i].date == b->series[i].date &&
+               a->series[i].last == b->series[i].last && a->series[i].tid == b->series[i].tid &&
+               a->series[i].pieces == b->series[i].pieces && a->series[i].series == b->series[i].series &&
+               a->series[i].dated == b->series[i].dated && a->series[i].login == b->series[i].login &&
+               a->series[i].chain == b->series[i].chain;
+    return same;
+}
+
+/* Keeping under the first letters of a text, so many. What is refused changes nothing. */
+static uint8_t keep_letters(struct ftd_checkpoints *of, struct ftd_receiver end, const char *name, size_t count) {
+    struct ftd_kept_step step = ftd_keep(*of, end, (const uint8_t *)name, count);
+
+    EXPECT(step.refusal == 0 || same_checkpoints(&step.checkpoints, of));
+    *of = step.checkpoints;
+    return step.refusal;
+}
+
+static uint8_t keep(struct ftd_checkpoints *of, struct ftd_receiver end, const char *name) {
+    return keep_letters(of, end, name, strlen(name));
+}
+
+/* Likewise a return. */
+static uint8_t go_back(struct ftd_checkpoints of, struct ftd_receiver *end, const char *name) {
+    struct ftd_returned left = ftd_return(of, *end, (const uint8_t *)name, strlen(name));
+
+    EXPECT(left.refusal == 0 || same_end(&left.end, end));
+    *end = left.end;
+    return left.refusal;
+}
+
+/* Series 3 at a trade date and number, logged in and within a chain; series 7 as it was opened. */
+static struct ftd_receiver at_number(uint32_t date, uint32_t last) {
+    struct ftd_receiver end = receiving();
+
+    end.series[1].dated = end.series[1].login = end.series[1].chain = 1;
+    end.series[1].date = date;
+    end.series[1].last = last;
+    end.series[1].tid = 0x7778;
+    end.series[1].held = 4006;
+    end.series[1].pieces = 1;
+    return end;
+}
+
+/* Series 3 has trade date and number, no login and no chain. */
+static int rests_at(const struct ftd_receiver *end, uint32_t date, uint32_t last) {
+    struct ftd_receiver right = receiving();
+
+    right.series[1].dated = date != 0;
+    right.series[1].date = date;
+    right.series[1].last = last;
+    return same_end(end, &right);
+}
+
+/* A before the opening, B at number 5, C and D at 6. */
+static struct ftd_checkpoints four_kept(void) {
+    struct ftd_checkpoints all = ftd_checkpoints_fresh();
+
+    EXPECT(all.count == 0 && all.places[0].name == 0 && all.places[3].count == 0 && all.places[3].series[7].dated == 0);
+    EXPECT(keep(&all, ftd_receiver_fresh(), "A") == 0 && keep(&all, at_number(9, 5), "B") == 0);
+    EXPECT(keep(&all, at_number(9, 6), "C") == 0 && keep(&all, at_number(9, 6), "D") == 0);
+    return all;
+}
+
+static void names(void) {
+    static const char *const wrong[] = {"", "AAAAAAAAA", "@", "[", "A@", "[A", "a", "Aa", "A ", " A", "A1", "AAAAAAA@"};
+    struct ftd_checkpoints all = ftd_checkpoints_fresh(), full = four_kept();
+    struct ftd_receiver end = at_number(9, 7);
+    size_t i;
+
+    for (i = 0; i < sizeof wrong / sizeof wrong[0]; i++) {
+        EXPECT(keep(&all, end, wrong[i]) == FTD_WRONG_NAME && go_back(all, &end, wrong[i]) == FTD_WRONG_NAME);
+        EXPECT(keep(&full, end, wrong[i]) == FTD_WRONG_NAME && go_back(full, &end, wrong[i]) == FTD_WRONG_NAME);
+    }
+    EXPECT(keep_letters(&all, end, "A", 2) == FTD_WRONG_NAME && keep_letters(&all, end, "ABC", 2) == 0);
+    EXPECT(all.count == 1 && all.places[0].name == 0x4241 && all.places[1].name == 0);
+    EXPECT(go_back(all, &end, "A") == FTD_UNKNOWN_NAME && go_back(all, &end, "ABC") == FTD_UNKNOWN_NAME);
+    EXPECT(keep(&all, end, "ABCDEFGH") == 0 && keep(&all, end, "ZZZZZZZZ") == 0 && keep(&all, end, "Z") == 0);
+    EXPECT(all.count == 4 && all.places[1].name == 0x4847464544434241 && all.places[2].name == 0x5A5A5A5A5A5A5A5A);
+    EXPECT(all.places[3].name == 0x5A && keep(&all, end, "ZZ") == FTD_FIFTH_NAME);
+    EXPECT(go_back(ftd_checkpoints_fresh(), &end, "A") == FTD_UNKNOWN_NAME);
+}
+
+static void places_kept(void) {
+    struct ftd_checkpoints all = four_kept(), before = all;
+
+    EXPECT(all.count == 4 && all.places[0].name == 'A' && all.places[0].count == 0 && all.places[1].name == 'B');
+    EXPECT(all.places[1].count == 2 && all.places[1].series[0].series == 7 && all.places[1].series[0].dated == 0);
+    EXPECT(all.places[1].series[1].series == 3 && all.places[1].series[1].dated == 1);
+    EXPECT(all.places[1].series[1].date == 9 && all.places[1].series[1].last == 5);
+    EXPECT(keep(&all, at_number(9, 7), "E") == FTD_FIFTH_NAME && same_checkpoints(&all, &before));
+    /* A used name's own place, and no other. */
+    EXPECT(keep(&all, at_number(10, 1), "B") == 0 && all.count == 4 && all.places[1].name == 'B');
+    EXPECT(all.places[1].series[1].date == 10 && all.places[1].series[1].last == 1);
+    all.places[1] = before.places[1];
+    EXPECT(same_checkpoints(&all, &before));
+}
+
+static void places_returned(void) {
+    struct ftd_checkpoints all = four_kept();
+    struct ftd_receiver end = at_number(9, 7), fresh = ftd_receiver_fresh();
+
+    EXPECT(go_back(all, &end, "E") == FTD_UNKNOWN_NAME);
+    EXPECT(go_back(all, &end, "B") == 0 && rests_at(&end, 9, 5));
+    EXPECT(go_back(all, &end, "D") == 0 && rests_at(&end, 9, 6));
+    EXPECT(go_back(all, &end, "A") == 0 && rests_at(&end, 0, 0));
+    EXPECT(go_back(all, &end, "C") == 0 && rests_at(&end, 9, 6));
+    end = at_number(12, 1);
+    EXPECT(go_back(all, &end, "C") == 0 && rests_at(&end, 9, 6));
+    EXPECT(go_back(all, &fresh, "B") == 0 && fresh.count == 0);
+    EXPECT(ftd_receiver_open(fresh, series, 2).refusal == 0);
+    /* Of another end: by the series' numbers. */
+    end = at_number(9, 7);
+    end.series[0] = end.series[1];
+    end.series[0].series = 3;
+    end.series[1].series = 5;
+    EXPECT(go_back(all, &end, "B") == 0 && end.series[0].series == 3 && end.series[0].last == 5);
+    EXPECT(end.series[1].series == 5 && end.series[1].dated == 0 && end.series[1].last == 0);
+}
+
+/* A line test: kept within the second message, which comes twice; asked for before the return, nothing comes. */
+static void line_test(void) {
+    struct ftd_sender sender = serving();
+    struct ftd_receiver receiver = receiving();
+    struct ftd_checkpoints all = ftd_checkpoints_fresh();
+    uint8_t too_high[sizeof login];
+    struct ftd_written asked;
+
+    log_in(&sender, &receiver);
+    first_message(&sender, &receiver);
+    second_message(&sender, &receiver, 2);
+    EXPECT(keep(&all, receiver, "TEST") == 0 && receiver.series[1].chain == 1);
+    EXPECT(ftd_receive(receiver, output + 2 * PACKET, PACKET, buffer, sizeof buffer).answer == FTD_RECEIVE_MESSAGE);
+    receiver = ftd_receive(receiver, output + 2 * PACKET, PACKET, buffer, sizeof buffer).end;
+    asked = ftd_request_login(receiver, 3, request, sizeof request, too_high, sizeof too_high);
+    EXPECT(go_back(all, &receiver, "TEST") == 0 && rests_at(&receiver, 100, 1));
+    EXPECT(ftd_receive(receiver, output, PACKET, buffer, sizeof buffer).refusal == FTD_NOT_LOGGED_IN);
+    sender = ftd_login(sender, 3, too_high, asked.bytes, answer, sizeof answer, output, sizeof output).end;
+    EXPECT(ftd_send(sender, 3, day_log, sizeof day_log, output, sizeof output).answer == FTD_SEND_NONE);
+    log_in(&sender, &receiver);
+    EXPECT(second_message(&sender, &receiver, 3).answer == FTD_RECEIVE_MESSAGE && receiver.series[1].last == 2);
+    EXPECT(ftd_send(sender, 3, day_log, sizeof day_log, output, sizeof output).answer == FTD_SEND_NONE);
+}
+
+/* A count above 4 is four names, of equal ones the first place counts; a kept count above 8 is eight; a flag is any
+ * number but 0. */
+static void places_of_any_state(void) {
+    struct ftd_checkpoints all = four_kept(), left;
+    struct ftd_receiver end = at_number(9, 7);
+
+    all.count = SIZE_MAX;
+    EXPECT(keep(&all, end, "E") == FTD_FIFTH_NAME && keep(&all, end, "D") == 0 && all.count == SIZE_MAX);
+    EXPECT(all.places[3].series[1].last == 7);
+    all.places[2].name = 'B';
+    EXPECT(go_back(all, &end, "B") == 0 && rests_at(&end, 9, 5) && go_back(all, &end, "C") == FTD_UNKNOWN_NAME);
+    all.count = 1;
+    EXPECT(go_back(all, &end, "B") == FTD_UNKNOWN_NAME && keep(&all, at_number(9, 8), "B") == 0 && all.count == 2);
+    memset(&all, 255, sizeof all);
+    all.places[0].name = 'A';
+    all.places[0].series[7].series = 3;
+    all.places[0].series[7].last = 4;
+    EXPECT(go_back(all, &end, "A") == 0 && end.series[1].dated == 1 && end.series[1].date == UINT32_MAX);
+    EXPECT(end.series[1].last == 4 && end.series[0].dated == 0 && end.series[0].last == 0);
+    all.places[1].series[2].dated = 0;
+    left = ftd_keep(all, end, (const uint8_t *)"A", 1).checkpoints;
+    EXPECT(left.count == SIZE_MAX && left.places[0].count == 2 && left.places[0].series[0].date == 0);
+    EXPECT(left.places[1].count == SIZE_MAX && left.places[1].series[1].dated == 1);
+    EXPECT(left.places[1].series[2].dated == 0 && left.places[1].series[2].date == 0);
+    EXPECT(left.places[1].series[2].last == UINT32_MAX && left.places[3].series[7].date == UINT32_MAX);
+    /* An end of any values is kept and returned to. */
+    memset(&end, 255, sizeof end);
+    EXPECT(ftd_keep(ftd_checkpoints_fresh(), end, (const uint8_t *)"A", 1).checkpoints.places[0].count == SIZE_MAX);
+    EXPECT(ftd_return(left, end, (const uint8_t *)"A", 1).end.series[7].login == 0);
+    EXPECT(ftd_return(left, end, (const uint8_t *)"B", 1).end.series[7].login == 1);
+}
+
 /* ---- The box ---- */
 
 static uint64_t places[FTD_PLACES];
@@ -1687,6 +1892,8 @@ static void nulls_at_the_ends(void) {
     EXPECT(ftd_send(sender, 3, NULL, 0, NULL, 0).answer == FTD_SEND_NONE);
     EXPECT(ftd_send_packet(sender, 3, NULL, 0, NULL, 0).answer == FTD_SEND_NONE);
     EXPECT(ftd_receive(receiver, heart, sizeof heart, NULL, 0).answer == FTD_RECEIVE_IDLE);
+    EXPECT(ftd_keep(ftd_checkpoints_fresh(), receiver, NULL, 0).refusal == FTD_WRONG_NAME);
+    EXPECT(ftd_return(ftd_checkpoints_fresh(), receiver, NULL, 0).refusal == FTD_WRONG_NAME);
 }
 
 static void nulls_in_a_calendar(void) {
@@ -1787,6 +1994,11 @@ int main(void) {
     reserves_opened();
     shares_published();
     shares_beyond();
+    names();
+    places_kept();
+    places_returned();
+    line_test();
+    places_of_any_state();
     box_seats();
     calendar_set();
     calendar_asked();

@@ -196,6 +196,18 @@ static void read_frame(void)
     refusal = read.refusal;
 }
 static void reconnect(void) { receiver = ftd_connect(receiver); }
+static struct ftd_kept_step kept;
+static void keep(void)
+{
+    kept = ftd_keep(kept.checkpoints, receiver, (const uint8_t *)"BEFORE", 6);
+    refusal = kept.refusal;
+}
+static struct ftd_returned returned;
+static void go_back(void)
+{
+    returned = ftd_return(kept.checkpoints, receiver, (const uint8_t *)"BEFORE", 6);
+    refusal = returned.refusal;
+}
 
 static size_t used(void (*body)(void))
 {
@@ -263,6 +275,8 @@ int main(void)
     row("ftd_receive_several", receive_several);
     if (several.answer != FTD_SEVERAL_MESSAGE || several.content.len != filled)
         puts("not handed on");
+    row("ftd_keep", keep);
+    row("ftd_return", go_back);
     row("ftd_connect", reconnect);
     box = ftd_box_open(ftd_box_fresh(), series, 8, reserves, 8).box;
     row("ftd_box_confirm_login", box_confirm);

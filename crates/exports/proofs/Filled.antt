@@ -4,7 +4,7 @@ use native.Mathlib.Omega.{arith}
 use mathlib.Core.Path.{_≡_, refl, sym, ap, _∙_}
 use mathlib.Core.List.{List, [], _∷_}
 use lib.ListN.{length, getD, set}
-use Rattle.relay.proofs.Filled.{Filled, turn, filled-end}
+use Rattle.flow.proofs.common.Filled.{Filled, turn, filled-end}
 use Rattle.exports.specs.Numbers.{paired}
 
 module _ {A B C : Type 0} (f : A → B → C) where
@@ -24,10 +24,10 @@ module _ {A B C : Type 0} (f : A → B → C) where
     pub all-eight : length (paired f l m) ≡ 8
     all-eight = length-paired l m (eight ∙ sym eight-other) ∙ eight
 
-    pub paired-turn : (all : List C) (i : ℕ) (d : A) (b : B) → Filled i (paired f l m) all → i < 8
-        → Filled (i + 1) (paired f l m) (set all i (f (getD l i d) (getD m i b)))
+    pub paired-turn : (all : List C) (i : ℕ) (d : A) (b : B) → Filled 8 i (paired f l m) all → i < 8
+        → Filled 8 (i + 1) (paired f l m) (set all i (f (getD l i d) (getD m i b)))
     paired-turn all i d b h few =
-        rw (getD-paired l m i d b (omega arith) (omega arith)) at (turn (paired f l m) all i (f d b) h few all-eight)
+        rw (getD-paired l m i d b (omega arith) (omega arith)) at (turn 8 (paired f l m) all i (f d b) h few all-eight)
 
-    pub paired-end : (all : List C) (i : ℕ) → Filled i (paired f l m) all → 8 ≤ i → all ≡ paired f l m
-    paired-end all i h whole = filled-end (paired f l m) all i h whole all-eight
+    pub paired-end : (all : List C) (i : ℕ) → Filled 8 i (paired f l m) all → 8 ≤ i → all ≡ paired f l m
+    paired-end all i h whole = filled-end 8 (paired f l m) all i h whole all-eight

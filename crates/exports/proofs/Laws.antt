@@ -269,7 +269,7 @@ pub receiver-eight : (e : Receiver) → ReceiverEight e → length (receiverNumb
 unfolding receiverNumbers
 receiver-eight e z = all-eight keptNumbers (e .kept .series) (e .live .series) (z .kept) (z .live)
 
-receiver-is : (e : Receiver) → ReceiverEight e → ReceiverIs (receiverNumbers e) e
+pub receiver-is : (e : Receiver) → ReceiverEight e → ReceiverIs (receiverNumbers e) e
 receiver-is e z = (receiver-back e (z .kept) (z .live), receiver-eight e z)
 
 pub end-eight : (n : FtdReceiver) → length (n .series) ≡ 8 → ReceiverEight (receiverFor n)
@@ -298,7 +298,7 @@ received-eight : (e : Receiver) (p buffer : List ℕ) → ReceiverEight e → Re
 received-eight e p buffer z = turn-eight None false e z _ _ _ (receive-turn None false e p buffer)
 
 module _ (n : FtdReceiver) (e : Receiver) (h : ReceiverIs n e) where
-  eight-at : ReceiverEight e
+  pub eight-at : ReceiverEight e
   eight-at = rw (h .0) at (end-eight n (h .1))
 
   open-end : (ss : List ℕ) → ReceiverIs (endOpenedNumbers (openEndOf (receiverFor n) ss) .end) (openEndOf e ss .end)

@@ -3,6 +3,7 @@ pub mod Numbers
 pub mod Items
 pub mod Serving
 pub mod Receiving
+pub mod Keeping
 pub mod Several
 pub mod Boxes
 pub mod Trading

@@ -55,6 +55,7 @@ pub mod items; // items of fields, and modes
 pub mod resume; // the start field
 pub mod serving; // the serving end
 pub mod receiving; // the receiving end
+pub mod keeping; // named places of the receiving end to come back to
 pub mod several; // a bufferful of packets or records in one call of an end
 pub mod boxes; // the box
 pub mod trading; // the trading calendar

@@ -19,6 +19,9 @@ use Rattle.fix.specs.Fields.{Given, saysYes}
 use Rattle.fix.specs.Check.{wrongNumbers, wrongTags}
 use Rattle.fix.specs.Frame.{frameOf}
 use Rattle.fix.specs.Read.{reading, numberedOf, judgedOf, checkedOf, framedOf, readOf}
+use Rattle.ftd.specs.Return.{Returns}
+use Rattle.ftd.proofs.Return.{returns}
+use Rattle.fix.specs.Follow.{ComesBack}
 use Rattle.fix.specs.Follow.{Event, frame, setTo, numberIfNext, tookNumber, isSet, expectedThen, frames}
 
 -- What one read does with the number expected.
@@ -99,3 +102,7 @@ frames-law = record { starts = starts; next = next; stays = stay }
 
 pub frames-follow : Follows frames
 frames-follow = follows frames frames-law
+
+-- Also over what counts where the caller comes back to a number that it kept.
+pub frames-return : Returns frames ComesBack
+frames-return = returns frames frames-law ComesBack λ s t b q. q

@@ -1,6 +1,7 @@
 -- The numbers that the reader calls next follow each other (02, No. 12): ftd's statement (Follow), from any expected
 -- number and along any bytes. The caller applies resets: it may set the number that it expects.
 use Prim.Native.Nat.{ℕ}
+use mathlib.Core.Path.{_≡_}
 use mathlib.Core.List.{List}
 use mathlib.Core.Bool.{Bool, true, false}
 use mathlib.Core.Option.{Option, none, some}
@@ -38,3 +39,7 @@ isSet expected (setTo n) = true
 
 abbrev pub frames : Numbered ℕ Event
 frames = record { wanted = λ n. n; step = expectedThen; took = tookNumber; anew = isSet }
+
+-- The number expected is the caller's, who may keep it and come back to it (No. 13): then it is the one kept.
+abbrev pub ComesBack : ℕ → ℕ → ℕ → Type 0
+ComesBack kept now back = back ≡ kept

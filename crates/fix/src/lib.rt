@@ -3,7 +3,8 @@
 ghost use Rattle.fix.specs.Examples.{FrameExamples};
 ghost use Rattle.fix.specs.RoundTrips.{RoundTrips};
 ghost use Rattle.ftd.specs.Follow.{Follows};
-ghost use Rattle.fix.specs.Follow.{frames};
+ghost use Rattle.ftd.specs.Return.{Returns};
+ghost use Rattle.fix.specs.Follow.{frames, ComesBack};
 
 pub mod text; // separators, numbers, sums
 pub mod kinds; // the six types
@@ -26,4 +27,9 @@ pub fn keeps_round_trips()
 // The numbers that the reader calls next follow each other, along any bytes, until the caller sets the expected one.
 pub fn keeps_frame_numbers()
     ensures { λ _. ⌜ Follows frames ⌝ }
+{}
+
+// The same where the caller comes back to a number that it kept, as a promise.
+pub fn keeps_frame_returns()
+    ensures { λ _. ⌜ Returns frames ComesBack ⌝ }
 {}

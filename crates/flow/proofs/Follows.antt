@@ -56,7 +56,7 @@ module _ (date : TradeDate) (last : ℕ) (anew : Bool) (took : Option ℕ) (day 
   days (opens a t b x y) = inl (x ∙ sym b)
   days (begins d a t x b y) = inr (rw x (above-rises d date b))
 
-law : (s : ℕ) → NumberedLaw (ofSeries s)
+pub law : (s : ℕ) → NumberedLaw (ofSeries s)
 law s =
     record {
       starts = λ v c. starts _ _ _ _ _ _ _ (call-does s v c);

@@ -13,10 +13,12 @@ pub mod logins
 pub mod first
 pub mod second
 pub mod numbers
+pub mod rewind
 pub mod Agreement
 pub mod PacketByPacket
 pub mod EveryPiece
 pub mod Shares
+pub mod RewindAgreement
 pub mod Follows
 pub mod bench
 pub mod Biggest

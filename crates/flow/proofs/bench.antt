@@ -1,3 +1,4 @@
 -- The bench table, computed.
 pub mod Opened
 pub mod Bench
+pub mod Rows

@@ -4,6 +4,7 @@ pub mod Rows
 pub mod Extends
 pub mod Days
 pub mod Lists
+pub mod Filled
 pub mod Histories
 pub mod Contents
 pub mod Writers

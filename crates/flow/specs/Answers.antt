@@ -35,6 +35,10 @@ use Rattle.flow.specs.declared.receiver.Origin.the-variants.{Packet, Buf
 use Rattle.flow.specs.declared.receiver.Received.{Received}
 use Rattle.flow.specs.declared.receiver.Received.the-variants.{Idle, Duplicate, Partial, Complete}
 use Rattle.flow.specs.declared.receiver.Received.the-variants.{Refused as NotTaken}
+use Rattle.flow.specs.declared.checkpoint.Saved.{Saved}
+use Rattle.flow.specs.declared.checkpoint.Saved.the-variants.{Done as Saved-done, Refused as NotSaved}
+use Rattle.flow.specs.declared.checkpoint.Restored.{Restored}
+use Rattle.flow.specs.declared.checkpoint.Restored.the-variants.{Done as Restored-done, Refused as NotRestored}
 
 -- ─── The paper's words, with their values ───
 
@@ -56,6 +60,8 @@ pub data Said : Type 0 where
   again : ℕ → Said  -- reports last
   held : ℕ → Said  -- reports last
   handedOn : ℕ → Message → Said  -- reports last; TID and content
+  kept : Said  -- under a name (02, No. 13)
+  returned : Said  -- to what was kept under a name
 
 -- ─── Each answer's ───
 
@@ -102,6 +108,14 @@ receivedSaid p buffer (Complete n tid origin at) =
     handedOn n (record { tid = tid; content = contentIn p buffer origin at })
 receivedSaid p buffer (NotTaken r) = refused (numberOf r)
 
+abbrev pub savedSaid : Saved → Said
+savedSaid Saved-done = kept
+savedSaid (NotSaved r) = refused (numberOf r)
+
+abbrev pub restoredSaid : Restored → Said
+restoredSaid Restored-done = returned
+restoredSaid (NotRestored r) = refused (numberOf r)
+
 -- ─── What is read off them ───
 
 -- Whether the call was taken (not refused); how many bytes it wrote to an output's start; whether it wrote a message's
@@ -131,6 +145,8 @@ off idle = readOff true [] false [] []
 off (again n) = readOff true [] false (n ∷ []) []
 off (held n) = readOff true [] false (n ∷ []) []
 off (handedOn n m) = readOff true [] false (n ∷ []) (m ∷ [])
+off kept = readOff true [] false [] []
+off returned = readOff true [] false [] []
 
 abbrev pub isTaken : Said → Bool
 isTaken a = off a .taken

@@ -15,7 +15,8 @@ use Rattle.flow.specs.declared.sender.LoggedIn.{LoggedIn}
 use Rattle.flow.specs.declared.receiver.Receiver.{Receiver}
 use Rattle.flow.specs.Ends.{Wrote, freshReceiver, withSeries, loggedIn}
 use Rattle.flow.specs.Answers.{Message, Said, refused, opened, published, answered, sent, none, asked, confirmed}
-use Rattle.flow.specs.Answers.{idle, again, held, handedOn, sentPacket, loginSaid, sentSaid, receivedSaid}
+use Rattle.flow.specs.Answers.{idle, again, held, handedOn, sentPacket, kept, returned, loginSaid, sentSaid}
+use Rattle.flow.specs.Answers.{receivedSaid}
 use Rattle.flow.specs.Serving.{loginOf, sendOf}
 use Rattle.flow.specs.Receiving.{openEndOf, requestBytes, receiveOf}
 use Rattle.flow.specs.World.{openSender, publish, World, start, run}
@@ -36,6 +37,8 @@ numbers idle = 8 ∷ []
 numbers (again n) = 9 ∷ n ∷ []
 numbers (held n) = 10 ∷ n ∷ []
 numbers (handedOn n m) = 11 ∷ n ∷ m .tid ∷ m .content
+numbers kept = 12 ∷ []
+numbers returned = 13 ∷ []
 
 -- A row whose call answers something.
 abbrev pub says : ℕ → Said → Said → BenchRow

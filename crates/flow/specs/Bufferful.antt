@@ -13,7 +13,7 @@ use Rattle.flow.specs.declared.receiver.Receiver.{Receiver}
 use Rattle.flow.specs.declared.several.ReceivedSeveral.the-variants.{End, Short, Refused}
 use Rattle.flow.specs.declared.several.PublishedSeveral.the-variants.{End as AllIn, Short as Cut}
 use Rattle.flow.specs.Answers.{Said, refused, opened, published, answered, sent, none, asked, confirmed, idle}
-use Rattle.flow.specs.Answers.{again, held, handedOn, sentPacket}
+use Rattle.flow.specs.Answers.{again, held, handedOn, sentPacket, kept, returned}
 use Rattle.flow.specs.World.{Dated, Event, openSender, publish, login, send, openReceiver, connect, requestLogin}
 use Rattle.flow.specs.World.{sendPacket, confirmLogin, receive, World, start, step, run}
 use Rattle.flow.specs.Agreement.{of, latest, reported, since}
@@ -52,6 +52,8 @@ isHanded idle = false
 isHanded (again n) = false
 isHanded (held n) = false
 isHanded (handedOn n m) = true
+isHanded kept = false
+isHanded returned = false
 
 abbrev pub handedOut : List Said → List Said
 handedOut [] = []

@@ -3,6 +3,7 @@ pub mod Log
 pub mod Serving
 pub mod Receiving
 pub mod Answers
+pub mod Checkpoints
 pub mod Promises
 pub mod World
 pub mod Deciding
@@ -12,6 +13,10 @@ pub mod EveryPiece
 pub mod Shares
 pub mod Bench
 pub mod Follows
+pub mod Rewind
+pub mod Effective
+pub mod CheckpointRows
+pub mod RewindNumbers
 pub mod Biggest
 pub mod Several
 pub mod Bufferful
@@ -22,3 +27,4 @@ pub mod LoginHelpers
 pub mod SendHelpers
 pub mod ReceiveHelpers
 pub mod RequestHelpers
+pub mod CheckpointHelpers

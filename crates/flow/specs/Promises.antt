@@ -15,12 +15,16 @@ use Rattle.flow.specs.declared.receiver.OpenStep.{OpenStep as OpenEndSte
 use Rattle.flow.specs.declared.receiver.Requested.{Requested}
 use Rattle.flow.specs.declared.receiver.ConfirmStep.{ConfirmStep}
 use Rattle.flow.specs.declared.receiver.ReceiveStep.{ReceiveStep}
+use Rattle.flow.specs.declared.checkpoint.Checkpoints.{Checkpoints}
+use Rattle.flow.specs.declared.checkpoint.KeepStep.{KeepStep}
+use Rattle.flow.specs.declared.checkpoint.RestoreStep.{RestoreStep}
 use Rattle.flow.specs.declared.several.ReceiveSeveralStep.{ReceiveSeveralStep}
 use Rattle.flow.specs.declared.several.PublishSeveralStep.{PublishSeveralStep}
 use Rattle.flow.specs.Answers.{Said, openedSaid, publishedSaid, loginSaid, sentSaid, requestedSaid, confirmedSaid}
-use Rattle.flow.specs.Answers.{sentPacketSaid, receivedSaid}
+use Rattle.flow.specs.Answers.{sentPacketSaid, receivedSaid, savedSaid, restoredSaid}
 use Rattle.flow.specs.Serving.{openDayOf, publishOf, loginOf, sendOf, sendPacketOf}
 use Rattle.flow.specs.Receiving.{openEndOf, connectOf, requestLoginOf, confirmLoginOf, receiveOf}
+use Rattle.flow.specs.Checkpoints.{keepOf, restoreOf}
 use Rattle.flow.specs.Several.{Repeated, Took, receiving, receiveSeveralOf, publishing, publishSeveralOf}
 
 -- An answer is the definition's: the paper's word of it, and the enum.
@@ -82,6 +86,20 @@ Receives e packet buffer r after =
     (r .end ≡ meant .end) × (receivedSaid packet after (r .answer) ≡ receivedSaid packet (meant .bytes) (meant .answer))
     × (r .answer ≡ meant .answer)
     × (after ≡ meant .bytes)
+
+-- ─── Named places to come back to (02, No. 13) ───
+
+-- The receiving end stays: it is not returned.
+abbrev pub Keeps : Checkpoints → Receiver → List ℕ → KeepStep → Type 0
+Keeps c e name r =
+    let meant = keepOf c e name in
+    (r .checkpoints ≡ meant .end) × Answers savedSaid (r .answer) (meant .answer)
+
+-- The checkpoints stay: they are not returned.
+abbrev pub Restores : Checkpoints → Receiver → List ℕ → RestoreStep → Type 0
+Restores c e name r =
+    let meant = restoreOf c e name in
+    (r .end ≡ meant .end) × Answers restoredSaid (r .answer) (meant .answer)
 
 -- ─── A bufferful (02, No. 8) ───
 

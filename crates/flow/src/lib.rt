@@ -3,10 +3,13 @@ ghost use Rattle.flow.specs.Agreement.{Agreement};
 ghost use Rattle.flow.specs.Bench.{Bench};
 ghost use Rattle.flow.specs.Biggest.{Biggest};
 ghost use Rattle.flow.specs.Bufferful.{Bufferful};
+ghost use Rattle.flow.specs.Effective.{EffectiveHistories};
 ghost use Rattle.flow.specs.Follows.{NumbersFollow};
 ghost use Rattle.flow.specs.PacketByPacket.{PacketByPacket};
 ghost use Rattle.flow.specs.EveryPiece.{EveryPiece};
 ghost use Rattle.flow.specs.Shares.{Shares};
+ghost use Rattle.flow.specs.Rewind.{RewindAgreement};
+ghost use Rattle.flow.specs.RewindNumbers.{RewindNumbers};
 
 pub mod limits; // the limits of both
 pub mod series; // series in a list
@@ -20,6 +23,7 @@ pub mod sender; // the serving end
 mod receive; // the receiving end's Receive
 pub mod receiver; // the receiving end
 pub mod several; // a bufferful of packets, or of records
+pub mod checkpoint; // named places of the receiving end to come back to
 
 // Demand 3, as a promise.
 pub fn keeps_agreement()
@@ -59,4 +63,19 @@ pub fn keeps_bufferful()
 // The numbers taken follow each other, as a promise.
 pub fn keeps_numbers()
     ensures { λ _. ⌜ NumbersFollow ⌝ }
+{}
+
+// Demand 3 with named places to come back to, as a promise.
+pub fn keeps_rewind()
+    ensures { λ _. ⌜ RewindAgreement ⌝ }
+{}
+
+// The histories of it are those of the calls that count, as a promise.
+pub fn keeps_effective()
+    ensures { λ _. ⌜ EffectiveHistories ⌝ }
+{}
+
+// And the numbers taken with them, as a promise.
+pub fn keeps_rewind_numbers()
+    ensures { λ _. ⌜ RewindNumbers ⌝ }
 {}

@@ -161,7 +161,7 @@ fn new_kept(series: &[u16]) -> [KeptSeries; 8]
 }
 
 // No login and no chain.
-fn no_line() -> Live
+pub(crate) fn no_line() -> Live
     ensures { λ r. ⌜ r ≡ record { series = replicate mostSeries noLive } ⌝ }
 {
     Live {

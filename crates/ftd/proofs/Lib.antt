@@ -4,3 +4,4 @@ pub mod Lists
 pub mod Opened
 pub mod Bench
 pub mod Follow
+pub mod Return

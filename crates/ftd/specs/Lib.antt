@@ -22,5 +22,6 @@ pub mod Whole
 pub mod Dates
 pub mod Item
 pub mod Follow
+pub mod Return
 pub mod Demand2
 pub mod Bench

@@ -1,2 +1,3 @@
 -- The laws of the state's lines.
 pub mod Turns
+pub mod Names

@@ -15,13 +15,14 @@ use Rattle.play.specs.declared.calls.Verb.the-variants.{State as NamesSt
 use Rattle.play.specs.declared.calls.Verb.the-variants.{Mark as NamesMark, Book as NamesBook, Take as NamesTake}
 use Rattle.play.specs.declared.calls.Verb.the-variants.{Level as NamesLevel, Mean as NamesMean, ReceiveAll as NamesReceiveAll}
 use Rattle.play.specs.declared.calls.Verb.the-variants.{PublishAll as NamesPublishAll, SendPacket as NamesSendPacket}
+use Rattle.play.specs.declared.calls.Verb.the-variants.{Keep as NamesKeep, Return as NamesReturn}
 use Rattle.play.specs.declared.calls.Call.{Call}
 use Rattle.play.specs.declared.calls.Call.the-variants.{Bad, Buffers, OpenDay, Publish, Login, Send, OpenEnd}
 use Rattle.play.specs.declared.calls.Call.the-variants.{Connect, Ask, Answer, Receive, State}
 use Rattle.play.specs.declared.calls.Call.the-variants.{SetCalendar, AskTime, MarkDate, ReceiveAll, PublishAll}
-use Rattle.play.specs.declared.calls.Call.the-variants.{StartBook, TakeMessage, ShowLevel, ShowMean}
+use Rattle.play.specs.declared.calls.Call.the-variants.{StartBook, TakeMessage, ShowLevel, ShowMean, Keep, Return}
 use Rattle.play.specs.Words.{endOf, numberIn, tidIn, sameWord, argument, hasForm, mostNamed, seriesCount}
-use Rattle.play.specs.Words.{mostTimes, mostDates, mostListed, wordCount, shareCount}
+use Rattle.play.specs.Words.{mostTimes, mostDates, mostListed, wordCount, shareCount, hasName}
 
 -- ─── The first word ───
 
@@ -33,11 +34,13 @@ bookVerbOf word =
     (cond (sameWord word (108 ∷ 101 ∷ 118 ∷ 101 ∷ 108 ∷ [])) NamesLevel
     (cond (sameWord word (109 ∷ 101 ∷ 97 ∷ 110 ∷ [])) NamesMean Unknown)))
 
--- `receiveall`, `publishall`, or one of those.
+-- `receiveall`, `publishall`, `keep`, `return`, or one of those.
 unfoldable pub severalVerbOf : List ℕ → Verb
 severalVerbOf word =
     cond (sameWord word (114 ∷ 101 ∷ 99 ∷ 101 ∷ 105 ∷ 118 ∷ 101 ∷ 97 ∷ 108 ∷ 108 ∷ [])) NamesReceiveAll
-    (cond (sameWord word (112 ∷ 117 ∷ 98 ∷ 108 ∷ 105 ∷ 115 ∷ 104 ∷ 97 ∷ 108 ∷ 108 ∷ [])) NamesPublishAll (bookVerbOf word))
+    (cond (sameWord word (112 ∷ 117 ∷ 98 ∷ 108 ∷ 105 ∷ 115 ∷ 104 ∷ 97 ∷ 108 ∷ 108 ∷ [])) NamesPublishAll
+    (cond (sameWord word (107 ∷ 101 ∷ 101 ∷ 112 ∷ [])) NamesKeep
+    (cond (sameWord word (114 ∷ 101 ∷ 116 ∷ 117 ∷ 114 ∷ 110 ∷ [])) NamesReturn (bookVerbOf word))))
 
 -- `calendar`, `mark`, or one of those.
 unfoldable pub tradingVerbOf : List ℕ → Verb
@@ -162,6 +165,8 @@ namedCall line NamesMean = plainCall (hasForm line 0 0) ShowMean
 namedCall line NamesReceiveAll = plainCall (hasForm line 0 1) ReceiveAll
 namedCall line NamesPublishAll = plainCall (hasForm line 0 1) PublishAll
 namedCall line NamesSendPacket = sendWith (hasForm line 2 0) (numberAt line 0) (numberAt line 1) true
+namedCall line NamesKeep = plainCall (hasName line) Keep
+namedCall line NamesReturn = plainCall (hasName line) Return
 
 unfoldable pub callOf : List ℕ → Call
 callOf line = namedCall line (verbOf (take (endOf line 0) line))
@@ -191,3 +196,5 @@ Limited (ShowLevel buying place) = Unit {0}
 Limited ShowMean = Unit {0}
 Limited ReceiveAll = Unit {0}
 Limited PublishAll = Unit {0}
+Limited Keep = Unit {0}
+Limited Return = Unit {0}

@@ -35,6 +35,12 @@ use Rattle.flow.specs.declared.receiver.Confirmed.the-variants.{Refused as NotC
 use Rattle.flow.specs.declared.receiver.Received.{Received}
 use Rattle.flow.specs.declared.receiver.Received.the-variants.{Idle, Duplicate, Partial, Complete}
 use Rattle.flow.specs.declared.receiver.Received.the-variants.{Refused as NotTaken}
+use Rattle.flow.specs.declared.checkpoint.Saved.{Saved}
+use Rattle.flow.specs.declared.checkpoint.Saved.the-variants.{Done as IsSaved}
+use Rattle.flow.specs.declared.checkpoint.Saved.the-variants.{Refused as NotSaved}
+use Rattle.flow.specs.declared.checkpoint.Restored.{Restored}
+use Rattle.flow.specs.declared.checkpoint.Restored.the-variants.{Done as IsRestored}
+use Rattle.flow.specs.declared.checkpoint.Restored.the-variants.{Refused as NotRestored}
 use Rattle.calendar.specs.declared.trading.SetAnswer.{SetAnswer}
 use Rattle.calendar.specs.declared.trading.SetAnswer.the-variants.{Done as IsSet}
 use Rattle.calendar.specs.declared.trading.SetAnswer.the-variants.{Refused as NotSet}
@@ -117,6 +123,12 @@ held = 104 ∷ 101 ∷ 108 ∷ 100 ∷ []
 
 abbrev pub message : List ℕ
 message = 109 ∷ 101 ∷ 115 ∷ 115 ∷ 97 ∷ 103 ∷ 101 ∷ []
+
+abbrev pub kept : List ℕ
+kept = 107 ∷ 101 ∷ 112 ∷ 116 ∷ []
+
+abbrev pub returned : List ℕ
+returned = 114 ∷ 101 ∷ 116 ∷ 117 ∷ 114 ∷ 110 ∷ 101 ∷ 100 ∷ []
 
 abbrev pub set : List ℕ
 set = 115 ∷ 101 ∷ 116 ∷ []
@@ -208,6 +220,18 @@ Passing (Duplicate k) at to = to ≤ at + 28
 Passing (Partial k) at to = to ≤ at + 28
 Passing (Complete last tid origin c) at to = Unit {0}
 Passing (NotTaken r) at to = Unit {0}
+
+-- ─── The answers of the named places (02, No. 13) ───
+
+-- `kept`, or `refused` and the number.
+abbrev pub savedLine : Saved → List ℕ
+savedLine IsSaved = wordLine kept
+savedLine (NotSaved r) = refusedLine r
+
+-- `returned`, or `refused` and the number.
+abbrev pub restoredLine : Restored → List ℕ
+restoredLine IsRestored = wordLine returned
+restoredLine (NotRestored r) = refusedLine r
 
 -- ─── The calendar's answers ───
 

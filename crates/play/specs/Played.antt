@@ -11,6 +11,8 @@ use Rattle.flow.specs.Ends.{freshSender, freshReceiver}
 use Rattle.flow.specs.Serving.{openDayOf, publishOf, loginOf, sendOf, sendPacketOf}
 use Rattle.flow.specs.Receiving.{openEndOf, connectOf, requestLoginOf, confirmLoginOf, receiveOf}
 use Rattle.flow.specs.Several.{receiveSeveralOf, publishSeveralOf}
+use Rattle.flow.specs.declared.checkpoint.Checkpoints.{Checkpoints}
+use Rattle.flow.specs.Checkpoints.{freshCheckpoints, keepOf, restoreOf}
 use Rattle.calendar.specs.declared.trading.Calendar.{Calendar}
 use Rattle.calendar.specs.Calendar.{freshCalendar, setOf, askOf, markDate}
 use Rattle.book.specs.declared.calls.Book.{Book}
@@ -22,18 +24,18 @@ use Rattle.play.specs.declared.calls.Call.{Call}
 use Rattle.play.specs.declared.calls.Call.the-variants.{Bad, Buffers, OpenDay, Publish, Login, Send, OpenEnd}
 use Rattle.play.specs.declared.calls.Call.the-variants.{Connect, Ask, Answer, Receive, State}
 use Rattle.play.specs.declared.calls.Call.the-variants.{SetCalendar, AskTime, MarkDate, ReceiveAll, PublishAll}
-use Rattle.play.specs.declared.calls.Call.the-variants.{StartBook, TakeMessage, ShowLevel, ShowMean}
-use Rattle.play.specs.Words.{argument, saidBytes, seriesFrom, reservesFrom, wordsFrom}
+use Rattle.play.specs.declared.calls.Call.the-variants.{StartBook, TakeMessage, ShowLevel, ShowMean, Keep, Return}
+use Rattle.play.specs.Words.{argument, saidBytes, seriesFrom, reservesFrom, wordsFrom, nameIn}
 use Rattle.play.specs.Calls.{callOf, Limited}
 use Rattle.play.specs.Lines.{wordLine, numbered, openedLine, publishedLine, loginAnswerLine, sentLine, sentPacketLine}
 use Rattle.play.specs.Lines.{connected, requestedLine, confirmedLine, receivedLine, setLine, timeLine, dateLine}
-use Rattle.play.specs.Lines.{started, taken, outcomeLine, levelLine, meanLine}
+use Rattle.play.specs.Lines.{savedLine, restoredLine, started, taken, outcomeLine, levelLine, meanLine}
 use Rattle.play.specs.State.{stateLines}
 use Rattle.play.specs.Several.{receivedLines, publishedLines, takenLine, receivedWhy, publishedWhy}
 
 -- ─── The player ───
 
--- No line was given, no buffer is laid out, and the ends, the calendar and the book are fresh.
+-- No line was given, no buffer is laid out, no place is named, and the ends, the calendar and the book are fresh.
 abbrev pub freshPlayer : Player
 freshPlayer =
     record {
@@ -43,11 +45,13 @@ freshPlayer =
       chain = 0;
       sender = freshSender;
       receiver = freshReceiver;
+      checkpoints = freshCheckpoints;
       calendar = freshCalendar;
       book = freshBook;
     }
 
--- The player with another serving end, with another receiving end, with another calendar, with another book.
+-- The player with another serving end, with another receiving end, with other named places, with another calendar,
+-- with another book.
 abbrev pub withSender : Player → Sender → Player
 withSender p e =
     record {
@@ -57,6 +61,7 @@ withSender p e =
       chain = p .chain;
       sender = e;
       receiver = p .receiver;
+      checkpoints = p .checkpoints;
       calendar = p .calendar;
       book = p .book;
     }
@@ -70,6 +75,21 @@ withReceiver p e =
       chain = p .chain;
       sender = p .sender;
       receiver = e;
+      checkpoints = p .checkpoints;
+      calendar = p .calendar;
+      book = p .book;
+    }
+
+abbrev pub withCheckpoints : Player → Checkpoints → Player
+withCheckpoints p c =
+    record {
+      lines = p .lines;
+      ready = p .ready;
+      log = p .log;
+      chain = p .chain;
+      sender = p .sender;
+      receiver = p .receiver;
+      checkpoints = c;
       calendar = p .calendar;
       book = p .book;
     }
@@ -83,6 +103,7 @@ withCalendar p c =
       chain = p .chain;
       sender = p .sender;
       receiver = p .receiver;
+      checkpoints = p .checkpoints;
       calendar = c;
       book = p .book;
     }
@@ -96,6 +117,7 @@ withBook p b =
       chain = p .chain;
       sender = p .sender;
       receiver = p .receiver;
+      checkpoints = p .checkpoints;
       calendar = p .calendar;
       book = b;
     }
@@ -110,6 +132,7 @@ laidOut p log chain =
       chain = chain;
       sender = p .sender;
       receiver = p .receiver;
+      checkpoints = p .checkpoints;
       calendar = p .calendar;
       book = p .book;
     }
@@ -125,6 +148,7 @@ countedPlayer p =
       chain = p .chain;
       sender = p .sender;
       receiver = p .receiver;
+      checkpoints = p .checkpoints;
       calendar = p .calendar;
       book = p .book;
     })
@@ -199,7 +223,19 @@ ShowsReceive p packet buffer buffer′ r before after =
     × (buffer′ ≡ m .bytes)
 
 abbrev pub ShowsState : Player → Played → List ℕ → List ℕ → Type 0
-ShowsState p r before after = Shows p (stateLines (p .sender) (p .receiver)) r before after
+ShowsState p r before after = Shows p (stateLines (p .sender) (p .receiver) (p .checkpoints)) r before after
+
+-- The receiving end stays.
+abbrev pub ShowsKeep : Player → List ℕ → Played → List ℕ → List ℕ → Type 0
+ShowsKeep p name r before after =
+    let m = keepOf (p .checkpoints) (p .receiver) name in
+    Shows (withCheckpoints p (m .end)) (savedLine (m .answer)) r before after
+
+-- The named places stay.
+abbrev pub ShowsReturn : Player → List ℕ → Played → List ℕ → List ℕ → Type 0
+ShowsReturn p name r before after =
+    let m = restoreOf (p .checkpoints) (p .receiver) name in
+    Shows (withReceiver p (m .end)) (restoredLine (m .answer)) r before after
 
 abbrev pub ShowsCalendar : Player → List ℕ → List ℕ → Played → List ℕ → List ℕ → Type 0
 ShowsCalendar p sessions holidays r before after =
@@ -332,7 +368,7 @@ publishAllTurn p records log chain =
     (publishedLines (p .sender) records (take (p .log) log) ++ takenLine (m .taken) (publishedWhy (m .answer)))
     (within (p .log) (m .bytes) log) chain
 
--- A call in buffers that are laid out: the words that say bytes are the line's.
+-- A call in buffers that are laid out: the words that say bytes or a name are the line's.
 abbrev pub readyTurn : Player → List ℕ → List ℕ → List ℕ → Call → Turn
 readyTurn p line log chain Bad = badTurn p log chain
 readyTurn p line log chain (Buffers size part) = badTurn p log chain
@@ -351,7 +387,7 @@ readyTurn p line log chain (Answer s) =
     let m = confirmLoginOf (p .receiver) s (saidBytes (argument line 1)) in
     turn (withReceiver p (m .end)) (confirmedLine (m .answer)) log chain
 readyTurn p line log chain Receive = receiveTurn p (saidBytes (argument line 0)) log chain
-readyTurn p line log chain State = turn p (stateLines (p .sender) (p .receiver)) log chain
+readyTurn p line log chain State = turn p (stateLines (p .sender) (p .receiver) (p .checkpoints)) log chain
 readyTurn p line log chain (SetCalendar sessions holidays) = calendarTurn p line sessions holidays log chain
 readyTurn p line log chain (AskTime seconds) = turn p (timeLine (askOf (p .calendar) seconds)) log chain
 readyTurn p line log chain (MarkDate mark) = turn p (dateLine (markDate mark)) log chain
@@ -366,6 +402,12 @@ readyTurn p line log chain (ShowLevel buying place) =
 readyTurn p line log chain ShowMean = turn p (meanLine (bookMean (p .book))) log chain
 readyTurn p line log chain ReceiveAll = receiveAllTurn p (saidBytes (argument line 0)) log chain
 readyTurn p line log chain PublishAll = publishAllTurn p (saidBytes (argument line 0)) log chain
+readyTurn p line log chain Keep =
+    let m = keepOf (p .checkpoints) (p .receiver) (nameIn (argument line 0)) in
+    turn (withCheckpoints p (m .end)) (savedLine (m .answer)) log chain
+readyTurn p line log chain Return =
+    let m = restoreOf (p .checkpoints) (p .receiver) (nameIn (argument line 0)) in
+    turn (withReceiver p (m .end)) (restoredLine (m .answer)) log chain
 
 -- Before that, `buffers` is the only call.
 abbrev pub startTurn : Player → List ℕ → List ℕ → Call → Turn
@@ -390,6 +432,8 @@ startTurn p log chain (ShowLevel buying place) = badTurn p log chain
 startTurn p log chain ShowMean = badTurn p log chain
 startTurn p log chain ReceiveAll = badTurn p log chain
 startTurn p log chain PublishAll = badTurn p log chain
+startTurn p log chain Keep = badTurn p log chain
+startTurn p log chain Return = badTurn p log chain
 
 unfoldable pub callTurn : Player → List ℕ → List ℕ → List ℕ → Call → Turn
 callTurn p line log chain call =

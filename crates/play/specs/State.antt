@@ -1,18 +1,22 @@
--- Both ends as lines, for people.
-use Prim.Native.Nat.{ℕ, zero, suc}
+-- Both ends and the named places as lines, for people.
+use Prim.Native.Nat.{ℕ, zero, suc, _/_, _%_}
 use mathlib.Core.List.{List, [], _∷_, _++_}
 use mathlib.Core.Bool.{Bool, cond}
-use lib.ListN.{getD}
-use lib.Dec.{ltb}
+use lib.ListN.{length, getD}
+use lib.Dec.{ltb, eqb}
 use Rattle.ftd.specs.declared.tags.TradeDate.{TradeDate}
 use Rattle.ftd.specs.declared.tags.TradeDate.the-variants.{None, At}
 use Rattle.flow.specs.declared.sender.DaySeries.{DaySeries}
 use Rattle.flow.specs.declared.sender.Place.{Place}
 use Rattle.flow.specs.declared.sender.Sender.{Sender}
 use Rattle.flow.specs.declared.receiver.KeptSeries.{KeptSeries}
+use Rattle.flow.specs.declared.receiver.Kept.{Kept}
 use Rattle.flow.specs.declared.receiver.LiveSeries.{LiveSeries}
 use Rattle.flow.specs.declared.receiver.Receiver.{Receiver}
+use Rattle.flow.specs.declared.checkpoint.Checkpoint.{Checkpoint}
+use Rattle.flow.specs.declared.checkpoint.Checkpoints.{Checkpoints}
 use Rattle.flow.specs.Ends.{noSeries, noPlace, newKept, noLive}
+use Rattle.flow.specs.Checkpoints.{mostLetters, usedNames}
 use Rattle.listing.specs.Text.{decimalOf}
 use Rattle.play.specs.Lines.{gap, wordLine, numbered, none}
 
@@ -59,6 +63,12 @@ chainWord = 32 ∷ 99 ∷ 104 ∷ 97 ∷ 105 ∷ 110 ∷ 32 ∷ []
 
 abbrev pub noChain : List ℕ
 noChain = 32 ∷ 99 ∷ 104 ∷ 97 ∷ 105 ∷ 110 ∷ 32 ∷ 110 ∷ 111 ∷ 110 ∷ 101 ∷ []
+
+abbrev pub placesWord : List ℕ
+placesWord = 112 ∷ 108 ∷ 97 ∷ 99 ∷ 101 ∷ 115 ∷ []
+
+abbrev pub placeGap : List ℕ
+placeGap = 112 ∷ 108 ∷ 97 ∷ 99 ∷ 101 ∷ 32 ∷ []
 
 -- A trade date, or `none`.
 abbrev pub dateText : TradeDate → List ℕ
@@ -141,8 +151,54 @@ keptAt kept live i = keptLine (getD kept i (newKept 0)) (getD live i noLive)
 unfoldable pub keptLines : Receiver → List ℕ
 keptLines e = linesUpTo (keptAt (e .kept .series) (e .live .series)) (shownPlaces (e .kept .count))
 
--- ─── Both ───
+-- ─── The named places (02, No. 13) ───
 
--- A line for each end, and one for each of its open series, in the opening's order.
-unfoldable pub stateLines : Sender → Receiver → List ℕ
-stateLines sender receiver = servingLine sender ++ servedLines sender ++ receivingLine receiver ++ keptLines receiver
+-- The letters that a number says: its bytes from the lowest on, up to the first that is 0, and at most so many.
+unfoldable pub lettersIn : ℕ → ℕ → List ℕ
+lettersIn zero code = []
+lettersIn (suc most) code = cond (eqb (code % 256) 0) [] (code % 256 ∷ lettersIn most (code / 256))
+
+abbrev pub nameText : ℕ → List ℕ
+nameText code = lettersIn mostLetters code
+
+-- `place NAME`.
+unfoldable pub namedLine : ℕ → List ℕ
+namedLine code = wordLine (placeGap ++ nameText code)
+
+-- `series S DATE last L`, of each series that was open at the keeping.
+unfoldable pub savedSeries : KeptSeries → List ℕ
+savedSeries one = wordLine (keptText one)
+
+abbrev pub savedAt : List KeptSeries → ℕ → List ℕ
+savedAt series i = savedSeries (getD series i (newKept 0))
+
+unfoldable pub savedLines : Kept → List ℕ
+savedLines kept = linesUpTo (savedAt (kept .series)) (shownPlaces (kept .count))
+
+unfoldable pub checkpointLines : Checkpoint → List ℕ
+checkpointLines one = namedLine (one .name) ++ savedLines (one .kept)
+
+-- Stands behind the last of the places; it is never shown.
+abbrev pub noCheckpoint : Checkpoint
+noCheckpoint = record { name = 0; kept = record { count = 0; series = [] } }
+
+abbrev pub checkpointAt : List Checkpoint → ℕ → List ℕ
+checkpointAt places i = checkpointLines (getD places i noCheckpoint)
+
+-- Of each name in use, in the order in which they came first.
+unfoldable pub allCheckpoints : Checkpoints → List ℕ
+allCheckpoints c = linesUpTo (checkpointAt (c .places)) (length (usedNames c))
+
+-- `places`, how many names are in use.
+unfoldable pub placesLine : Checkpoints → List ℕ
+placesLine c = wordLine (numbered placesWord (length (usedNames c)))
+
+unfoldable pub placesLines : Checkpoints → List ℕ
+placesLines c = placesLine c ++ allCheckpoints c
+
+-- ─── All ───
+
+-- A line for each end, and one for each of its open series, in the opening's order; then the named places.
+unfoldable pub stateLines : Sender → Receiver → Checkpoints → List ℕ
+stateLines sender receiver checkpoints =
+    servingLine sender ++ servedLines sender ++ receivingLine receiver ++ keptLines receiver ++ placesLines checkpoints

@@ -148,6 +148,16 @@ allBytes line i (suc k) = cond (saysBytes (argument line i)) (allBytes line (i +
 unfoldable pub hasForm : List ℕ → ℕ → ℕ → Bool
 hasForm line numbers bytes = cond (hasArguments line (numbers + bytes)) (allBytes line numbers bytes) false
 
+-- ─── Names ───
+
+-- One argument, of one byte at least.
+unfoldable pub hasName : List ℕ → Bool
+hasName line = cond (hasArguments line 1) (ltb 0 (length (argument line 0))) false
+
+-- The name that a word says: its bytes as they stand, and none where it is `-`.
+unfoldable pub nameIn : List ℕ → List ℕ
+nameIn word = cond (sameWord word (45 ∷ [])) [] word
+
 -- ─── Lists of numbers: the arguments from one on ───
 
 -- How many numbers up to a top one there are behind n of them, looking at so many more; one more than the most where

@@ -7,6 +7,7 @@ ghost use Rattle.play.specs.Calls.{endVerbOf, verbOf, buffersWith, openD
 ghost use Rattle.play.specs.Calls.{openEndWith, askWith, answerWith, plainCall, namedCall, numberAt, callOf};
 use crate::words::argument;
 use crate::words::has_form;
+use crate::words::has_name;
 use crate::words::is_word;
 use crate::words::number_count;
 use crate::words::read_number;
@@ -37,6 +38,8 @@ enum Verb {
     ReceiveAll,
     PublishAll,
     SendPacket,
+    Keep,
+    Return,
 }
 
 // A call, with the numbers that its line says.
@@ -107,6 +110,9 @@ pub enum Call {
     // Several packets, several records.
     ReceiveAll,
     PublishAll,
+    // Of a named place (02, No. 13).
+    Keep,
+    Return,
 }
 
 // Which call of the book a line's first word names.
@@ -128,7 +134,7 @@ fn book_verb_of(word: &[u8]) -> Verb
     Verb::Unknown
 }
 
-// Which call for several packets or records a line's first word names, or of the book.
+// Which call for several packets or records, or of a named place, a line's first word names, or of the book.
 fn several_verb_of(word: &[u8]) -> Verb
     ensures { λ r. ⌜ r ≡ severalVerbOf (now (word .entry)) ⌝ }
 {
@@ -138,10 +144,16 @@ fn several_verb_of(word: &[u8]) -> Verb
     if is_word(word, b"publishall") {
         return Verb::PublishAll;
     }
+    if is_word(word, b"keep") {
+        return Verb::Keep;
+    }
+    if is_word(word, b"return") {
+        return Verb::Return;
+    }
     book_verb_of(word)
 }
 
-// Which call of the trading calendar a line's first word names, or for several, or of the book.
+// Which call of the trading calendar a line's first word names, or for several, of a named place or of the book.
 fn trading_verb_of(word: &[u8]) -> Verb
     ensures { λ r. ⌜ r ≡ tradingVerbOf (now (word .entry)) ⌝ }
 {
@@ -498,6 +510,8 @@ fn named_call(line: &[u8], verb: Verb) -> Call
             number_at(line, 1),
             true,
         ),
+        Verb::Keep => plain_call(has_name(line), Call::Keep),
+        Verb::Return => plain_call(has_name(line), Call::Return),
     }
 }
 

@@ -3,11 +3,14 @@ ghost use mathlib.Core.Path.{_≡_};
 ghost use Prim.Native.Nat.{_≤_};
 ghost use mathlib.Core.Bool.{true, false};
 ghost use lib.ListN.{length, replicate};
-ghost use Rattle.play.specs.Played.{freshPlayer, withSender, withReceiver, withCalendar, withBook};
+ghost use Rattle.play.specs.Played.{freshPlayer, withSender, withReceiver, withCheckpoints};
+ghost use Rattle.play.specs.Played.{withCalendar, withBook};
 ghost use Rattle.play.specs.Played.{countedPlayer, badLine, Shows, Plays};
 ghost use Rattle.play.specs.Played.{layoutTurn, startTurn, readyTurn, callTurn, lacksRoom, playTurn, Fits};
 use crate::calls::Call;
 use crate::calls::call_of;
+use crate::keeping::play_keep;
+use crate::keeping::play_return;
 use crate::quoting::play_book;
 use crate::quoting::play_take;
 use crate::quoting::show_level;
@@ -31,11 +34,12 @@ use crate::trading::play_calendar;
 use crate::trading::show_date;
 use book::calls::Book;
 use calendar::trading::Calendar;
+use flow::checkpoint::Checkpoints;
 use flow::receiver::Receiver;
 use flow::sender::Sender;
 
-// The player: how many lines it was given, whether the buffers are laid out, their lengths, the two ends, the calendar
-// and the book.
+// The player: how many lines it was given, whether the buffers are laid out, their lengths, the two ends, the named
+// places of the receiving end, the calendar and the book.
 pub struct Player {
     pub lines: usize,
     pub ready: bool,
@@ -43,6 +47,7 @@ pub struct Player {
     pub chain: usize,
     pub sender: Sender,
     pub receiver: Receiver,
+    pub checkpoints: Checkpoints,
     pub calendar: Calendar,
     pub book: Book,
 }
@@ -76,6 +81,7 @@ impl Player {
             chain: 0,
             sender: Sender::fresh(),
             receiver: Receiver::fresh(),
+            checkpoints: Checkpoints::fresh(),
             calendar: Calendar::fresh(),
             book: Book::fresh(),
         }
@@ -86,6 +92,7 @@ impl Player {
         ensures { λ r. ⌜ r ≡ withSender self sender ⌝ }
     {
         let receiver = self.receiver;
+        let checkpoints = self.checkpoints;
         let calendar = self.calendar;
         let book = self.book;
         Player {
@@ -95,6 +102,7 @@ impl Player {
             chain: self.chain,
             sender: sender,
             receiver: receiver,
+            checkpoints: checkpoints,
             calendar: calendar,
             book: book,
         }
@@ -105,6 +113,7 @@ impl Player {
         ensures { λ r. ⌜ r ≡ withReceiver self receiver ⌝ }
     {
         let sender = self.sender;
+        let checkpoints = self.checkpoints;
         let calendar = self.calendar;
         let book = self.book;
         Player {
@@ -114,6 +123,28 @@ impl Player {
             chain: self.chain,
             sender: sender,
             receiver: receiver,
+            checkpoints: checkpoints,
+            calendar: calendar,
+            book: book,
+        }
+    }
+
+    // The named places are others.
+    pub(crate) fn with_checkpoints(self, checkpoints: Checkpoints) -> Player
+        ensures { λ r. ⌜ r ≡ withCheckpoints self checkpoints ⌝ }
+    {
+        let sender = self.sender;
+        let receiver = self.receiver;
+        let calendar = self.calendar;
+        let book = self.book;
+        Player {
+            lines: self.lines,
+            ready: self.ready,
+            log: self.log,
+            chain: self.chain,
+            sender: sender,
+            receiver: receiver,
+            checkpoints: checkpoints,
             calendar: calendar,
             book: book,
         }
@@ -125,6 +156,7 @@ impl Player {
     {
         let sender = self.sender;
         let receiver = self.receiver;
+        let checkpoints = self.checkpoints;
         let book = self.book;
         Player {
             lines: self.lines,
@@ -133,6 +165,7 @@ impl Player {
             chain: self.chain,
             sender: sender,
             receiver: receiver,
+            checkpoints: checkpoints,
             calendar: calendar,
             book: book,
         }
@@ -144,6 +177,7 @@ impl Player {
     {
         let sender = self.sender;
         let receiver = self.receiver;
+        let checkpoints = self.checkpoints;
         let calendar = self.calendar;
         Player {
             lines: self.lines,
@@ -152,6 +186,7 @@ impl Player {
             chain: self.chain,
             sender: sender,
             receiver: receiver,
+            checkpoints: checkpoints,
             calendar: calendar,
             book: book,
         }
@@ -164,6 +199,7 @@ impl Player {
         if self.lines < 4294967295 {
             let sender = self.sender;
             let receiver = self.receiver;
+            let checkpoints = self.checkpoints;
             let calendar = self.calendar;
             let book = self.book;
             return Player {
@@ -173,6 +209,7 @@ impl Player {
                 chain: self.chain,
                 sender: sender,
                 receiver: receiver,
+                checkpoints: checkpoints,
                 calendar: calendar,
                 book: book,
             };
@@ -214,6 +251,7 @@ impl Player {
         clear(&mut chain[..part]);
         let sender = self.sender;
         let receiver = self.receiver;
+        let checkpoints = self.checkpoints;
         let calendar = self.calendar;
         let book = self.book;
         Played {
@@ -224,6 +262,7 @@ impl Player {
                 chain: part,
                 sender: sender,
                 receiver: receiver,
+                checkpoints: checkpoints,
                 calendar: calendar,
                 book: book,
             },
@@ -292,6 +331,8 @@ impl Player {
             Call::ShowMean => show_mean(self, text),
             Call::ReceiveAll => play_receive_all(self, line, chain, bytes, text),
             Call::PublishAll => play_publish_all(self, line, log, bytes, text),
+            Call::Keep => play_keep(self, line, text),
+            Call::Return => play_return(self, line, text),
         }
     }
 

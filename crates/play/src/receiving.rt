@@ -161,15 +161,16 @@ pub(crate) fn play_receive(
     receive(player, &bytes[..n], &mut chain[..size], text)
 }
 
-// Both ends, for people.
+// Both ends and the named places, for people.
 pub(crate) fn show_state(player: Player, text: &mut [u8]) -> Played
-    requires { ⌜ 4096 ≤ length (now text) ⌝ }
+    requires { ⌜ 8192 ≤ length (now text) ⌝ }
     ensures { λ r. ⌜ ShowsState player r (now (text .entry)) (now (text .exit)) ⌝ }
 {
     let sender = player.sender;
     let receiver = player.receiver;
+    let checkpoints = player.checkpoints;
     Played {
         player: player,
-        len: state_lines(text, sender, receiver),
+        len: state_lines(text, sender, receiver, checkpoints),
     }
 }

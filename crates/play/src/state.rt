@@ -1,13 +1,18 @@
-// Both ends as lines, for people.
+// Both ends and the named places as lines, for people.
 ghost use mathlib.Core.Path.{_≡_};
-ghost use Prim.Native.Nat.{_+_, _≤_};
+ghost use Prim.Native.Nat.{_+_, _%_, _≤_};
 ghost use lib.ListN.{length};
+ghost use Rattle.flow.specs.Checkpoints.{usedNames};
 ghost use Rattle.listing.specs.Text.{WroteText, decimalOf};
 ghost use Rattle.play.specs.State.{dateText, shownPlaces, servingLine, nextText, placeText, servedLine, servedLines};
 ghost use Rattle.play.specs.State.{shareText, servedText};
 ghost use Rattle.play.specs.State.{receivingLine, loginText, heldText, chainText, keptText, liveText, keptLine};
-ghost use Rattle.play.specs.State.{keptLines, stateLines};
+ghost use Rattle.play.specs.State.{keptLines, nameText, namedLine, savedSeries, savedLines, checkpointLines};
+ghost use Rattle.play.specs.State.{allCheckpoints, placesLines, stateLines};
 use crate::text::put_numbered;
+use flow::checkpoint::Checkpoint;
+use flow::checkpoint::Checkpoints;
+use flow::receiver::Kept;
 use flow::receiver::KeptSeries;
 use flow::receiver::LiveSeries;
 use flow::receiver::Receiver;
@@ -232,14 +237,130 @@ fn put_receiving(out: &mut [u8], at: usize, receiver: Receiver) -> usize
     put_byte(out, n, 10)
 }
 
-// Both ends.
-pub(crate) fn state_lines(out: &mut [u8], sender: Sender, receiver: Receiver) -> usize
-    requires { ⌜ 4096 ≤ length (now out) ⌝ }
-    ensures { λ r. ⌜ WroteText (now (out .entry)) 0 (stateLines sender receiver) (now (out .exit)) r
+// The lowest byte of a name's number.
+fn letter(rest: u64) -> u8
+    ensures { λ r. ⌜ r ≡ rest % 256 ⌝ }
+{
+    (rest % 256) as u8
+}
+
+// The letters of a name.
+fn put_name(out: &mut [u8], at: usize, name: u64) -> usize
+    requires { ⌜ at + 8 ≤ length (now out) ⌝ }
+    ensures { λ r. ⌜ WroteText (now (out .entry)) at (nameText name) (now (out .exit)) r × (r ≤ at + 8) ⌝ }
+{
+    let mut to = at;
+    let mut rest = name;
+    let mut i: usize = 0;
+    while i < 8 {
+        let x = letter(rest);
+        if x == 0 {
+            return to;
+        }
+        to = put_byte(out, to, x);
+        rest = rest / 256;
+        i += 1;
+    }
+    to
+}
+
+// A name.
+fn put_named(out: &mut [u8], at: usize, name: u64) -> usize
+    requires { ⌜ at + 16 ≤ length (now out) ⌝ }
+    ensures { λ r. ⌜ WroteText (now (out .entry)) at (namedLine name) (now (out .exit)) r × (r ≤ at + 16) ⌝ }
+{
+    let n = put_word(out, at, b"place ");
+    let n = put_name(out, n, name);
+    put_byte(out, n, 10)
+}
+
+// A series as it was kept.
+fn put_saved(out: &mut [u8], at: usize, one: KeptSeries) -> usize
+    requires { ⌜ at + 129 ≤ length (now out) ⌝ }
+    ensures { λ r. ⌜ WroteText (now (out .entry)) at (savedSeries one) (now (out .exit)) r × (r ≤ at + 129) ⌝ }
+{
+    let n = put_kept_text(out, at, one);
+    put_byte(out, n, 10)
+}
+
+// The series as they were kept.
+fn put_all_saved(out: &mut [u8], at: usize, kept: Kept) -> usize
+    requires { ⌜ at + 1032 ≤ length (now out) ⌝ }
+    ensures { λ r. ⌜ WroteText (now (out .entry)) at (savedLines kept) (now (out .exit)) r × (r ≤ at + 1032) ⌝ }
+{
+    let count = shown_places(kept.count);
+    let mut to = at;
+    let mut i: usize = 0;
+    while i < count {
+        let one = kept.series[i];
+        to = put_saved(out, to, one);
+        i += 1;
+    }
+    to
+}
+
+// A name, and what was kept under it.
+fn put_checkpoint(out: &mut [u8], at: usize, one: Checkpoint) -> usize
+    requires { ⌜ at + 1048 ≤ length (now out) ⌝ }
+    ensures { λ r. ⌜ WroteText (now (out .entry)) at (checkpointLines one) (now (out .exit)) r × (r ≤ at + 1048) ⌝ }
+{
+    let kept = one.kept;
+    let n = put_named(out, at, one.name);
+    put_all_saved(out, n, kept)
+}
+
+// How many names are in use.
+fn names_used(checkpoints: Checkpoints) -> usize
+    ensures { λ r. ⌜ (r ≡ length (usedNames checkpoints)) × (r ≤ 4) ⌝ }
+{
+    if checkpoints.count < 4 {
+        return checkpoints.count;
+    }
+    4
+}
+
+// The names in use, and what was kept under each.
+fn put_checkpoints(out: &mut [u8], at: usize, checkpoints: Checkpoints) -> usize
+    requires { ⌜ at + 4192 ≤ length (now out) ⌝ }
+    ensures { λ r. ⌜ WroteText (now (out .entry)) at (allCheckpoints checkpoints) (now (out .exit)) r
+        × (r ≤ at + 4192) ⌝ }
+{
+    let count = names_used(checkpoints);
+    let mut to = at;
+    let mut i: usize = 0;
+    while i < count {
+        let one = checkpoints.places[i];
+        to = put_checkpoint(out, to, one);
+        i += 1;
+    }
+    to
+}
+
+// The named places.
+fn put_places(out: &mut [u8], at: usize, checkpoints: Checkpoints) -> usize
+    requires { ⌜ at + 4256 ≤ length (now out) ⌝ }
+    ensures { λ r. ⌜ WroteText (now (out .entry)) at (placesLines checkpoints) (now (out .exit)) r
+        × (r ≤ at + 4256) ⌝ }
+{
+    let n = put_numbered(out, at, b"places", names_used(checkpoints));
+    let n = put_byte(out, n, 10);
+    put_checkpoints(out, n, checkpoints)
+}
+
+// Both ends and the named places.
+pub(crate) fn state_lines(
+    out: &mut [u8],
+    sender: Sender,
+    receiver: Receiver,
+    checkpoints: Checkpoints,
+) -> usize
+    requires { ⌜ 8192 ≤ length (now out) ⌝ }
+    ensures { λ r. ⌜ WroteText (now (out .entry)) 0 (stateLines sender receiver checkpoints) (now (out .exit)) r
         × (r ≤ length (now (out .exit))) ⌝ }
 {
     let n = put_serving(out, 0, sender);
     let n = put_all_served(out, n, sender);
     let n = put_receiving(out, n, receiver);
-    put_all_kept(out, n, receiver)
+    let n = put_all_kept(out, n, receiver);
+    put_places(out, n, checkpoints)
 }

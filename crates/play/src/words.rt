@@ -9,7 +9,7 @@ ghost use Rattle.play.specs.Words.{endOf, digitValue, numberIn, tidIn, a
 ghost use Rattle.play.specs.Words.{nextEnd, endAt, argument as argumentOf, hasArguments, allBytes, hasForm};
 ghost use Rattle.play.specs.Words.{numberCount, numberUpTo, seriesFrom, wordsFrom};
 ghost use Rattle.play.specs.Words.{wideIn, isNumber, upToColon, seriesIn, reserveIn, saysShare};
-ghost use Rattle.play.specs.Words.{shareCount, seriesAt, reserveAt, reservesFrom};
+ghost use Rattle.play.specs.Words.{shareCount, seriesAt, reserveAt, reservesFrom, nameIn, hasName};
 
 // A number above all that four bytes hold stands for a word that says none.
 pub const NO_NUMBER: u64 = 4294967296;
@@ -366,6 +366,27 @@ pub(crate) fn has_form(line: &[u8], numbers: usize, bytes: usize) -> bool
         return all_bytes(line, numbers, bytes);
     }
     false
+}
+
+// The line has one argument, of one byte at least.
+pub(crate) fn has_name(line: &[u8]) -> bool
+    ensures { λ r. ⌜ r ≡ hasName (now (line .entry)) ⌝ }
+{
+    if has_arguments(line, 1) {
+        let word = argument(line, 0);
+        return word.len() > 0;
+    }
+    false
+}
+
+// The name that a word says: its bytes as they stand, and none where it is `-`.
+pub(crate) fn name_in(word: &[u8]) -> &[u8]
+    ensures { λ r. ⌜ now r ≡ nameIn (now (word .entry)) ⌝ }
+{
+    if is_word(word, b"-") {
+        return &word[..0];
+    }
+    word
 }
 
 // Argument i says no number up to a top one.

@@ -31,7 +31,7 @@ use Rattle.flow.specs.declared.receiver.Received.the-variants.{Refused as NotTa
 use Rattle.flow.specs.Ends.{Left, left, Wrote, wrote, noPlace}
 use Rattle.flow.specs.Answers.{Said, refused, opened, published, answered, sent, sentPacket, none, asked, confirmed, idle}
 use Rattle.flow.specs.Answers.{again, held, handedOn, off, isTaken, messageIn, openedSaid, loginSaid, sentSaid, sentPacketSaid}
-use Rattle.flow.specs.Answers.{confirmedSaid, receivedSaid}
+use Rattle.flow.specs.Answers.{confirmedSaid, receivedSaid, kept, returned}
 use Rattle.flow.specs.Serving.{loginOf, sendOf, sendPacketOf}
 use Rattle.flow.specs.Receiving.{openEndOf, connectOf, requestLoginOf, confirmLoginOf}
 use Rattle.flow.proofs.common.Bools.{clash}
@@ -76,6 +76,8 @@ wrote-taken idle q = refl
 wrote-taken (again n) q = refl
 wrote-taken (held n) q = refl
 wrote-taken (handedOn n m) q = refl
+wrote-taken kept q = refl
+wrote-taken returned q = refl
 
 -- ─── A call of a seat: nothing changed, or it wrote something ───
 

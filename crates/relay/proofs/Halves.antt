@@ -35,9 +35,9 @@ use Rattle.relay.proofs.Joint.{Joint, joint-step}
 
 pub record Good (w : BoxWorld) : Type 0 where
   pub sixteen : Sixteen (w .node)
-  pub above-timely : Timely (above w)
+  pub above-timely : Timely 0 (above w)
   pub above-safe : SafeWorld (above w)
-  pub below-timely : (i : ℕ) → i < 16 → Timely (below w i)
+  pub below-timely : (i : ℕ) → i < 16 → Timely 0 (below w i)
   pub below-safe : (i : ℕ) → i < 16 → SafeWorld (below w i)
   pub joint : Joint (w .node)
 
@@ -121,9 +121,9 @@ pub good-start : (l : Lent) → Good (startBox l)
 good-start l =
     record {
       sixteen = start-sixteen l;
-      above-timely = subst Timely (sym (above-start l)) (timely-start (l .exchangeLog) (l .buffer));
+      above-timely = subst (Timely 0) (sym (above-start l)) (timely-start (l .exchangeLog) (l .buffer));
       above-safe = subst SafeWorld (sym (above-start l)) (start-safe (l .exchangeLog) (l .buffer));
-      below-timely = λ i f. subst Timely (sym (below-start l i f)) (timely-start (l .log) (l .buffers i));
+      below-timely = λ i f. subst (Timely 0) (sym (below-start l i f)) (timely-start (l .log) (l .buffers i));
       below-safe = λ i f. subst SafeWorld (sym (below-start l i f)) (start-safe (l .log) (l .buffers i));
       joint = start-joint l;
     }

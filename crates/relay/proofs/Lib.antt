@@ -2,7 +2,6 @@
 -- line (`Above`, `Below`), the two sides of the box joined (`Join`, `Joint`), then `flow`'s both halves on each line
 -- (`Halves`), the numbers and the way to a seat (`Numbers`), the day's books and the log that is long enough (`Sums`, `Books`, `Enough`). Apart from
 -- these: seats that don't touch each other (`Seats`), and what opens and publishes (`Openings`).
-pub mod Filled
 pub mod Calls
 pub mod Effects
 pub mod CallsAs

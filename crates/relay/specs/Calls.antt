@@ -30,6 +30,7 @@ use Rattle.flow.specs.declared.receiver.Received.the-variants.{Refused as NotTa
 use Rattle.flow.specs.Ends.{Left, Wrote, left, before, upTo, noPlace, noLive, loggedIn, isOpen, keptOf, liveOf, keptSeries}
 use Rattle.flow.specs.Ends.{filled}
 use Rattle.flow.specs.Answers.{Said, refused, opened, published, answered, sent, sentPacket, none, asked, confirmed, idle}
+use Rattle.flow.specs.Answers.{kept, returned}
 use Rattle.flow.specs.Answers.{again, held, handedOn, Message, off, isTaken, messageIn, confirmedSaid, receivedSaid}
 use Rattle.flow.specs.Serving.{openDayOf, publishOf, loginOf, sendOf, sendPacketOf}
 use Rattle.flow.specs.Receiving.{openEndOf, requestLoginOf, confirmLoginOf, receiveOf}
@@ -144,6 +145,8 @@ passes idle = false
 passes (again n) = true
 passes (held n) = true
 passes (handedOn n m) = true
+passes kept = false
+passes returned = false
 
 -- The series that a packet bears; what the receiving end makes of it, and says.
 abbrev pub borne : List ℕ → ℕ

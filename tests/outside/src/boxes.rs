@@ -5,7 +5,7 @@
 use crate::ends::{self, Receiver, SEND_MESSAGE, SEND_NONE, SEND_REFUSED};
 use crate::{Span, Written};
 use reader::few::{Few, MOST_SERIES};
-use reader::receiving::{self, Chain, Receiving};
+use reader::receiving;
 use reader::relay::{Place, Relay, SEATS};
 use reader::serving::{self, OnePacket, Serving};
 use reader::several;
@@ -379,13 +379,6 @@ pub fn places(of: &Relay) -> Places {
 
 /// The model of a state: of numbers that it can say, so at most eight series, and none without a day.
 pub fn relay(of: &Boxed, places: &Places) -> Relay {
-    let kept = |one: &ends::Kept| receiving::Kept {
-        series: one.series,
-        mark: (one.dated != 0).then_some(one.date),
-        last: one.last,
-        logged_in: one.login != 0,
-        chain: (one.chain != 0).then_some(Chain { tid: one.tid, held: one.held, pieces: one.pieces }),
-    };
     let served = |one: &DaySeries| serving::Served {
         series: one.series,
         published: one.published,
@@ -393,7 +386,6 @@ pub fn relay(of: &Boxed, places: &Places) -> Relay {
         used: one.used,
         ..serving::Served::default()
     };
-    let open = Few::of(of.receiver.series.iter().take(of.receiver.count).map(kept)).expect("at most eight");
     let day = (of.day.dated != 0).then(|| {
         let open = Few::of(of.day.series.iter().take(of.day.count).map(served)).expect("at most eight");
         serving::Day { mark: of.day.date, open, used: of.day.used }
@@ -405,7 +397,7 @@ pub fn relay(of: &Boxed, places: &Places) -> Relay {
             *place = (places[at] != 0).then_some(Place { next: places[at + 1], piece: places[at + 2] });
         }
     }
-    Relay { receiving: Receiving { open }, reserves: of.reserves, below: Serving { day }, seats }
+    Relay { receiving: ends::receiving(&of.receiver), reserves: of.reserves, below: Serving { day }, seats }
 }
 
 /// An answer of the model's Receive, beside the packet and the buffer that it was lent.

@@ -1,8 +1,11 @@
 //! Random lists of calls on both sides. In an honest list only the line is at fault: packets are copies of what was written, and each
 //! single one may be lost, repeated and late; demand 3 is checked on it. In a wild one packets are damaged or made up, logs altered,
-//! and states set that no call made. Messages are sent whole and packet by packet.
+//! and states set that no call made. Messages are sent whole and packet by packet. In lists of their own, ends are kept
+//! under names and returned to.
 
 use crate::accounts::Accounts;
+use crate::checkpoints::both::Named;
+use crate::effective::Happened;
 use crate::ends::HANDED_ON;
 use crate::history::{Delivery, History};
 use crate::world::World;
@@ -17,6 +20,7 @@ use std::collections::BTreeMap;
 use std::rc::Rc;
 
 pub mod boxes;
+mod named;
 mod packets;
 mod pieces;
 mod several;
@@ -161,6 +165,8 @@ struct Line {
     logins: Vec<(u16, Bytes)>,
     answers: Vec<(u16, Bytes)>,
     messages: Vec<Transmission>,
+    /// How many of the logins were asked for before the last return.
+    asked_before: usize,
     /// Which of the messages is unfinished, by series, and what the whole Send would have written in place of its first packet.
     unfinished: BTreeMap<u16, (usize, Bytes)>,
 }
@@ -185,6 +191,12 @@ pub struct Lists {
     pub transmissions: BTreeMap<&'static str, u64>,
     /// What single packets came to, in honest lists.
     pub singles: BTreeMap<&'static str, u64>,
+    /// Where places are kept: both sides of them, what happened at the receiving end of an honest list, the list's
+    /// names, and which cases there were.
+    pub named: Option<Named>,
+    happened: Vec<Happened>,
+    names: Vec<&'static [u8]>,
+    pub cases: BTreeMap<&'static str, u64>,
     /// The calls of this list, for a difference.
     trace: Vec<String>,
     tracing: bool,
@@ -305,6 +317,10 @@ impl Default for Lists {
             arrived: 0,
             transmissions: BTreeMap::new(),
             singles: BTreeMap::new(),
+            named: None,
+            happened: vec![],
+            names: vec![],
+            cases: BTreeMap::new(),
             trace: vec![],
             tracing: false,
         }
@@ -364,6 +380,7 @@ impl Lists {
         self.world.fresh(log, many * BUFFER + spare)?;
         self.world.noise = (self.kind == Kind::Wild).then(|| r.clone());
         let until = self.calls + calls as u64;
+        self.begin_named(r)?;
         if !r.once_in(8) {
             self.open_day(r)?;
             if self.world.serving.day.is_none() {
@@ -375,7 +392,9 @@ impl Lists {
             self.step(r)?;
         }
         if self.kind == Kind::Honest {
+            self.back_at_last(r)?;
             self.catch_up()?;
+            self.counts()?;
         }
         Ok(())
     }
@@ -389,6 +408,9 @@ impl Lists {
     }
 
     fn step(&mut self, r: &mut Random) -> Result<(), String> {
+        if self.named.is_some() && r.once_in(8) {
+            return self.named_step(r);
+        }
         // Where messages are long, more single packets of them.
         if self.large() && r.once_in(5) {
             return self.singles(r);
@@ -538,7 +560,8 @@ impl Lists {
 
     /// A login packet of the line; otherwise one of any start, or damaged.
     fn login(&mut self, r: &mut Random) -> Result<(), String> {
-        let (mut series, mut packet) = late(r, &self.line.logins).unwrap_or((1, [].into()));
+        let place = late_place(r, self.line.logins.len());
+        let (mut series, mut packet) = place.map_or((1, [].into()), |place| self.line.logins[place].clone());
         if self.kind == Kind::Honest && packet.is_empty() {
             return Ok(());
         }
@@ -553,7 +576,14 @@ impl Lists {
                 packet = damaged(r, &packet).into();
             }
         }
-        self.login_with(r, series, &packet)
+        let answers = self.line.answers.len();
+        self.login_with(r, series, &packet)?;
+        // Asked for before a return, it owes nothing.
+        if self.line.answers.len() > answers && place.is_some_and(|place| place < self.line.asked_before) {
+            self.history.let_off(series);
+            self.case("a login asked for before the last return");
+        }
+        Ok(())
     }
 
     fn login_with(&mut self, r: &mut Random, series: u16, packet: &[u8]) -> Result<(), String> {
@@ -613,6 +643,7 @@ impl Lists {
         if let (Ok(last), Kind::Honest) = (answer, self.kind) {
             let Packet::Message(message) = read(packet) else { return Err("an answer that is no packet".to_string()) };
             self.demand += 1;
+            self.heard_report(series, message.mark.unwrap_or(0), last);
             self.history.answered(series, message.mark.unwrap_or(0), last)?;
         }
         Ok(())
@@ -773,9 +804,11 @@ impl Lists {
         self.demand += 1;
         if taken.answer == HANDED_ON {
             let bytes = if taken.origin == crate::ends::IN_PACKET { packet } else { &self.world.buffers[0] };
-            let content = taken.content.of(bytes);
-            self.history.handed_on(message.series, message.mark.unwrap_or(0), taken.tid, content)?;
+            let content = taken.content.of(bytes).to_vec();
+            self.history.handed_on(message.series, message.mark.unwrap_or(0), taken.tid, &content)?;
+            self.heard_message(&message, taken.tid, content);
         }
+        self.heard_report(message.series, self.history.day_of(message.series), taken.last);
         self.history.reported(message.series, taken.last)
     }
 

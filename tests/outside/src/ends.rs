@@ -2,7 +2,7 @@
 
 use crate::{Span, Written};
 use reader::few::{Few, MOST_SERIES};
-use reader::receiving::{self, Content, Receiving};
+use reader::receiving::{self, Chain, Content, Receiving};
 use reader::serving::{self, Serving};
 use reader::several::{Answer, Stop};
 use std::fmt::{Debug, Formatter};
@@ -389,6 +389,18 @@ pub fn receiver(of: &Receiving) -> Receiver {
         }
     };
     Receiver { series: places(&of.open, number), count: of.open.len() }
+}
+
+/// The model of a receiving end: of numbers that it can say, so of at most eight series.
+pub fn receiving(of: &Receiver) -> Receiving {
+    let kept = |one: &Kept| receiving::Kept {
+        series: one.series,
+        mark: (one.dated != 0).then_some(one.date),
+        last: one.last,
+        logged_in: one.login != 0,
+        chain: (one.chain != 0).then_some(Chain { tid: one.tid, held: one.held, pieces: one.pieces }),
+    };
+    Receiving { open: Few::of(of.series.iter().take(of.count).map(kept)).expect("at most eight") }
 }
 
 /// An answer of the model's Receive, beside the packet and the buffer that it was lent.

@@ -1,11 +1,12 @@
 //! What happened over a line, and demand 3 on it: what was handed on of a series and day is the first n published, n the last
 //! report; and n is the published count where all that was sent has arrived.
 
+use crate::effective::Counted;
 use std::collections::BTreeMap;
 use std::rc::Rc;
 
 /// A series and a day.
-type Flow = (u16, u32);
+pub type Flow = (u16, u32);
 
 /// What the receiving end was given: an answer with its series, or all packets of the message with this number.
 #[derive(Clone, PartialEq)]
@@ -54,6 +55,23 @@ impl History {
     /// A message of the series isn't taken for want of room: nothing is owed for it any more.
     pub fn let_off(&mut self, series: u16) {
         self.logged_in.remove(&series);
+    }
+
+    /// A return: as a connection; and of what was handed on and reported this counts from now on.
+    pub fn returned(&mut self, counted: &Counted) {
+        self.disturbed();
+        self.handed_on = counted.handed_on.iter().map(|(&flow, all)| (flow, all.len())).collect();
+        self.reports.clone_from(&counted.reports);
+    }
+
+    /// All that was published, by series and day.
+    pub fn all_published(&self) -> &BTreeMap<Flow, Vec<(u32, Vec<u8>)>> {
+        &self.published
+    }
+
+    /// The day of a series' last answer.
+    pub fn day_of(&self, series: u16) -> u32 {
+        self.answered[&series]
     }
 
     pub fn published(&mut self, series: u16, tid: u32, content: &[u8]) {

@@ -47,7 +47,7 @@ pub(crate) fn same_bytes(asked: &mut Asked, what: &str, library: &[u8], reader: 
 }
 
 /// A flag that is set, as any number but 0.
-fn flag(r: &mut Random, of: &mut u8) -> bool {
+pub(crate) fn flag(r: &mut Random, of: &mut u8) -> bool {
     if *of != 0 {
         *of = r.within(1, 255) as u8;
     }
@@ -117,7 +117,7 @@ impl World {
     }
 
     /// The receiving end as it is lent to the library.
-    fn receiver(&mut self) -> Receiver {
+    pub(crate) fn receiver(&mut self) -> Receiver {
         self.noise.as_mut().map_or(self.receiver, |r| noisy_receiver(r, self.receiver))
     }
 

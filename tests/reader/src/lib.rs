@@ -4,6 +4,7 @@
 pub mod book;
 pub mod book_cases;
 pub mod calendar;
+pub mod checkpoints;
 pub mod cut;
 pub mod few;
 pub mod fix;

@@ -1,8 +1,10 @@
 //! Scripts for the player of calls (`ftdplay`): calls with the lines that the player has to print. The answers are the
-//! models' (`serving`, `receiving`, `calendar`, `book`); each worked example also says by hand how its answer begins.
+//! models' (`serving`, `receiving`, `checkpoints`, `calendar`, `book`); each worked example also says by hand how its
+//! answer begins.
 
 use crate::book::{Book, Side};
 use crate::calendar::{Calendar, Days, Session};
+use crate::checkpoints::Checkpoints;
 use crate::packet::said_length;
 use crate::receiving::{Received, Receiving};
 use crate::serving::{Served, Serving};
@@ -10,6 +12,7 @@ use crate::several::{Answer, Stop, RECORD_HEADER};
 
 mod book;
 mod calendar;
+mod checkpoints;
 mod line;
 mod packets;
 mod parts;
@@ -19,7 +22,7 @@ mod serving;
 mod several;
 mod shares;
 
-pub use line::faulty_line;
+pub use line::{faulty_line, named_line};
 
 /// Room in the log and in the chain buffer.
 pub const LOG: usize = 40_000;
@@ -31,6 +34,7 @@ pub const ROOM: usize = 65_536;
 pub struct Script {
     serving: Serving,
     receiving: Receiving,
+    checkpoints: Checkpoints,
     calendar: Calendar,
     days: Days,
     book: Book,
@@ -99,6 +103,7 @@ impl Script {
         Script {
             serving: Serving::default(),
             receiving: Receiving::default(),
+            checkpoints: Checkpoints::default(),
             calendar: Calendar::default(),
             days: Days::default(),
             book: Book::default(),
@@ -258,7 +263,28 @@ impl Script {
         answer.taken
     }
 
-    /// Both ends: a line each, and one for each open series.
+    /// A name as it stands in a line; `-` is the empty one.
+    fn named(name: &str) -> &[u8] {
+        if name == "-" {
+            return &[];
+        }
+        name.as_bytes()
+    }
+
+    fn kept(&mut self, name: &str) -> Result<(), u8> {
+        let answer = self.checkpoints.keep(&self.receiving, Self::named(name));
+        self.add(format!("keep {name}"), answer.map_or_else(refused, |()| "kept".to_string()));
+        answer
+    }
+
+    fn returned(&mut self, name: &str) -> Result<(), u8> {
+        let answer = self.checkpoints.back(&mut self.receiving, Self::named(name));
+        self.add(format!("return {name}"), answer.map_or_else(refused, |()| "returned".to_string()));
+        answer
+    }
+
+    /// Both ends: a line each, and one for each open series. Then the places: how many names are in use, a line for
+    /// each of them, and one for each series that was open.
     fn state(&mut self) {
         let or_none = |x: Option<u32>| x.map_or("none".to_string(), |x| x.to_string());
         let day = self.serving.day;
@@ -275,6 +301,13 @@ impl Script {
             let chain = one.chain.map_or("none".to_string(), |chain| format!("{} {}", chain.held, chain.pieces));
             let mark = or_none(one.mark);
             lines.push(format!("series {} {mark} last {} {login} chain {chain}", one.series, one.last));
+        }
+        lines.push(format!("places {}", self.checkpoints.places.len()));
+        for place in &self.checkpoints.places {
+            lines.push(format!("place {}", String::from_utf8_lossy(&place.name)));
+            for one in &place.kept {
+                lines.push(format!("series {} {} last {}", one.series, or_none(one.mark), one.last));
+            }
         }
         self.add("state".to_string(), lines.join("\n"));
     }
@@ -382,6 +415,16 @@ impl Script {
         self.begins(expected);
     }
 
+    fn keep(&mut self, name: &str, expected: &str) {
+        _ = self.kept(name);
+        self.says(expected);
+    }
+
+    fn go_back(&mut self, name: &str, expected: &str) {
+        _ = self.returned(name);
+        self.says(expected);
+    }
+
     fn ask(&mut self, series: u16, room: usize, content: &[u8], expected: &str) {
         _ = self.asked(series, room, content);
         self.begins(expected);
@@ -420,19 +463,22 @@ impl Script {
         }
     }
 
-    /// The states of both ends, each line of them written by hand.
+    /// The states of both ends, each line of them written by hand; behind them there is the place that was kept before
+    /// the opening, and no other.
     fn states(&mut self, expected: &str) {
         self.state();
+        let expected = format!("{expected}\nplaces 1\nplace BEFORE");
         assert_eq!(self.calls.last().expect("a call").1, expected, "line {}", self.calls.len());
     }
 }
 
-/// The whole script: the worked examples of both ends, of the calendar, of the book, of a bufferful, of one packet a call, of
-/// every piece counted and of a share of the log, and both ends over a faulty line. Gives it with the place of the call that
-/// the faulty line begins with.
-pub fn whole_script() -> (Script, usize) {
+/// The whole script: the worked examples of both ends, of the calendar, of the book, of a bufferful, of one packet a
+/// call, of every piece counted, of a share of the log and of named places, and both ends over a faulty line, without
+/// keeps and returns and with them. Gives it with the places of the calls that the two faulty lines begin with.
+pub fn whole_script() -> (Script, [usize; 2]) {
     let mut s = Script::new(LOG, CHAIN);
     serving::examples(&mut s);
+    checkpoints::before_the_opening(&mut s);
     receiving::examples(&mut s);
     serving::biggest(&mut s);
     calendar::examples(&mut s);
@@ -441,8 +487,11 @@ pub fn whole_script() -> (Script, usize) {
     packets::examples(&mut s);
     pieces::examples(&mut s);
     shares::examples(&mut s);
+    checkpoints::examples(&mut s);
     let from = s.calls.len();
     faulty_line(&mut s, 2_000_000_000);
+    let named = s.calls.len();
+    named_line(&mut s, 3_000_000_000);
     serving::last_marks(&mut s);
-    (s, from)
+    (s, [from, named])
 }

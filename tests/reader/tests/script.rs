@@ -1,9 +1,9 @@
 //! The script that stands in the repository is the one that the models make; every answer of every call is there; and over
-//! the faulty line what was handed on is what was published.
+//! the faulty lines what was handed on is what was published; with keeps and returns, what counts of it.
 
 use reader::cut::{write_sent, Header};
 use reader::packet::{read, said_length, MessagePacket, Packet};
-use reader::script::{faulty_line, whole_script, Script, CHAIN, LOG};
+use reader::script::{faulty_line, named_line, whole_script, Script, CHAIN, LOG};
 use std::collections::{BTreeMap, BTreeSet};
 use std::path::Path;
 
@@ -19,7 +19,7 @@ fn script_of_the_repository() {
 /// the log, and a million messages are no small script; nor 3 of Login and Answer, which is 12 there.
 #[test]
 fn every_answer_is_there() {
-    let (script, from) = whole_script();
+    let (script, [from, _]) = whole_script();
     let mut seen: BTreeMap<(&str, &str), usize> = BTreeMap::new();
     for (line, answer) in &script.calls[..from] {
         let call = line.split(' ').next().unwrap_or("");
@@ -44,6 +44,8 @@ fn every_answer_is_there() {
     assert_eq!(rows("ask"), [7, 8, 9, 10, 13, 18]);
     assert_eq!(rows("answer"), [1, 2, 4, 5, 6, 7, 8, 9, 10, 12, 13, 15, 16]);
     assert_eq!(rows("receive"), [1, 2, 3, 4, 5, 6, 7, 12, 13, 14, 15, 16, 17, 18]);
+    assert_eq!(rows("keep"), [31, 32]);
+    assert_eq!(rows("return"), [31, 33]);
     assert_eq!(rows("calendar"), [26, 27]);
     assert_eq!(rows("book"), [9]);
     assert_eq!(rows("take"), [7, 8, 9, 10, 22, 23, 24]);
@@ -63,6 +65,8 @@ fn every_answer_is_there() {
         ("receive", "again"),
         ("receive", "held"),
         ("receive", "message"),
+        ("keep", "kept"),
+        ("return", "returned"),
         ("state", "serving"),
         ("calendar", "set"),
         ("ask", "inside"),
@@ -122,16 +126,42 @@ struct SinceLogin {
     number: Option<u32>,
 }
 
+/// What a call of the receiving end came to, where it counts in demand 3: a message handed on with its number, a
+/// report, a keep and a return that were taken.
+#[derive(Clone)]
+enum Happened {
+    HandedOn(Flow, u32, Message),
+    Reported(Flow, u32),
+    Kept(String),
+    Returned(String),
+}
+
+/// What counts of a list (02, No. 13): of a list and a return, what counts of its part up to the last keep of that
+/// name, this one included; of a list and anything else, what counts of the list, and this.
+fn counts(all: &[Happened]) -> Vec<Happened> {
+    let Some((last, before)) = all.split_last() else { return vec![] };
+    if let Happened::Returned(name) = last {
+        let kept = before.iter().rposition(|one| matches!(one, Happened::Kept(of) if of == name));
+        return counts(&before[..=kept.expect("a return to a name that was kept")]);
+    }
+    [counts(before), vec![last.clone()]].concat()
+}
+
 #[derive(Default)]
 struct History {
     day: u32,
     published: BTreeMap<Flow, Vec<Message>>,
-    handed_on: BTreeMap<Flow, Vec<Message>>,
-    /// The last report of each series and day; the day of each series' last answer.
+    /// All that happened; and of what counts of it the messages with their numbers, and the last report of each series
+    /// and day.
+    happened: Vec<Happened>,
+    handed_on: BTreeMap<Flow, Vec<(u32, Message)>>,
     reports: BTreeMap<Flow, u32>,
+    /// The day of each series' last answer.
     answered: BTreeMap<u16, u32>,
-    /// What was printed: login packets, answers with their series, messages as packets.
+    /// What was printed: login packets, and those of them that are behind the last return, answers with their series,
+    /// messages as packets.
     logins: BTreeSet<Vec<u8>>,
+    asked: BTreeSet<Vec<u8>>,
     answers: BTreeSet<(u16, Vec<u8>)>,
     messages: Vec<Sent>,
     /// Which of the messages is unfinished, by series.
@@ -139,7 +169,8 @@ struct History {
     /// The packet received last, if no other call of the receiving end came since: messages and places that it may be of, in
     /// a run from the first packet on. None where it came by itself.
     run: Vec<(usize, usize)>,
-    /// By series, where no opening and no connection came since its last login.
+    /// By series, where no opening, no connection and no return came since its last login, which was asked for behind
+    /// the last return.
     logged_in: BTreeMap<u16, SinceLogin>,
     /// What happened, counted.
     seen: BTreeMap<String, usize>,
@@ -166,7 +197,12 @@ impl History {
                     self.note("publish within a message");
                 }
             }
-            ("ask", "asked") => _ = self.logins.insert(bytes(said[2])),
+            ("ask", "asked") => {
+                self.logins.insert(bytes(said[2]));
+                self.asked.insert(bytes(said[2]));
+            }
+            ("keep", "kept") => self.happened.push(Happened::Kept(words[1].to_string())),
+            ("return", "returned") => self.returned(words[1]),
             ("login", _) => {
                 assert!(self.logins.contains(&bytes(words[3])), "a login packet that was printed");
                 if said[0] == "login" {
@@ -175,6 +211,10 @@ impl History {
                     self.answers.insert((series(), answer.clone()));
                     let due = vec![Delivery::Answer(series(), answer)];
                     self.logged_in.insert(series(), SinceLogin { due, delivered: vec![], number: None });
+                    if !self.asked.contains(&bytes(words[3])) {
+                        self.logged_in.remove(&series());
+                        self.note("a login asked for before the last return");
+                    }
                 }
             }
             ("send", "sent") => {
@@ -209,19 +249,58 @@ impl History {
                 if said[0] == "answered" {
                     let day = message(&packet).mark.expect("a tag");
                     self.answered.insert(series(), day);
-                    self.reports.insert((series(), day), said[1].parse().unwrap());
+                    self.reported((series(), day), said[1].parse().unwrap());
                 }
             }
             ("receive", what) => self.receive(&bytes(words[1]), what, &said),
             ("ropen", "opened") | ("connect", _) => self.logged_in.clear(),
             _ => {}
         }
-        if ["ropen", "connect", "ask", "answer"].contains(&words[0]) {
+        if ["ropen", "connect", "ask", "answer", "keep", "return"].contains(&words[0]) {
             self.run.clear();
         }
         let said = if said[0] == "refused" { answer } else { said[0] };
         self.note(&format!("{} {said}", words[0]));
         self.agree();
+    }
+
+    /// The names that a line of `state` shows were kept before what follows.
+    fn kept_before(&mut self, state: &str) {
+        let names = state.lines().filter_map(|line| line.strip_prefix("place "));
+        self.happened.extend(names.map(|name| Happened::Kept(name.to_string())));
+    }
+
+    fn reported(&mut self, flow: Flow, last: u32) {
+        self.happened.push(Happened::Reported(flow, last));
+        self.reports.insert(flow, last);
+    }
+
+    /// A return: other messages and reports count, and nothing is owed but for a login asked for behind it.
+    fn returned(&mut self, name: &str) {
+        let before = (self.handed_on.values().map(Vec::len).sum::<usize>(), self.reports.len());
+        self.happened.push(Happened::Returned(name.to_string()));
+        self.handed_on.clear();
+        self.reports.clear();
+        for one in counts(&self.happened) {
+            match one {
+                Happened::HandedOn(flow, number, message) => {
+                    self.handed_on.entry(flow).or_default().push((number, message));
+                }
+                Happened::Reported(flow, last) => _ = self.reports.insert(flow, last),
+                Happened::Kept(_) | Happened::Returned(_) => {}
+            }
+        }
+        let now = (self.handed_on.values().map(Vec::len).sum::<usize>(), self.reports.len());
+        match now.0.cmp(&before.0) {
+            std::cmp::Ordering::Less => self.note("a return, and fewer messages count"),
+            std::cmp::Ordering::Equal => self.note("a return, and as many messages count"),
+            std::cmp::Ordering::Greater => self.note("a return, and more messages count"),
+        }
+        if now == (0, 0) && before.0 > 0 {
+            self.note("a return to before all that happened");
+        }
+        self.logged_in.clear();
+        self.asked.clear();
     }
 
     fn note(&mut self, what: &str) {
@@ -276,6 +355,9 @@ impl History {
             let published = self.published.get(&flow).map_or(0, Vec::len);
             assert_eq!(self.reports.get(&flow).copied().unwrap_or(0) as usize, published, "{flow:?} has all arrived");
             self.note("all arrived");
+            if self.happened.iter().any(|one| matches!(one, Happened::Returned(_))) {
+                self.note("all arrived behind a return");
+            }
         }
     }
 
@@ -300,12 +382,13 @@ impl History {
         let packet = message(packet);
         if ["again", "held", "message"].contains(&what) {
             let day = self.answered[&packet.series];
-            self.reports.insert((packet.series, day), said[1].parse().unwrap());
+            self.reported((packet.series, day), said[1].parse().unwrap());
         }
         if what == "message" {
-            let day = packet.mark.expect("a tag");
+            let flow = (packet.series, packet.mark.expect("a tag"));
             let one = (u32::from_str_radix(said[2], 16).unwrap(), bytes(said[3]));
-            self.handed_on.entry((packet.series, day)).or_default().push(one);
+            self.happened.push(Happened::HandedOn(flow, packet.number, one.clone()));
+            self.handed_on.entry(flow).or_default().push((packet.number, one));
             if packet.chain == b'L' {
                 match self.run.iter().map(|&(m, _)| self.messages[m].packets.len()).max() {
                     Some(packets) => self.note(&format!("message of {packets} packets")),
@@ -315,23 +398,30 @@ impl History {
         }
     }
 
-    /// What was handed on of each series and day is the first n published, n the last report.
+    /// What was handed on of each series and day is the first n published, n the last report, under the numbers 1 to n;
+    /// of what counts.
     fn agree(&self) {
         for flow in self.handed_on.keys().chain(self.reports.keys()) {
             let n = self.reports.get(flow).copied().unwrap_or(0) as usize;
             let handed_on = self.handed_on.get(flow).map_or(&[][..], |all| all);
             let published = self.published.get(flow).map_or(&[][..], |all| all);
-            assert!(published.get(..n) == Some(handed_on), "{flow:?}: {n} reported, {} handed on", handed_on.len());
+            let first = published.get(..n).map(|first| (1..).zip(first).map(|(i, one)| (i, one)));
+            let same = first.is_some_and(|first| first.eq(handed_on.iter().map(|(number, one)| (*number, one))));
+            assert!(same, "{flow:?}: {n} reported, {} handed on", handed_on.len());
         }
     }
 }
 
-fn check_line(calls: &[(String, String)]) -> History {
+/// All calls of a line. At the end all has arrived: of every day, or where there are returns of the last one.
+fn check_line(calls: &[(String, String)], returns: bool) -> History {
     let mut history = History::default();
+    if returns {
+        history.kept_before(&calls[0].1);
+    }
     for (line, answer) in calls {
         history.call(line, answer);
     }
-    for (flow, published) in &history.published {
+    for (flow, published) in history.published.iter().filter(|(flow, _)| !returns || flow.1 == history.day) {
         let n = history.reports.get(flow).copied().unwrap_or(0) as usize;
         assert_eq!(n, published.len(), "{flow:?} has all arrived");
     }
@@ -343,7 +433,7 @@ fn check_line(calls: &[(String, String)]) -> History {
 fn over_a_faulty_line() {
     let mut fresh = Script::new(LOG, CHAIN);
     faulty_line(&mut fresh, 0);
-    let history = check_line(&fresh.calls[1..]);
+    let history = check_line(&fresh.calls[1..], false);
     println!("{} calls\n{:#?}", fresh.calls.len(), history.seen);
     let flows: Vec<_> = history.published.iter().map(|(flow, all)| (flow, all.len())).collect();
     println!("{flows:?}");
@@ -387,9 +477,44 @@ fn over_a_faulty_line() {
     ] {
         assert!(history.seen.contains_key(what), "{what}");
     }
-    let (script, from) = whole_script();
-    let same = script.calls[from..].iter().filter(|(line, _)| line.starts_with("receive")).count();
+    let (script, [from, until]) = whole_script();
+    let same = script.calls[from..until].iter().filter(|(line, _)| line.starts_with("receive")).count();
     assert_eq!(same, fresh.calls.iter().filter(|(line, _)| line.starts_with("receive")).count());
+    check_line(&script.calls[from..until], false);
+}
+
+/// With keeps and returns: a fresh receiving end, and the calls behind the worked examples, which return to places that
+/// were kept there.
+#[test]
+fn over_a_faulty_line_with_returns() {
+    let mut fresh = Script::new(LOG, CHAIN);
+    named_line(&mut fresh, 0);
+    let first = fresh.calls.iter().position(|(line, _)| line == "state").unwrap();
+    assert_eq!(fresh.calls[1], ("keep BEFORE".to_string(), "kept".to_string()));
+    let alone = check_line(&fresh.calls[first..], true);
+    let (script, [_, from]) = whole_script();
     let until = script.calls.iter().position(|(line, _)| line.starts_with("sopen 4294967294 ")).unwrap();
-    check_line(&script.calls[from..until]);
+    let behind = check_line(&script.calls[from..until], true);
+    println!("{} calls, {} calls\n{:#?}\n{:#?}", fresh.calls.len(), until - from, alone.seen, behind.seen);
+    for what in [
+        "keep kept",
+        "keep refused 31",
+        "keep refused 32",
+        "return returned",
+        "return refused 31",
+        "return refused 33",
+        "a return, and fewer messages count",
+        "a return, and as many messages count",
+        "a return, and more messages count",
+        "a return to before all that happened",
+        "a login asked for before the last return",
+        "all arrived behind a return",
+        "receive refused 14",
+        "receive refused 17",
+        "message of 2 packets",
+        "message of single packets",
+    ] {
+        assert!(alone.seen.contains_key(what), "{what}, at a fresh end");
+        assert!(behind.seen.contains_key(what), "{what}, behind the worked examples");
+    }
 }

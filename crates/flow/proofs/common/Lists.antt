@@ -1,10 +1,10 @@
 -- All of a list; and what a list holds since then, and of one series. Assumes nothing.
-use Prim.Native.Nat.{ℕ, zero, suc}
+use Prim.Native.Nat.{ℕ, zero, suc, _≤_}
 use mathlib.Core.Path.{_≡_, refl, ap, _∙_}
 use mathlib.Core.List.{List, [], _∷_, _++_, append-assoc}
 use lib.Seq.{drop-append-seam, drop-length, drop-append-le}
 use mathlib.Core.Option.{Option, some, Option·none-ne-some}
-use lib.ListN.{getElem?, length, length-append}
+use lib.ListN.{getElem?, length, drop, length-append}
 use Rattle.flow.specs.World.{InSeries, inSeries}
 use Rattle.flow.specs.Agreement.{since, inThat}
 use Rattle.flow.proofs.common.Extends.{Extends}
@@ -29,6 +29,14 @@ module _ {A : Type 0} where
   every-at P [] i x h e = absurd (Option·none-ne-some x e)
   every-at P (y ∷ l) zero x h e = let q : y ≡ x = cc in rw q at (h .0)
   every-at P (y ∷ l) (suc i) x h e = every-at P l i x (h .1) e
+
+  -- From a place on.
+  pub every-from : (P : A → Type 0) (n : ℕ) (l : List A) (i : ℕ) (x : A) → Every P (drop n l) → n ≤ i
+      → getElem? l i ≡ some x → P x
+  every-from P zero l i x h k e = every-at P l i x h e
+  every-from P (suc n) [] i x h k e = absurd (Option·none-ne-some x e)
+  every-from P (suc n) (y ∷ l) zero x h k e = absurd (omega arith)
+  every-from P (suc n) (y ∷ l) (suc i) x h k e = every-from P n l i x h (omega arith) e
 
 -- ─── What a list holds behind another ───
 

@@ -6,13 +6,16 @@ use native.Mathlib.Omega.{arith}
 use mathlib.Core.Path.{_≡_, refl, sym, ap, _∙_}
 use mathlib.Core.List.{List, [], _∷_}
 use mathlib.Core.Bool.{Bool, true, false}
-use lib.ListN.{getElem?}
+use lib.ListN.{length, drop, getElem?, length-append}
+use lib.Seq.{drop-append-le}
 use Rattle.ftd.specs.declared.tags.TradeDate.the-variants.{At}
 use Rattle.flow.specs.declared.receiver.Receiver.{Receiver}
 use Rattle.flow.specs.Ends.{isOpen, keptOf, keptSeries, freshReceiver, dayOf, lastOf}
+use Rattle.flow.specs.Answers.{written, requestedSaid}
+use Rattle.flow.specs.Receiving.{requestLoginOf}
 use Rattle.flow.specs.World
 use Rattle.flow.specs.World.{Event, World, start, step, run}
-use Rattle.flow.proofs.common.Lists.{Every, every-append, every-map, every-at}
+use Rattle.flow.proofs.common.Lists.{Every, every-append, every-map, every-from}
 use Rattle.flow.proofs.packets.Requests.{request-end}
 use Rattle.flow.proofs.logins.Timely.{Reached, reached-onward, reached-here, Request}
 use Rattle.flow.proofs.source.Moves.{step-moves}
@@ -29,32 +32,36 @@ use Rattle.flow.proofs.logins.Start.{asked-request, request-onward, tak
 
 -- ─── The invariant ───
 
-pub record Timely (w : World) : Type 0 where
+-- Of the login packets on the line from place `from` on: all of them, while there is no return (02, No. 13).
+pub record Timely (from : ℕ) (w : World) : Type 0 where
   pub source : Source (w .serving)
   pub receiving : Consistent (w .receiving .end)
   -- The receiving end keeps no day above the serving end's.
   pub behind : (s : ℕ) → Upto (keptOf (w .receiving .end) s .date) (w .serving .day)
-  pub requests-ok : Every (Request (w .receiving .end)) (w .receiving .requests)
+  pub inside : from ≤ length (w .receiving .requests)
+  pub requests-ok : Every (Request (w .receiving .end)) (drop from (w .receiving .requests))
 
 -- ─── Kept by each event ───
 
 -- Of the world as a whole, so that it is known which world is meant.
-record Asked (v : World) : Type 0 where
-  all : Every (Request (v .receiving .end)) (v .receiving .requests)
+record Asked (from : ℕ) (v : World) : Type 0 where
+  within : from ≤ length (v .receiving .requests)
+  all : Every (Request (v .receiving .end)) (drop from (v .receiving .requests))
 
-module _ (w : World) (h : Timely w) where
+module _ {from : ℕ} (w : World) (h : Timely from w) where
   abbrev Then : Bool → World → Type 0
-  Then c v = Turned (w .serving .day) c (w .receiving .end) (v .receiving .end) → Asked v
+  Then c v = Turned (w .serving .day) c (w .receiving .end) (v .receiving .end) → Asked from v
 
   -- A call that asks for no login.
   on : (c : Bool) (v : World) → v .receiving .requests ≡ w .receiving .requests → Then c v
   on c v e t =
       record {
+        within = rw e (h .inside);
         all =
             rw e
             (every-map _ _
             (request-onward (w .serving .day) c (w .receiving .end) (h .receiving .eight) (v .receiving .end) _ _
-            (t .turn)) (w .receiving .requests) (h .requests-ok));
+            (t .turn)) (drop from (w .receiving .requests)) (h .requests-ok));
       }
 
   requests-step : (e : Event) → Then (isConnect e) (step w e)
@@ -68,10 +75,21 @@ module _ (w : World) (h : Timely w) where
   requests-step World.connect = on true _ refl
   requests-step (World.requestLogin s c out) = λ t.
       let r = w .receiving .end in
+      let l = w .receiving .requests in
       record {
+        within = omega (
+          arith,
+          h .inside,
+          length-append l (written (requestLoginOf r s c out .bytes)
+              (requestedSaid (requestLoginOf r s c out .answer))),
+        );
         all =
-            rw (request-end r s c out)
-            (every-append (Request r) (w .receiving .requests) _ (h .requests-ok)
+            rw (
+              request-end r s c out,
+              drop-append-le from l (written (requestLoginOf r s c out .bytes)
+                  (requestedSaid (requestLoginOf r s c out .answer))) (h .inside),
+            )
+            (every-append (Request r) (drop from l) _ (h .requests-ok)
             (asked-request r s c out (h .receiving .undated s)));
       }
   requests-step (World.confirmLogin i) =
@@ -82,7 +100,7 @@ module _ (w : World) (h : Timely w) where
 
   -- A call that the serving end does not see and that asks for no login.
   timely-turned : (c : Bool) (v : World) → v .serving ≡ w .serving → v .receiving .requests ≡ w .receiving .requests
-      → Turned (w .serving .day) c (w .receiving .end) (v .receiving .end) → Timely v
+      → Turned (w .serving .day) c (w .receiving .end) (v .receiving .end) → Timely from v
   timely-turned c v e q t =
       let o = w .serving .day in
       let r = w .receiving .end in
@@ -90,10 +108,11 @@ module _ (w : World) (h : Timely w) where
         source = rw e (h .source);
         receiving = turn-consistent o c r (h .receiving) (v .receiving .end) _ _ (t .turn);
         behind = rw e (turn-behind o c r (h .receiving) (h .behind) (v .receiving .end) _ _ (t .turn));
+        inside = on c v q t .within;
         requests-ok = on c v q t .all;
       }
 
-  pub timely-step : (e : Event) → Timely (step w e)
+  pub timely-step : (e : Event) → Timely from (step w e)
   timely-step e =
       let o = w .serving .day in
       let r = w .receiving .end in
@@ -106,42 +125,49 @@ module _ (w : World) (h : Timely w) where
             λ s. upto-along (keptOf (step w e .receiving .end) s .date) o (step w e .serving .day)
             (turn-behind o (isConnect e) r (h .receiving) (h .behind) (step w e .receiving .end) _ _ (t .turn) s)
             (day-rises (w .serving) (step w e .serving) m (h .source .served));
+        inside = requests-step e t .within;
         requests-ok = requests-step e t .all;
       }
 
-pub timely-line : {w v : World} → Timely w → LineStep w v → Timely v
-timely-line {w} h (calls e) = timely-step w h e
+pub timely-line : {from : ℕ} {w v : World} → Timely from w → LineStep w v → Timely from v
+timely-line {w = w} h (calls e) = timely-step w h e
 timely-line h rests = h
-timely-line {w} h (turns-answer i a q x) =
+timely-line {w = w} h (turns-answer i a q x) =
     timely-turned w h false _ refl refl (line-turn {w = w} (h .source .answers) (turns-answer i a q x))
-timely-line {w} h (turns-receive i j m p q f o b x) =
+timely-line {w = w} h (turns-receive i j m p q f o b x) =
     timely-turned w h false _ refl refl (line-turn {w = w} (h .source .answers) (turns-receive i j m p q f o b x))
 
-pub timely-steps : {w v : World} → Timely w → Steps w v → Timely v
+pub timely-steps : {from : ℕ} {w v : World} → Timely from w → Steps w v → Timely from v
 timely-steps h none = h
 timely-steps h (then l ls) = timely-steps (timely-line h l) ls
 
-pub timely-run : (w : World) → Timely w → (es : List Event) → Timely (run w es)
+pub timely-run : {from : ℕ} (w : World) → Timely from w → (es : List Event) → Timely from (run w es)
 timely-run w h [] = h
 timely-run w h (e ∷ es) = timely-run (step w e) (timely-step w h e) es
 
-pub timely-start : (log buffer : List ℕ) → Timely (start log buffer)
+pub timely-start : (log buffer : List ℕ) → Timely 0 (start log buffer)
 unfolding start freshReceiver keptOf keptSeries
 timely-start log buffer =
-    record { source = run-source log buffer []; receiving = fresh-consistent; behind = λ s. tt; requests-ok = tt }
+    record {
+      source = run-source log buffer [];
+      receiving = fresh-consistent;
+      behind = λ s. tt;
+      inside = omega arith;
+      requests-ok = tt;
+    }
 
 -- ─── A login that is taken ───
 
 -- On day d; it starts no later than the receiving end wants, in a series that is open there.
-module _ (u : World) (h : Timely u) (e : Event) (s d : ℕ) (a : List ℕ) (t : LoginTaken u e s a)
-    (day : step u e .serving .day ≡ At d) where
+module _ {from : ℕ} (u : World) (h : Timely from u) (e : Event) (s d : ℕ) (a : List ℕ) (t : LoginTaken u e s a)
+    (asked : from ≤ t .place) (day : step u e .serving .day ≡ At d) where
   pub login-day : u .serving .end .day .date ≡ At d
   login-day = h .source .served .same-day ∙ sym (ap (λ (w : World). w .serving .day) (t .effect)) ∙ day
 
   abbrev q : Request (u .receiving .end) (t .packet)
   q =
-      every-at (Request (u .receiving .end)) (u .receiving .requests) (t .place) (t .packet) (h .requests-ok)
-      (t .on-line)
+      every-from (Request (u .receiving .end)) from (u .receiving .requests) (t .place) (t .packet)
+      (h .requests-ok) asked (t .on-line)
 
   same-end : step u e .receiving .end ≡ u .receiving .end
   same-end = ap (λ (w : World). w .receiving .end) (t .effect)
@@ -161,7 +187,7 @@ module _ (u : World) (h : Timely u) (e : Event) (s d : ℕ) (a : List ℕ) (t : 
 -- ─── Over lists of events ───
 
 -- What is reached stays reached.
-pub reached-run : (s d k : ℕ) (w : World) → Timely w → (es : List Event)
+pub reached-run : {from : ℕ} (s d k : ℕ) (w : World) → Timely from w → (es : List Event)
     → Reached d k (dayOf (w .receiving .end) s) (lastOf (w .receiving .end) s)
     → Reached d k (dayOf (run w es .receiving .end) s) (lastOf (run w es .receiving .end) s)
 reached-run s d k w h [] r = r
@@ -174,11 +200,12 @@ reached-run s d k w h (e ∷ es) r =
     (step-turn w (h .source .answers) e .turn) s) r)
 
 -- At any later time at which the receiving end keeps the login's day, the start is at most last + 1.
-pub start-within : (u : World) → Timely u → (e : Event) (s d : ℕ) (a : List ℕ) (t : LoginTaken u e s a)
-    → step u e .serving .day ≡ At d → (fs : List Event)
+pub start-within : {from : ℕ} (u : World) → Timely from u
+    → (e : Event) (s d : ℕ) (a : List ℕ) (t : LoginTaken u e s a)
+    → from ≤ t .place → step u e .serving .day ≡ At d → (fs : List Event)
     → let w = run (step u e) fs in
     dayOf (w .receiving .end) s ≡ At d → startAt t ≤ lastOf (w .receiving .end) s + 1
-start-within u h e s d a t day fs q =
-    let r = reached-run s d (startAt t) (step u e) (timely-step u h e) fs (login-reached u h e s d a t day) in
+start-within u h e s d a t asked day fs q =
+    let r = reached-run s d (startAt t) (step u e) (timely-step u h e) fs (login-reached u h e s d a t asked day) in
     let n = reached-here d (startAt t) _ (lastOf (run (step u e) fs .receiving .end) s) q r in
     omega arith

@@ -111,7 +111,7 @@ module _ (s d n : ℕ) (content : List ℕ) (ans : Answering content) where
     pub delivered-is : v .receiving .delivered ≡ w .receiving .delivered ++ more
     pub keeps : (ys : List Delivery) → Due (more ++ ys) w → Due ys v
 
-  module _ (w : World) (h : Timely w) (day : w .serving .day ≡ At d) where
+  module _ {from : ℕ} (w : World) (h : Timely from w) (day : w .serving .day ≡ At d) where
     abbrev r : Receiver
     r = w .receiving .end
 
@@ -354,10 +354,10 @@ module _ (s d n : ℕ) (content : List ℕ) (ans : Answering content) where
 
 -- ─── What is delivered only grows; so do restarts; the buffer stays as large ───
 
-record Grows (w v : World) : Type 0 where
-  delivered : Extends (w .receiving .delivered) (v .receiving .delivered)
-  restarts : w .receiving .restarts ≤ v .receiving .restarts
-  size : length (v .receiving .buffer) ≡ length (w .receiving .buffer)
+pub record Grows (w v : World) : Type 0 where
+  pub delivered : Extends (w .receiving .delivered) (v .receiving .delivered)
+  pub restarts : w .receiving .restarts ≤ v .receiving .restarts
+  pub size : length (v .receiving .buffer) ≡ length (w .receiving .buffer)
 
 grows-same : (w v : World) → v .receiving .delivered ≡ w .receiving .delivered
     → w .receiving .restarts ≤ v .receiving .restarts
@@ -369,7 +369,7 @@ taken-grows : (b : Bool) (n : ℕ) → n ≤ cond b (suc n) n
 taken-grows true n = omega arith
 taken-grows false n = omega arith
 
-grows-step : (w : World) → Eight (w .receiving .end) → (e : Event) → Grows w (step w e)
+pub grows-step : (w : World) → Eight (w .receiving .end) → (e : Event) → Grows w (step w e)
 grows-step w h (World.openSender date ss rs) = grows-same w _ refl (omega arith) refl
 grows-step w h (World.publish t tid c) = grows-same w _ refl (omega arith) refl
 grows-step w h (World.login t i c out) =
@@ -394,16 +394,16 @@ grows-step w h (World.receive i j) =
       size = receive-length (w .receiving .end) h (w .receiving .buffer) p;
     }))
 
-grows-line : {w v : World} → Timely w → LineStep w v → Grows w v
-grows-line {w} h (calls e) = grows-step w (h .receiving .eight) e
-grows-line {w} h rests = grows-same w w refl (omega arith) refl
+grows-line : {from : ℕ} {w v : World} → Timely from w → LineStep w v → Grows w v
+grows-line {w = w} h (calls e) = grows-step w (h .receiving .eight) e
+grows-line {w = w} h rests = grows-same w w refl (omega arith) refl
 grows-line h (turns-answer i a q x) = record { delivered = (_, refl); restarts = omega arith; size = refl }
 grows-line h (turns-receive i j m p q f o b x) =
     record { delivered = (_, refl); restarts = omega arith; size = refl }
 
-grows-steps : {w v : World} → Timely w → Steps w v → Grows w v
-grows-steps {w} h none = grows-same w w refl (omega arith) refl
-grows-steps {w} {v} h (then {v = u} l ls) =
+grows-steps : {from : ℕ} {w v : World} → Timely from w → Steps w v → Grows w v
+grows-steps {w = w} h none = grows-same w w refl (omega arith) refl
+grows-steps {w = w} {v = v} h (then {v = u} l ls) =
     let a = grows-line h l in
     let b = grows-steps (timely-line h l) ls in
     let x = a .restarts in
@@ -416,19 +416,19 @@ grows-steps {w} {v} h (then {v = u} l ls) =
       size = b .size ∙ a .size;
     }
 
-parts-line : {w v : World} → Timely w → (s : ℕ) → isOpen (w .receiving .end) s ≡ true → LineStep w v
+parts-line : {from : ℕ} {w v : World} → Timely from w → (s : ℕ) → isOpen (w .receiving .end) s ≡ true → LineStep w v
     → allParts (v .receiving .end) ≡ allParts (w .receiving .end)
-parts-line {w} {v} h s o l =
+parts-line {w = w} {v = v} h s o l =
     turn-parts (w .serving .day) (isLink l) (w .receiving .end) (h .receiving .eight) (v .receiving .end) _ _
     (line-turn (h .source .answers) l .turn) s o
 
-open-line : {w v : World} → Timely w → (s : ℕ) → isOpen (w .receiving .end) s ≡ true → LineStep w v
+open-line : {from : ℕ} {w v : World} → Timely from w → (s : ℕ) → isOpen (w .receiving .end) s ≡ true → LineStep w v
     → isOpen (v .receiving .end) s ≡ true
-open-line {w} {v} h s o l =
+open-line {w = w} {v = v} h s o l =
     turn-open (w .serving .day) (isLink l) (w .receiving .end) (h .receiving .eight) (v .receiving .end) _ _
     (line-turn (h .source .answers) l .turn) s o
 
-parts-steps : {w v : World} → Timely w → (s : ℕ) → isOpen (w .receiving .end) s ≡ true → Steps w v
+parts-steps : {from : ℕ} {w v : World} → Timely from w → (s : ℕ) → isOpen (w .receiving .end) s ≡ true → Steps w v
     → allParts (v .receiving .end) ≡ allParts (w .receiving .end)
 parts-steps h s o none = refl
 parts-steps h s o (then l ls) = parts-steps (timely-line h l) s (open-line h s o l) ls ∙ parts-line h s o l
@@ -436,17 +436,17 @@ parts-steps h s o (then l ls) = parts-steps (timely-line h l) s (open-line h s o
 -- ─── Over a list of steps ───
 
 module _ (s d n : ℕ) (content : List ℕ) (ans : Answering content) where
-  pub due-run : {w v : World} (ls : Steps w v) → SparesAll s d ls → Timely w → w .serving .day ≡ At d
+  pub due-run : {from : ℕ} {w v : World} (ls : Steps w v) → SparesAll s d ls → Timely from w → w .serving .day ≡ At d
       → v .serving .openings ≡ w .serving .openings
       → v .receiving .restarts ≡ w .receiving .restarts
       → allParts (w .receiving .end) ≤ length (w .receiving .buffer)
       → Due s d n content ans (since (w .receiving .delivered) (v .receiving .delivered)) w
       → Ready (v .receiving .end) s d n
-  due-run {w} none spares h day c q room u =
+  due-run {w = w} none spares h day c q room u =
       due-none s d n content ans w
       (rw (since-is (w .receiving .delivered) (w .receiving .delivered) []
       (sym (append-nil (w .receiving .delivered)))) at u)
-  due-run {w} {v} (then {v = x} l ls) spares h day c q room u =
+  due-run {w = w} {v = v} (then {v = x} l ls) spares h day c q room u =
       let m = line-moves l in
       let c1 = openings-grow (w .serving) (x .serving) m in
       let c2 = openings-steps ls in
@@ -474,7 +474,7 @@ module _ (s d n : ℕ) (content : List ℕ) (ans : Answering content) where
       (t .keeps (since (x .receiving .delivered) (v .receiving .delivered)) u′)
 
   -- The room at the end is the room before.
-  pub room-back : {w v : World} → Timely w → isOpen (w .receiving .end) s ≡ true → Steps w v
+  pub room-back : {from : ℕ} {w v : World} → Timely from w → isOpen (w .receiving .end) s ≡ true → Steps w v
       → allParts (v .receiving .end) ≤ length (v .receiving .buffer)
       → allParts (w .receiving .end) ≤ length (w .receiving .buffer)
   room-back h o ls z =

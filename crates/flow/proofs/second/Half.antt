@@ -15,7 +15,7 @@ use Rattle.ftd.specs.declared.tags.TradeDate.the-variants.{At}
 use Rattle.flow.specs.Ends.{isOpen, keptOf}
 use Rattle.flow.specs.World.{inSeries, Event, World, start, step, run}
 use Rattle.flow.specs.Agreement.{publishedOn, handedOn, reported, since, CaughtUp}
-use Rattle.flow.proofs.logins.Taken.{no-append, answer-taken, startAt}
+use Rattle.flow.proofs.logins.Taken.{LoginTaken, no-append, answer-taken, startAt}
 use Rattle.flow.proofs.second.SentFrom.{sentIn}
 use Rattle.flow.proofs.second.SentSince.{login-sends, all-sent}
 use Rattle.flow.proofs.first.Half.{SafeWorld, start-safe, line-safe, steps-safe, run-safe, safe-agreed}
@@ -42,16 +42,17 @@ pub record AllThere (w : World) (s d : ℕ) : Type 0 where
   pub date : keptOf (w .receiving .end) s .date ≡ At d
   pub last : length (publishedOn w s d) ≤ keptOf (w .receiving .end) s .last
 
-pub caught-up : (u : World) (e : Event) {w : World} (fs : Steps (step u e) w) (s d : ℕ) (a out : List ℕ)
-    → SparesAll s d fs → Timely u → CaughtUp u (step u e) w s d a out → AllThere w s d
-caught-up u e {w} fs s d a out spares h c =
+pub caught-up : {from : ℕ} (u : World) (e : Event) {w : World} (fs : Steps (step u e) w) (s d : ℕ) (a out : List ℕ)
+    → SparesAll s d fs → Timely from u → ((t : LoginTaken u e s a) → from ≤ t .place)
+    → CaughtUp u (step u e) w s d a out → AllThere w s d
+caught-up u e {w} fs s d a out spares h asked c =
     let v = step u e in
     let t = answer-taken u e s a (c .login) in
     let served = h .source .served in
     let answering = tests-content (u .serving .end) s (t .header) _ _ (t .content) (t .out) (t .tests) in
     let is : a ≡ loginBytes (At d) (t .content) =
-    t .answer ∙ ap (λ (x : TradeDate). loginBytes x (t .content)) (login-day u h e s d a t (c .day)) in
-    let opens = login-opens u h e s d a t (c .day) in
+    t .answer ∙ ap (λ (x : TradeDate). loginBytes x (t .content)) (login-day u h e s d a t (asked t) (c .day)) in
+    let opens = login-opens u h e s d a t (asked t) (c .day) in
     let g = login-sends u served (h .source .unfinished) e s d a t (c .day) fs (c .no-opening) (c .last) in
     let all = all-sent u served (h .source .unfinished) e s d a t (c .day) fs (c .no-opening) (c .last) out (c .drained) in
     let sent = sentIn (v .serving) (w .serving) s in
@@ -61,7 +62,7 @@ caught-up u e {w} fs s d a out spares h c =
     let h′ = timely-step u h e in
     let room = room-back s d n (t .content) answering h′ opens fs (c .room) in
     let due : Due s d n (t .content) answering (since (v .receiving .delivered) (w .receiving .delivered)) v =
-    waiting (startAt t) sent opens (login-reached u h e s d a t (c .day)) numbered refl (rw is at (c .delivered)) in
+    waiting (startAt t) sent opens (login-reached u h e s d a t (asked t) (c .day)) numbered refl (rw is at (c .delivered)) in
     let ready =
     due-run s d n (t .content) answering fs spares h′ (c .day) (c .no-opening) (c .no-restart) room due in
     let reached = ready .reached in
@@ -70,7 +71,7 @@ caught-up u e {w} fs s d a out spares h c =
 -- ─── The second half ───
 
 -- With the first half, the serving end's count and what was reported: n is the published count.
-settled : (w : World) (s d : ℕ) → AllThere w s d → SafeWorld w → reported w s d ≡ length (publishedOn w s d)
+pub settled : (w : World) (s d : ℕ) → AllThere w s d → SafeWorld w → reported w s d ≡ length (publishedOn w s d)
 settled w s d x safe =
     let agreed = safe-agreed w s d safe in
     let current = rw (x .opens) at (safe .right .right s d .today) in
@@ -85,7 +86,7 @@ pub safe-run : (log buffer : List ℕ) (es : List Event) → SafeWorld (run (sta
 safe-run log buffer es = run-safe (start log buffer) (start-source log buffer) (start-safe log buffer) es
 
 -- Of a line: u before the login, v behind it, w at the end; what is due is spared.
-pub line-complete : {o u v w : World} → Timely o → SafeWorld o → Steps o u → LineStep u v → (fs : Steps v w)
+pub line-complete : {o u v w : World} → Timely 0 o → SafeWorld o → Steps o u → LineStep u v → (fs : Steps v w)
     → (s d : ℕ) (a out : List ℕ) → SparesAll s d fs → CaughtUp u v w s d a out
     → reported w s d ≡ length (publishedOn w s d)
 line-complete {u = u} {w = w} h safe es (calls e) fs s d a out spares c =
@@ -93,7 +94,7 @@ line-complete {u = u} {w = w} h safe es (calls e) fs s d a out spares c =
     let safe-u = steps-safe es (h .source) safe in
     let safe-v = line-safe (calls e) (hu .source .begun) safe-u in
     let hv = timely-step u hu e in
-    settled w s d (caught-up u e fs s d a out spares hu c) (steps-safe fs (hv .source) safe-v)
+    settled w s d (caught-up u e fs s d a out spares hu (λ t. omega arith) c) (steps-safe fs (hv .source) safe-v)
 line-complete {u = u} h safe es rests fs s d a out spares c =
     absurd (no-append (u .serving .answers) (inSeries s a) (c .login))
 line-complete {u = u} h safe es (turns-answer i x q y) fs s d a out spares c =

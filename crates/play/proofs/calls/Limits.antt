@@ -18,10 +18,11 @@ use Rattle.play.specs.declared.calls.Verb.the-variants.{State as NamesSt
 use Rattle.play.specs.declared.calls.Verb.the-variants.{Mark as NamesMark, Book as NamesBook, Take as NamesTake}
 use Rattle.play.specs.declared.calls.Verb.the-variants.{Level as NamesLevel, Mean as NamesMean, ReceiveAll as NamesReceiveAll}
 use Rattle.play.specs.declared.calls.Verb.the-variants.{PublishAll as NamesPublishAll, SendPacket as NamesSendPacket}
+use Rattle.play.specs.declared.calls.Verb.the-variants.{Keep as NamesKeep, Return as NamesReturn}
 use Rattle.play.specs.declared.calls.Call.{Call}
 use Rattle.play.specs.declared.calls.Call.the-variants.{Bad, OpenDay, Login, Send, OpenEnd, Connect}
 use Rattle.play.specs.declared.calls.Call.the-variants.{Ask, Receive, State, SetCalendar, StartBook, ShowLevel, ShowMean}
-use Rattle.play.specs.declared.calls.Call.the-variants.{ReceiveAll, PublishAll}
+use Rattle.play.specs.declared.calls.Call.the-variants.{ReceiveAll, PublishAll, Keep, Return}
 use Rattle.play.specs.Words.{endOf}
 use Rattle.play.specs.Calls.{verbOf, buffersWith, openDayWith, publishWith, loginCallWith, sendWith, openEndWith}
 use Rattle.play.specs.Calls.{askWith, answerWith, timeWith, calendarWith, markWith, plainCall, namedCall, callOf}
@@ -123,6 +124,8 @@ named-limited line NamesMean = plain-limited _ ShowMean tt
 named-limited line NamesReceiveAll = plain-limited _ ReceiveAll tt
 named-limited line NamesPublishAll = plain-limited _ PublishAll tt
 named-limited line NamesSendPacket = send-limited _ _ _ true
+named-limited line NamesKeep = plain-limited _ Keep tt
+named-limited line NamesReturn = plain-limited _ Return tt
 
 pub limited : (line : List ℕ) (c : Call) → c ≡ callOf line → Limited c
 unfolding callOf

@@ -16,9 +16,12 @@ use Rattle.play.specs.declared.calls.Verb.the-variants.{State as NamesSt
 use Rattle.play.specs.declared.calls.Verb.the-variants.{Mark as NamesMark, Book as NamesBook, Take as NamesTake}
 use Rattle.play.specs.declared.calls.Verb.the-variants.{Level as NamesLevel, Mean as NamesMean, ReceiveAll as NamesReceiveAll}
 use Rattle.play.specs.declared.calls.Verb.the-variants.{PublishAll as NamesPublishAll, SendPacket as NamesSendPacket}
+use Rattle.play.specs.declared.calls.Verb.the-variants.{Keep as NamesKeep, Return as NamesReturn}
 use Rattle.play.specs.declared.calls.Call.{Call}
-use Rattle.play.specs.declared.calls.Call.the-variants.{Bad, Connect, Receive, State, StartBook, ShowMean, ReceiveAll, PublishAll}
-use Rattle.play.specs.Words.{endOf, tidIn, sameWord, argument, hasForm, seriesCount, shareCount, wordCount}
+use Rattle.play.specs.declared.calls.Call.the-variants.{Bad, Connect, Receive, State, StartBook, ShowMean}
+use Rattle.play.specs.declared.calls.Call.the-variants.{ReceiveAll, PublishAll, Keep, Return}
+use Rattle.play.specs.Words.{endOf, tidIn, sameWord, argument, hasForm, hasName}
+use Rattle.play.specs.Words.{seriesCount, shareCount, wordCount}
 use Rattle.play.specs.Calls.{verbOf, buffersWith, openDayWith, publishWith, loginCallWith, sendWith, openEndWith}
 use Rattle.play.specs.Calls.{askWith, answerWith, timeWith, calendarWith, markWith, plainCall, numberAt}
 use Rattle.play.specs.Calls.{takeWith, levelWith, namedCall, callOf}
@@ -126,6 +129,12 @@ module _ (line : List ℕ) (v : Verb) (r : Call) where
 
     pub names-publish-all : r ≡ plainCall b PublishAll → v ≡ NamesPublishAll → b ≡ hasForm line 0 1 → r ≡ namedCall line v
     names-publish-all k e h = rw (e, ← h) k
+
+    pub names-keep : r ≡ plainCall b Keep → v ≡ NamesKeep → b ≡ hasName line → r ≡ namedCall line v
+    names-keep k e h = rw (e, ← h) k
+
+    pub names-return : r ≡ plainCall b Return → v ≡ NamesReturn → b ≡ hasName line → r ≡ namedCall line v
+    names-return k e h = rw (e, ← h) k
 
   pub line-is : (e : ℕ) → r ≡ namedCall line v → v ≡ verbOf (take e line) → e ≡ endOf line 0 → r ≡ callOf line
   unfolding callOf

@@ -17,16 +17,16 @@ use Rattle.play.specs.declared.calls.Call.{Call}
 use Rattle.play.specs.declared.calls.Call.the-variants.{Bad, Buffers, OpenDay, Publish, Login, Send, OpenEnd}
 use Rattle.play.specs.declared.calls.Call.the-variants.{Connect, Ask, Answer, Receive, State}
 use Rattle.play.specs.declared.calls.Call.the-variants.{SetCalendar, AskTime, MarkDate, ReceiveAll, PublishAll}
-use Rattle.play.specs.declared.calls.Call.the-variants.{StartBook, TakeMessage, ShowLevel, ShowMean}
+use Rattle.play.specs.declared.calls.Call.the-variants.{StartBook, TakeMessage, ShowLevel, ShowMean, Keep, Return}
 use Rattle.play.proofs.calls.Call.{the-type}
-use Rattle.play.specs.Words.{argument, saidBytes, seriesFrom, wordsFrom}
+use Rattle.play.specs.Words.{argument, saidBytes, seriesFrom, wordsFrom, nameIn}
 use Rattle.play.specs.Calls.{callOf}
 use Rattle.play.specs.Lines.{wordLine}
 use Rattle.play.specs.Played.{Turn, Shows, Plays, badLine, okLine, laidOut, countedPlayer, badTurn, layoutTurn}
 use Rattle.play.specs.Played.{readyTurn, startTurn, callTurn, lacksRoom, playTurn, PlaysOpenDay, ShowsOpenEnd}
 use Rattle.play.specs.Played.{ShowsConnect, ShowsAnswer, ShowsState, PlaysPublish, PlaysLogin, PlaysSend, PlaysAsk}
 use Rattle.play.specs.Played.{PlaysReceive, ShowsCalendar, ShowsTime, ShowsDate, ShowsStart, ShowsTake}
-use Rattle.play.specs.Played.{ShowsLevel, ShowsMean, PlaysReceiveAll, PlaysPublishAll}
+use Rattle.play.specs.Played.{ShowsLevel, ShowsMean, PlaysReceiveAll, PlaysPublishAll, ShowsKeep, ShowsReturn}
 
 -- A turn that is another.
 is-turn : {u t : Turn} {r : Played} {b a log chain : List ℕ} → t ≡ u → Plays u r b a log chain → Plays t r b a log chain
@@ -153,10 +153,18 @@ module _ (p : Player) (line log chain : List ℕ) (call : Call) (r : Played) (t 
       → Plays (readyTurn p line log chain call) r t t′ log′ chain
   ready-publish-all log′ e h = rw e (h .0, h .1, refl)
 
-  others : (c : Call) → OneOf (0 ∷ 2 ∷ 3 ∷ 4 ∷ 5 ∷ 6 ∷ 7 ∷ 8 ∷ 9 ∷ 10 ∷ 11 ∷ 12 ∷ 13 ∷ 14 ∷ 15 ∷ 16 ∷ 17 ∷ 18 ∷ 19 ∷ 20 ∷ []) (tagOf the-type c)
+  pub ready-keep : call ≡ Keep → ShowsKeep p (nameIn (argument line 0)) r t t′
+      → Plays (readyTurn p line log chain call) r t t′ log chain
+  ready-keep e h = rw e (h, refl, refl)
+
+  pub ready-return : call ≡ Return → ShowsReturn p (nameIn (argument line 0)) r t t′
+      → Plays (readyTurn p line log chain call) r t t′ log chain
+  ready-return e h = rw e (h, refl, refl)
+
+  others : (c : Call) → OneOf (0 ∷ 2 ∷ 3 ∷ 4 ∷ 5 ∷ 6 ∷ 7 ∷ 8 ∷ 9 ∷ 10 ∷ 11 ∷ 12 ∷ 13 ∷ 14 ∷ 15 ∷ 16 ∷ 17 ∷ 18 ∷ 19 ∷ 20 ∷ 21 ∷ 22 ∷ []) (tagOf the-type c)
       → startTurn p log chain c ≡ badTurn p log chain
   others Bad k = refl
-  others (Buffers n m) k = absurd (miss (0 ∷ 2 ∷ 3 ∷ 4 ∷ 5 ∷ 6 ∷ 7 ∷ 8 ∷ 9 ∷ 10 ∷ 11 ∷ 12 ∷ 13 ∷ 14 ∷ 15 ∷ 16 ∷ 17 ∷ 18 ∷ 19 ∷ 20 ∷ []) 1 tt k)
+  others (Buffers n m) k = absurd (miss (0 ∷ 2 ∷ 3 ∷ 4 ∷ 5 ∷ 6 ∷ 7 ∷ 8 ∷ 9 ∷ 10 ∷ 11 ∷ 12 ∷ 13 ∷ 14 ∷ 15 ∷ 16 ∷ 17 ∷ 18 ∷ 19 ∷ 20 ∷ 21 ∷ 22 ∷ []) 1 tt k)
   others (OpenDay date n) k = refl
   others (Publish s tid) k = refl
   others (Login s n) k = refl
@@ -176,8 +184,10 @@ module _ (p : Player) (line log chain : List ℕ) (call : Call) (r : Played) (t 
   others ShowMean k = refl
   others ReceiveAll k = refl
   others PublishAll k = refl
+  others Keep k = refl
+  others Return k = refl
 
-  pub start-other : OneOf (0 ∷ 2 ∷ 3 ∷ 4 ∷ 5 ∷ 6 ∷ 7 ∷ 8 ∷ 9 ∷ 10 ∷ 11 ∷ 12 ∷ 13 ∷ 14 ∷ 15 ∷ 16 ∷ 17 ∷ 18 ∷ 19 ∷ 20 ∷ []) (tagOf the-type call)
+  pub start-other : OneOf (0 ∷ 2 ∷ 3 ∷ 4 ∷ 5 ∷ 6 ∷ 7 ∷ 8 ∷ 9 ∷ 10 ∷ 11 ∷ 12 ∷ 13 ∷ 14 ∷ 15 ∷ 16 ∷ 17 ∷ 18 ∷ 19 ∷ 20 ∷ 21 ∷ 22 ∷ []) (tagOf the-type call)
       → Shows p (badLine (p .lines)) r t t′ → Plays (startTurn p log chain call) r t t′ log chain
   start-other k h = is-turn (others call k) (h, refl, refl)
 

@@ -37,6 +37,7 @@ module _ (p : Player) where
         chain = p .chain;
         sender = p .sender;
         receiver = p .receiver;
+        checkpoints = p .checkpoints;
         calendar = p .calendar;
         book = p .book;
       }) p .log ≡ p .log
@@ -54,6 +55,7 @@ module _ (p : Player) where
         chain = p .chain;
         sender = p .sender;
         receiver = p .receiver;
+        checkpoints = p .checkpoints;
         calendar = p .calendar;
         book = p .book;
       }) p .chain ≡ p .chain

@@ -13,7 +13,7 @@ use Rattle.listing.specs.Text.{WroteText, decimalOf}
 use Rattle.listing.proofs.Numbers.{digits-most}
 use Rattle.listing.proofs.Texts.{wrote-both, put-none}
 use Rattle.play.specs.Lines.{numbered, none}
-use Rattle.play.specs.State.{dateText, linesUpTo, shownPlaces, nextText, outWord, loginText, isIn, isOut}
+use Rattle.play.specs.State.{dateText, linesUpTo, nextText, outWord, loginText, isIn, isOut}
 use Rattle.play.specs.State.{heldText, chainText, noChain}
 
 -- A number of eight bytes has at most 20 digits.
@@ -68,6 +68,6 @@ pub lines-turn : {l o p : List ℕ} {at to end : ℕ} (f : ℕ → List ℕ) (i 
 unfolding linesUpTo
 lines-turn f i h a b = rw (add-one i) (wrote-both h a b)
 
-pub lines-over : {l o : List ℕ} {at to : ℕ} (f : ℕ → List ℕ) (i n m : ℕ) → n ≡ shownPlaces m → i ≤ n → n ≤ i
-    → WroteText l at (linesUpTo f i) o to → WroteText l at (linesUpTo f (shownPlaces m)) o to
+pub lines-over : {l o : List ℕ} {at to : ℕ} (f : ℕ → List ℕ) (i n m : ℕ) → n ≡ m → i ≤ n → n ≤ i
+    → WroteText l at (linesUpTo f i) o to → WroteText l at (linesUpTo f m) o to
 lines-over f i n m q h g a = let e : i ≡ n = omega arith in rw (← q, ← e) a

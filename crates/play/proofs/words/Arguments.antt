@@ -1,7 +1,7 @@
 -- The words behind the first one, over plain variables. Assumes nothing.
 use Prim.Native.Nat.{ℕ, zero, suc, _+_, _-_, _<_, _≤_}
 use mathlib.Core.Path.{_≡_, refl, sym, _∙_}
-use mathlib.Core.List.{List, [], _++_}
+use mathlib.Core.List.{List, [], _∷_, _++_}
 use mathlib.Core.Bool.{Bool, true, false, cond}
 use native.Mathlib.Nat.{add-sub-cancel-left}
 use native.Mathlib.Numerals.{add-one}
@@ -13,7 +13,7 @@ use lib.Dec.{eqb, ltb}
 use Rattle.play.specs.Words.{upToSpace, endOf, numberIn, saysBytes, nextEnd, endAt, argument, hasArguments}
 use Rattle.play.specs.Words.{allBytes, numbersBehind, numberCount, numberUpTo, listFrom}
 use Rattle.play.specs.Words.{mostNamed, seriesIn, reserveIn, saysShare, seriesAt, sharesBehind, shareCount, reserveAt}
-use Rattle.play.specs.Words.{wideNumber}
+use Rattle.play.specs.Words.{wideNumber, sameWord, hasName, nameIn}
 use Rattle.play.specs.declared.words.Wide.{Wide}
 use Rattle.play.specs.declared.words.Wide.the-variants.{Missing, Number}
 
@@ -52,6 +52,26 @@ module _ (line : List ℕ) (i a : ℕ) (p : a ≡ endAt line i) where
   pub count-is : eqb a (length line) ≡ hasArguments line i
   unfolding hasArguments
   count-is = rw (← p)
+
+-- ─── Names ───
+
+module _ (line : List ℕ) (b : Bool) (q : b ≡ hasArguments line 1) where
+  pub name-there : (w : List ℕ) → b ≡ true → w ≡ argument line 0 → ltb 0 (length w) ≡ hasName line
+  unfolding hasName
+  name-there w e f = rw (← q, e, f)
+
+  pub no-name : b ≡ false → false ≡ hasName line
+  unfolding hasName
+  no-name e = rw (← q, e)
+
+module _ (w : List ℕ) (b : Bool) (q : b ≡ sameWord w (45 ∷ [])) where
+  pub name-empty : b ≡ true → [] ≡ nameIn w
+  unfolding nameIn
+  name-empty e = rw (← q, e)
+
+  pub name-whole : b ≡ false → w ≡ nameIn w
+  unfolding nameIn
+  name-whole e = rw (← q, e)
 
 -- It is no longer than the line.
 pub argument-short : (line : List ℕ) (i : ℕ) → length (argument line i) ≤ length line

@@ -1,20 +1,24 @@
-//! The differential test of the two ends and of the box: `calls [CALLS [SEED [WHAT]]]`. Random lists of calls on both
-//! sides, the proved ends and the models; each difference is printed with the calls before it, and makes the run fail.
-//! Then streams for a bufferful, cut at every place. Then as many calls of lists for the box between an exchange and
-//! three seats' ends. WHAT is `ends` or `box` for one of them alone; with `wrong` the deliberately wrong boxes are
-//! tried instead of the library's, and each has to be found.
+//! The differential test of the two ends, of named places and of the box: `calls [CALLS [SEED [WHAT]]]`. Random lists
+//! of calls on both sides, the proved ends and the models; each difference is printed with the calls before it, and
+//! makes the run fail. Then streams for a bufferful, cut at every place. Then a quarter as many calls of lists with
+//! named places, and as many of lists for the box between an exchange and three seats' ends. WHAT is `ends`, `named` or
+//! `box` for one of them alone; with `wrong` deliberately wrong boxes, and wrong programs for named places, are tried
+//! instead of the library's, and each has to be found.
 
 use outside::boxes::stand_in::{StandIn, FAULTS};
 use outside::boxes::Side;
 use outside::calls::boxes::Boxes;
 use outside::calls::Lists;
+use outside::checkpoints;
 use outside::several::Cuts;
 use std::time::Instant;
 
 /// More differences than these aren't printed.
 const MOST: usize = 10;
-/// From so many calls on each answer of the box has to occur.
+/// From so many calls on each answer of the box and of named places has to occur.
 const ENOUGH: u64 = 1_000_000;
+/// Of so many calls of the ends one is spent on lists with named places.
+const SHARE: u64 = 4;
 
 /// The box that is tried: the library's, or without the feature `box` the model in its place.
 fn side() -> Box<dyn Side> {
@@ -22,6 +26,14 @@ fn side() -> Box<dyn Side> {
     return Box::new(outside::boxes::Library);
     #[cfg(not(feature = "box"))]
     Box::new(StandIn::default())
+}
+
+/// What answers for named places: the library, or without the feature `checkpoints` the definitions in its place.
+fn named_side() -> Box<dyn checkpoints::Side> {
+    #[cfg(feature = "checkpoints")]
+    return Box::new(checkpoints::Library);
+    #[cfg(not(feature = "checkpoints"))]
+    Box::new(checkpoints::stand_in::StandIn::default())
 }
 
 fn main() {
@@ -32,9 +44,13 @@ fn main() {
     let mut differences = 0;
     if what == "wrong" {
         differences += wrong_boxes(calls, seed);
+        differences += wrong_names(calls, seed);
     }
     if what.is_empty() || what == "ends" {
         differences += ends(calls, seed);
+    }
+    if what.is_empty() || what == "named" {
+        differences += named(calls, seed);
     }
     if what.is_empty() || what == "box" {
         differences += boxes(calls, seed);
@@ -97,6 +113,54 @@ fn ends(calls: u64, seed: u64) -> usize {
     differences
 }
 
+fn named(calls: u64, seed: u64) -> usize {
+    let mut lists = Lists::of_named(named_side());
+    let (mut count, mut differences) = (0, 0);
+    let start = Instant::now();
+    while lists.calls < calls / SHARE && differences < MOST {
+        count += 1;
+        if let Err(text) = lists.list(seed * 1_000_000_007 + count, 150) {
+            differences += 1;
+            println!("DIFFERENCE in {text}");
+        }
+    }
+    let seconds = start.elapsed().as_secs_f64();
+    let said = |call: &str, name: &str| -> u64 {
+        lists.answers.iter().filter(|(one, _)| one.0 == call && one.1 == name).map(|(_, n)| n).sum()
+    };
+    println!(
+        "named places, {}: {} calls in {count} lists, {} keeps and {} returns taken, {} and {} refused, {} answers and \
+         buffers compared, {} checks of demand 3 ({} that all has arrived), {:.1} s, {:.0} calls a second",
+        lists.named.as_ref().map_or(String::new(), |named| named.side.name()),
+        lists.calls,
+        said("Keep", "kept"),
+        said("Return", "returned"),
+        said("Keep", "refused"),
+        said("Return", "refused"),
+        lists.world.asked.0,
+        lists.demand,
+        lists.arrived,
+        seconds,
+        lists.calls as f64 / seconds
+    );
+    for ((call, name, row), n) in lists.answers.iter().filter(|(one, _)| one.0 == "Keep" || one.0 == "Return") {
+        match row {
+            0 => println!("  {call}: {name} {n}"),
+            _ => println!("  {call}: {name} {row} {n}"),
+        }
+    }
+    for (what, n) in &lists.cases {
+        println!("  {what} {n}");
+    }
+    if calls >= ENOUGH {
+        for what in lists.named_missing() {
+            differences += 1;
+            println!("MISSING: {what}");
+        }
+    }
+    differences
+}
+
 fn boxes(calls: u64, seed: u64) -> usize {
     let mut boxes = Boxes::new(side());
     let (mut count, mut differences) = (0, 0);
@@ -143,18 +207,57 @@ fn boxes(calls: u64, seed: u64) -> usize {
     differences
 }
 
+/// A difference, in short.
+fn found(calls: u64, text: &str) -> Option<String> {
+    let what = text.split(": ").skip(1).collect::<Vec<_>>().join(": ");
+    let line = what.lines().next().unwrap_or("");
+    Some(format!("call {calls}, {}", line.chars().take(100).collect::<String>()))
+}
+
 /// So many calls of a wrong box; the first difference.
 fn wrong_box(mut boxes: Boxes, calls: u64, seed: u64) -> Option<String> {
     let mut count = 0;
     while boxes.counts.calls < calls {
         count += 1;
         if let Err(text) = boxes.list(seed * 1_000_000_007 + count, 200) {
-            let what = text.split(": ").skip(1).collect::<Vec<_>>().join(": ");
-            let line = what.lines().next().unwrap_or("");
-            return Some(format!("call {}, {}", boxes.counts.calls, line.chars().take(100).collect::<String>()));
+            return found(boxes.counts.calls, &text);
         }
     }
     None
+}
+
+/// Likewise of lists with named places.
+fn wrong_name(mut lists: Lists, calls: u64, seed: u64) -> Option<String> {
+    let mut count = 0;
+    while lists.calls < calls {
+        count += 1;
+        if let Err(text) = lists.list(seed * 1_000_000_007 + count, 150) {
+            return found(lists.calls, &text);
+        }
+    }
+    None
+}
+
+/// Each wrong program for named places is found by comparison. Those that demand 3 shuts out are also found without it.
+fn wrong_names(calls: u64, seed: u64) -> usize {
+    let mut missed = 0;
+    for fault in checkpoints::stand_in::FAULTS {
+        for (how, comparing) in [("comparison", true), ("demand 3", false)] {
+            if !comparing && !fault.by_demand() {
+                continue;
+            }
+            let mut lists = Lists::of_named(Box::new(checkpoints::stand_in::StandIn { fault: Some(fault) }));
+            lists.named.as_mut().expect("named places").comparing = comparing;
+            match wrong_name(lists, calls, seed) {
+                Some(text) => println!("found: {fault:?} by {how}: {text}"),
+                None => {
+                    missed += 1;
+                    println!("MISSED: {fault:?} by {how}");
+                }
+            }
+        }
+    }
+    missed
 }
 
 /// Each wrong box is found by comparison. Those that the statements shut out are also found without it: by what holds

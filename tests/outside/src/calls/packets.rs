@@ -2,6 +2,7 @@
 //! serving end between; what the line then has of them; and logs that are altered between two packets.
 
 use super::{plain, room, Bytes, Kind, Lists, Transmission, MOST_OUTPUT, MOST_PACKET};
+use crate::effective::Happened;
 use crate::history::Delivery;
 use reader::generate::Random;
 use reader::packet::{fields, u16_at, u32_at, FIELD_HEADER};
@@ -30,6 +31,9 @@ impl Lists {
         if none && self.kind == Kind::Honest && self.history.none_left(series)? {
             self.demand += 1;
             self.arrived += 1;
+            if self.happened.iter().any(|one| matches!(one, Happened::Back(_))) {
+                self.case("all has arrived behind a return");
+            }
         }
         Ok(())
     }

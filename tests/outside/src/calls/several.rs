@@ -87,8 +87,10 @@ impl Lists {
         let Packet::Message(message) = read(packet) else { return Err("a message that is no packet".to_string()) };
         self.demand += 1;
         let bytes = if answer.origin == IN_PACKET { given } else { &self.world.buffers[0] };
-        let mark = message.mark.unwrap_or(0);
-        self.history.handed_on(message.series, mark, answer.tid, answer.content.of(bytes))?;
+        let (mark, content) = (message.mark.unwrap_or(0), answer.content.of(bytes).to_vec());
+        self.history.handed_on(message.series, mark, answer.tid, &content)?;
+        self.heard_message(&message, answer.tid, content);
+        self.heard_report(message.series, self.history.day_of(message.series), answer.last);
         self.history.reported(message.series, answer.last)
     }
 

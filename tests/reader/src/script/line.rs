@@ -33,6 +33,10 @@ const DAYS: [(u32, &[u16], &[usize]); 5] = [
     (71, &[1, 9, 3, 7], &[2, 6]),
 ];
 
+/// The days of the line with keeps and returns.
+const NAMED_DAYS: [(u32, &[u16], &[usize]); 4] =
+    [(0, &[1, 7, 3], &[3, 2, 2]), (5, &[9, 1], &[2, 4, 2]), (6, &[7, 3], &[3, 3, 2]), (70, &[3, 1, 9, 7], &[3, 2])];
+
 /// A content that takes so many packets: fields of 0 and of 4,069 bytes in turn, of which no two fit into one.
 fn long(packets: usize) -> Vec<u8> {
     (0..packets).flat_map(|i| plain(if i % 2 == 0 { 0 } else { 4069 })).collect()
@@ -52,33 +56,114 @@ fn late<T: Clone>(r: &mut Random, all: &[T]) -> Option<T> {
 /// Days from a first mark on, over one receiving end, which is opened if it isn't yet. At the end of each day all has
 /// arrived.
 pub fn faulty_line(s: &mut Script, first: u32) {
-    let mut r = Random::new(197);
-    let mut line = Line::default();
-    if s.receiving.open.is_empty() {
-        // Before the receiving end has its series, nothing arrives.
-        s.open_end(&[], "refused 11");
-        s.open_end(&SERIES, "opened");
-    }
-    for (mark, series, longs) in DAYS {
-        // Every second series has a reserve, of which it needs more or less.
-        let given: Vec<_> = series.iter().enumerate().map(|(i, &one)| (one, (i % 2 == 1).then_some(500))).collect();
-        s.open_shares(first + mark, &given, "opened");
-        line.unfinished.clear();
-        let mut longs = longs.to_vec();
-        for step in 0..220 {
-            if step % 60 == 40 {
-                if let Some(n) = longs.pop() {
-                    let one = series[r.below(series.len())];
-                    s.published(one, STRANGE, &long(n)).expect("room in the log");
-                }
-            }
-            a_step(s, &mut r, &mut line, series);
-        }
+    let (mut r, mut line) = (Random::new(197), Line::default());
+    open_end(s);
+    for day in DAYS {
+        let series = day.1;
+        a_day(s, &mut r, &mut line, first, day, |s, r, line| a_step(s, r, line, series));
         s.state();
         catch_up(s, &mut line, series);
         s.state();
         begin_anew(s, &mut line, series);
         line.old = line.messages.len();
+    }
+}
+
+fn open_end(s: &mut Script) {
+    if s.receiving.open.is_empty() {
+        // Before the receiving end has its series, nothing arrives.
+        s.open_end(&[], "refused 11");
+        s.open_end(&SERIES, "opened");
+    }
+}
+
+/// A day's opening and steps, with its long messages.
+fn a_day(
+    s: &mut Script,
+    r: &mut Random,
+    line: &mut Line,
+    first: u32,
+    (mark, series, longs): (u32, &[u16], &[usize]),
+    mut step: impl FnMut(&mut Script, &mut Random, &mut Line),
+) {
+    // Every second series has a reserve, of which it needs more or less.
+    let given: Vec<_> = series.iter().enumerate().map(|(i, &one)| (one, (i % 2 == 1).then_some(500))).collect();
+    s.open_shares(first + mark, &given, "opened");
+    line.unfinished.clear();
+    let mut longs = longs.to_vec();
+    for i in 0..220 {
+        if i % 60 == 40 {
+            if let Some(n) = longs.pop() {
+                let one = series[r.below(series.len())];
+                s.published(one, STRANGE, &long(n)).expect("room in the log");
+            }
+        }
+        step(s, r, line);
+    }
+}
+
+/// Likewise with keeps and returns (02, No. 13). Every name that is in use at first may be returned to and replaced; of
+/// a fresh end the first one is kept before the opening. At the end of each day all has arrived behind the last return.
+pub fn named_line(s: &mut Script, first: u32) {
+    let (mut r, mut line) = (Random::new(145), Line::default());
+    if s.receiving.open.is_empty() {
+        s.keep("BEFORE", "kept");
+    }
+    open_end(s);
+    s.state();
+    for day in NAMED_DAYS {
+        let series = day.1;
+        a_day(s, &mut r, &mut line, first, day, |s, r, line| {
+            if r.once_in(7) {
+                named_step(s, r, line);
+            } else {
+                a_step(s, r, line, series);
+            }
+        });
+        s.state();
+        go_back(s, &mut r);
+        catch_up(s, &mut line, series);
+        s.state();
+        begin_anew(s, &mut line, series);
+        line.old = line.messages.len();
+    }
+}
+
+/// The names of the named line; the last two are no names.
+const NAMES: [&str; 8] = ["BEFORE", "FIVE", "SEVEN", "ABCDEFGH", "FIFTH", "A", "-", "five"];
+
+fn keep(s: &mut Script, r: &mut Random) {
+    let used = s.checkpoints.places.len();
+    let name = if r.once_in(4) { NAMES[r.below(NAMES.len())] } else { NAMES[r.within(1, 3)] };
+    // Until four are in use, those first.
+    _ = s.kept(if used < 4 { NAMES[used] } else { name });
+}
+
+fn go_back(s: &mut Script, r: &mut Random) {
+    let any = if r.once_in(3) { NAMES.len() } else { s.checkpoints.places.len().max(1) };
+    _ = s.returned(NAMES[r.below(any)]);
+}
+
+/// A keep or a return; or one of them between two packets of a long message.
+fn named_step(s: &mut Script, r: &mut Random, line: &mut Line) {
+    match r.below(7) {
+        0..=2 => keep(s, r),
+        3..=4 => go_back(s, r),
+        _ => {
+            let long = |place: &usize| (2..=4).contains(&line.messages[*place].1.len());
+            let places: Vec<usize> = (line.old..line.messages.len()).filter(long).collect();
+            let Some(place) = late_place(r, places.len()) else { return keep(s, r) };
+            let packets = line.messages[places[place]].1.clone();
+            let at = r.within(1, packets.len() - 1);
+            for (i, packet) in packets.iter().enumerate() {
+                if i == at && r.once_in(3) {
+                    go_back(s, r);
+                } else if i == at {
+                    keep(s, r);
+                }
+                s.received(packet);
+            }
+        }
     }
 }
 

@@ -4,13 +4,13 @@ use mathlib.Core.Path.{refl}
 use mathlib.Core.List.{map}
 use borrow.Author.Needs.{needs}
 use Rattle.flow.proofs.series.Places.{unmapped}
-use Rattle.relay.proofs.Filled.{Filled, mapped-turn, mapped-end}
+use Rattle.flow.proofs.common.Filled.{Filled, mapped-turn, mapped-end}
 use Rattle.exports.specs.Boxes.{daySeriesFor, dayFor}
 use Rattle.exports.proofs.boxes.day_for.Statement.{statement}
 use Rattle.exports.proofs.boxes.day_for.Tie as tie
 
 abbrev Inv-loop : tie.InvT-loop
-Inv-loop s series₀ i₀ series i = (i ≤ 8) × Filled i (map daySeriesFor (s .series)) series
+Inv-loop s series₀ i₀ series i = (i ≤ 8) × Filled 8 i (map daySeriesFor (s .series)) series
 
 abbrev μ-loop : tie.MeasureT-loop
 μ-loop s series₀ i₀ series i = 8 - i
@@ -41,7 +41,7 @@ loop-again c =
     let l = c .before .before .loop in
     let s = c .before .before .before .args .t1 .series in (
       search needs,
-      mapped-turn daySeriesFor s (search (needs, unmapped)) (l .series) (l .i) _ (l .inv .1) (search needs),
+      mapped-turn 8 daySeriesFor s (search (needs, unmapped)) (l .series) (l .i) _ (l .inv .1) (search needs),
     )
 
 date-for-requires : tie.Need-date-for-requires Inv-loop μ-loop
@@ -54,7 +54,7 @@ returns c =
     let s = c .before .before .before .args .t1 .series in
     rw (
       c .date-for .ensures,
-      mapped-end daySeriesFor s (search (needs, unmapped)) (l .series) (l .i) (l .inv .1) (search needs),
+      mapped-end 8 daySeriesFor s (search (needs, unmapped)) (l .series) (l .i) (l .inv .1) (search needs),
     )
 
 pub day-for-spec : {M : Type 1} → statement M

@@ -4,13 +4,13 @@ use mathlib.Core.Path.{refl}
 use mathlib.Core.List.{map}
 use borrow.Author.Needs.{needs}
 use Rattle.flow.proofs.series.Places.{unmapped}
-use Rattle.relay.proofs.Filled.{Filled, mapped-turn, mapped-end}
+use Rattle.flow.proofs.common.Filled.{Filled, mapped-turn, mapped-end}
 use Rattle.exports.specs.Boxes.{daySeriesNumbers, dayNumbers}
 use Rattle.exports.proofs.boxes.day_numbers.Statement.{statement}
 use Rattle.exports.proofs.boxes.day_numbers.Tie as tie
 
 abbrev Inv-loop : tie.InvT-loop
-Inv-loop d own all₀ i₀ all i = (i ≤ 8) × Filled i (map daySeriesNumbers (d .series)) all
+Inv-loop d own all₀ i₀ all i = (i ≤ 8) × Filled 8 i (map daySeriesNumbers (d .series)) all
 
 abbrev μ-loop : tie.MeasureT-loop
 μ-loop d own all₀ i₀ all i = 8 - i
@@ -41,7 +41,7 @@ loop-again c =
     let l = c .before .before .loop in
     let s = c .before .before .before .args .t1 .series in (
       search needs,
-      mapped-turn daySeriesNumbers s (search (needs, unmapped)) (l .all) (l .i) _ (l .inv .1) (search needs),
+      mapped-turn 8 daySeriesNumbers s (search (needs, unmapped)) (l .all) (l .i) _ (l .inv .1) (search needs),
     )
 
 date-requires : tie.Need-date-requires Inv-loop μ-loop
@@ -58,7 +58,7 @@ returns c =
     rw (
       c .before .date .ensures,
       c .dated .ensures,
-      mapped-end daySeriesNumbers s (search (needs, unmapped)) (l .all) (l .i) (l .inv .1) (search needs),
+      mapped-end 8 daySeriesNumbers s (search (needs, unmapped)) (l .all) (l .i) (l .inv .1) (search needs),
     )
 
 pub day-numbers-spec : {M : Type 1} → statement M

@@ -5,13 +5,13 @@ use borrow.Author.Needs.{needs}
 use mathlib.Core.List.{map}
 use Rattle.flow.proofs.series.Places.{unmapped}
 use Rattle.exports.specs.Receiving.{keptFor, liveFor, receiverFor}
-use Rattle.relay.proofs.Filled.{Filled, mapped-turn, mapped-end}
+use Rattle.flow.proofs.common.Filled.{Filled, mapped-turn, mapped-end}
 use Rattle.exports.proofs.receiving.receiver_for.Statement.{statement}
 use Rattle.exports.proofs.receiving.receiver_for.Tie as tie
 
 abbrev Inv-loop : tie.InvT-loop
 Inv-loop s kept₀ live₀ i₀ kept live i =
-    (i ≤ 8) × Filled i (map keptFor (s .series)) kept × Filled i (map liveFor (s .series)) live
+    (i ≤ 8) × Filled 8 i (map keptFor (s .series)) kept × Filled 8 i (map liveFor (s .series)) live
 
 abbrev μ-loop : tie.MeasureT-loop
 μ-loop s kept₀ live₀ i₀ kept live i = 8 - i
@@ -52,8 +52,8 @@ loop-again c =
     let s = c .before .before .before .before .before .before .args .t1 .series in (
       search needs,
       rw (c .before .before .date-for .ensures)
-          (mapped-turn keptFor s (search (needs, unmapped)) (l .kept) (l .i) _ (l .inv .1) (search needs)),
-      mapped-turn liveFor s (search (needs, unmapped)) (l .live) (l .i) _ (l .inv .2) (search needs),
+          (mapped-turn 8 keptFor s (search (needs, unmapped)) (l .kept) (l .i) _ (l .inv .1) (search needs)),
+      mapped-turn 8 liveFor s (search (needs, unmapped)) (l .live) (l .i) _ (l .inv .2) (search needs),
     )
 
 returns : tie.Need-returns Inv-loop μ-loop
@@ -62,8 +62,8 @@ returns c =
     let l = c .before .loop in
     let s = c .before .before .args .t1 .series in
     rw (
-      mapped-end keptFor s (search (needs, unmapped)) (l .kept) (l .i) (l .inv .1) (search needs),
-      mapped-end liveFor s (search (needs, unmapped)) (l .live) (l .i) (l .inv .2) (search needs),
+      mapped-end 8 keptFor s (search (needs, unmapped)) (l .kept) (l .i) (l .inv .1) (search needs),
+      mapped-end 8 liveFor s (search (needs, unmapped)) (l .live) (l .i) (l .inv .2) (search needs),
     )
 
 pub receiver-for-spec : {M : Type 1} → statement M

@@ -5,13 +5,13 @@ use borrow.Author.Needs.{needs}
 use mathlib.Core.List.{map}
 use Rattle.flow.proofs.series.Places.{unmapped}
 use Rattle.exports.specs.Serving.{daySeriesFor, placeFor, senderFor}
-use Rattle.relay.proofs.Filled.{Filled, mapped-turn, mapped-end}
+use Rattle.flow.proofs.common.Filled.{Filled, mapped-turn, mapped-end}
 use Rattle.exports.proofs.serving.sender_for.Statement.{statement}
 use Rattle.exports.proofs.serving.sender_for.Tie as tie
 
 abbrev Inv-loop : tie.InvT-loop
 Inv-loop s series₀ places₀ i₀ series places i =
-    (i ≤ 8) × Filled i (map daySeriesFor (s .series)) series × Filled i (map placeFor (s .series)) places
+    (i ≤ 8) × Filled 8 i (map daySeriesFor (s .series)) series × Filled 8 i (map placeFor (s .series)) places
 
 abbrev μ-loop : tie.MeasureT-loop
 μ-loop s series₀ places₀ i₀ series places i = 8 - i
@@ -48,8 +48,8 @@ loop-again c =
     let l = c .before .before .before .loop in
     let s = c .before .before .before .before .args .t1 .series in (
       search needs,
-      mapped-turn daySeriesFor s (search (needs, unmapped)) (l .series) (l .i) _ (l .inv .1) (search needs),
-      mapped-turn placeFor s (search (needs, unmapped)) (l .places) (l .i) _ (l .inv .2) (search needs),
+      mapped-turn 8 daySeriesFor s (search (needs, unmapped)) (l .series) (l .i) _ (l .inv .1) (search needs),
+      mapped-turn 8 placeFor s (search (needs, unmapped)) (l .places) (l .i) _ (l .inv .2) (search needs),
     )
 
 date-for-requires : tie.Need-date-for-requires Inv-loop μ-loop
@@ -62,8 +62,8 @@ returns c =
     let s = c .before .before .before .args .t1 .series in
     rw (
       c .date-for .ensures,
-      mapped-end daySeriesFor s (search (needs, unmapped)) (l .series) (l .i) (l .inv .1) (search needs),
-      mapped-end placeFor s (search (needs, unmapped)) (l .places) (l .i) (l .inv .2) (search needs),
+      mapped-end 8 daySeriesFor s (search (needs, unmapped)) (l .series) (l .i) (l .inv .1) (search needs),
+      mapped-end 8 placeFor s (search (needs, unmapped)) (l .places) (l .i) (l .inv .2) (search needs),
     )
 
 pub sender-for-spec : {M : Type 1} → statement M

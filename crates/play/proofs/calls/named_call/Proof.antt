@@ -4,7 +4,7 @@ use Rattle.play.proofs.calls.Rows.{names-buffers, names-day, names-publ
 use Rattle.play.proofs.calls.Rows.{names-end, names-connect, names-ask, names-answer, names-receive}
 use Rattle.play.proofs.calls.Rows.{names-state, names-calendar, names-mark, names-none}
 use Rattle.play.proofs.calls.Rows.{names-book, names-take, names-level, names-mean}
-use Rattle.play.proofs.calls.Rows.{names-receive-all, names-publish-all, names-packet}
+use Rattle.play.proofs.calls.Rows.{names-receive-all, names-publish-all, names-packet, names-keep, names-return}
 use Rattle.play.proofs.calls.named_call.Statement.{statement}
 use Rattle.play.proofs.calls.named_call.Tie as tie
 
@@ -278,6 +278,24 @@ number-at-requires-17 c κs = search needs
 send-with-requires-2 : tie.Need-send-with-requires-2
 send-with-requires-2 c κs = search needs
 
+enum-told-22 : tie.Need-enum-told-22
+enum-told-22 c = search needs
+
+has-name-requires : tie.Need-has-name-requires
+has-name-requires c κs = search needs
+
+plain-call-requires-8 : tie.Need-plain-call-requires-8
+plain-call-requires-8 c κs = search needs
+
+enum-told-23 : tie.Need-enum-told-23
+enum-told-23 c = search needs
+
+has-name-requires-2 : tie.Need-has-name-requires-2
+has-name-requires-2 c κs = search needs
+
+plain-call-requires-9 : tie.Need-plain-call-requires-9
+plain-call-requires-9 c κs = search needs
+
 returns : tie.Need-returns
 returns c = search (needs, names-none)
 
@@ -340,6 +358,12 @@ returns-20 c = search (needs, names-publish-all)
 
 returns-21 : tie.Need-returns-21
 returns-21 c = search (needs, names-packet)
+
+returns-22 : tie.Need-returns-22
+returns-22 c = search (needs, names-keep)
+
+returns-23 : tie.Need-returns-23
+returns-23 c = search (needs, names-return)
 
 pub named-call-spec : {M : Type 1} → statement M
 named-call-spec =
@@ -435,6 +459,12 @@ named-call-spec =
     number-at-requires-16
     number-at-requires-17
     send-with-requires-2
+    enum-told-22
+    has-name-requires
+    plain-call-requires-8
+    enum-told-23
+    has-name-requires-2
+    plain-call-requires-9
     returns
     returns-2
     returns-3
@@ -455,4 +485,6 @@ named-call-spec =
     returns-18
     returns-19
     returns-20
-    returns-21)
+    returns-21
+    returns-22
+    returns-23)

@@ -13,7 +13,7 @@ is-word-requires c κs = search needs
 
 returns : tie.Need-returns
 unfolding severalVerbOf
-returns c = search (needs, found, passed)
+returns c = search (needs, found, passed) depth 9 fits 9000
 
 slice-aggregate-is-word-2 : tie.Need-slice-aggregate-is-word-2
 slice-aggregate-is-word-2 c = search needs
@@ -23,14 +23,34 @@ is-word-requires-2 c κs = search needs
 
 returns-2 : tie.Need-returns-2
 unfolding severalVerbOf
-returns-2 c = search (needs, found, passed)
+returns-2 c = search (needs, found, passed) depth 9 fits 9000
+
+slice-aggregate-is-word-3 : tie.Need-slice-aggregate-is-word-3
+slice-aggregate-is-word-3 c = search needs
+
+is-word-requires-3 : tie.Need-is-word-requires-3
+is-word-requires-3 c κs = search needs
+
+returns-3 : tie.Need-returns-3
+unfolding severalVerbOf
+returns-3 c = search (needs, found, passed) depth 9 fits 9000
+
+slice-aggregate-is-word-4 : tie.Need-slice-aggregate-is-word-4
+slice-aggregate-is-word-4 c = search needs
+
+is-word-requires-4 : tie.Need-is-word-requires-4
+is-word-requires-4 c κs = search needs
+
+returns-4 : tie.Need-returns-4
+unfolding severalVerbOf
+returns-4 c = search (needs, found, passed) depth 9 fits 9000
 
 book-verb-of-requires : tie.Need-book-verb-of-requires
 book-verb-of-requires c κs = search needs
 
-returns-3 : tie.Need-returns-3
+returns-5 : tie.Need-returns-5
 unfolding severalVerbOf
-returns-3 c = search (needs, found, passed)
+returns-5 c = search (needs, found, passed) depth 9 fits 9000
 
 pub several-verb-of-spec : {M : Type 1} → statement M
 several-verb-of-spec =
@@ -42,5 +62,11 @@ several-verb-of-spec =
     slice-aggregate-is-word-2
     is-word-requires-2
     returns-2
+    slice-aggregate-is-word-3
+    is-word-requires-3
+    returns-3
+    slice-aggregate-is-word-4
+    is-word-requires-4
+    returns-4
     book-verb-of-requires
-    returns-3)
+    returns-5)

@@ -4,14 +4,14 @@ use mathlib.Core.Path.{refl}
 use mathlib.Core.List.{map}
 use Rattle.flow.specs.declared.receiver.KeptSeries.{KeptSeries}
 use Rattle.flow.proofs.series.Places.{unmapped}
-use Rattle.relay.proofs.Filled.{Filled, mapped-turn, mapped-end}
+use Rattle.flow.proofs.common.Filled.{Filled, mapped-turn, mapped-end}
 use Rattle.relay.proofs.relay.series_names.Statement.{statement}
 use Rattle.relay.proofs.relay.series_names.Tie as tie
 use Rattle.relay.proofs.relay.series_names.Reads as reads
 use Rattle.relay.proofs.relay.series_names.Lts as lts
 
 abbrev Inv-loop : tie.InvT-loop
-Inv-loop kept all₀ i₀ all i = (i ≤ 8) × Filled i (map (λ (x : KeptSeries). x .series) (kept .series)) all
+Inv-loop kept all₀ i₀ all i = (i ≤ 8) × Filled 8 i (map (λ (x : KeptSeries). x .series) (kept .series)) all
 
 abbrev μ-loop : tie.MeasureT-loop
 μ-loop kept all₀ i₀ all i = 8 - i
@@ -49,7 +49,7 @@ loop-again : tie.Need-loop-again Inv-loop μ-loop
 loop-again c =
     let l = c .before .before .loop in
     let s = c .before .before .before .before .args .e .kept .series in
-    (search needs, mapped-turn (λ (x : KeptSeries). x .series) s (search (needs, unmapped)) (l .all) (l .i) _ (l .inv .1) (search needs))
+    (search needs, mapped-turn 8 (λ (x : KeptSeries). x .series) s (search (needs, unmapped)) (l .all) (l .i) _ (l .inv .1) (search needs))
 
 -- src/relay.rt:98:1
 returns : tie.Need-returns Inv-loop μ-loop

@@ -5,8 +5,8 @@ use Rattle.play.specs.Played.{countedPlayer}
 use Rattle.play.proofs.player.Player.counted.Statement.{statement}
 use Rattle.play.proofs.player.Player.counted.Tie as tie
 
-add-t7 : tie.Need-add-t7
-add-t7 c = search needs
+add-t8 : tie.Need-add-t8
+add-t8 c = search needs
 
 returns : tie.Need-returns
 unfolding countedPlayer
@@ -17,4 +17,4 @@ unfolding countedPlayer
 returns-2 c = search tests
 
 pub counted-spec : {M : Type 1} → statement M
-counted-spec = tie.close (tie.spec add-t7 returns returns-2)
+counted-spec = tie.close (tie.spec add-t8 returns returns-2)

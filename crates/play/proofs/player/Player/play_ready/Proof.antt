@@ -6,7 +6,7 @@ use Rattle.play.proofs.player.Plays.{ready-bad, ready-buffers, ready-da
 use Rattle.play.proofs.player.Plays.{ready-send, ready-end, ready-connect, ready-ask, ready-answer}
 use Rattle.play.proofs.player.Plays.{ready-receive, ready-state, ready-calendar, ready-time, ready-date}
 use Rattle.play.proofs.player.Plays.{ready-book, ready-take, ready-level, ready-mean}
-use Rattle.play.proofs.player.Plays.{ready-receive-all, ready-publish-all}
+use Rattle.play.proofs.player.Plays.{ready-receive-all, ready-publish-all, ready-keep, ready-return}
 use Rattle.play.proofs.player.Player.play_ready.Statement.{statement}
 use Rattle.play.proofs.player.Player.play_ready.Tie as tie
 
@@ -135,6 +135,18 @@ enum-told-9 c = search needs
 
 play-publish-all-requires : tie.Need-play-publish-all-requires
 play-publish-all-requires c κs = search needs
+
+enum-told-10 : tie.Need-enum-told-10
+enum-told-10 c = search needs
+
+play-keep-requires : tie.Need-play-keep-requires
+play-keep-requires c κs = search needs
+
+enum-told-11 : tie.Need-enum-told-11
+enum-told-11 c = search needs
+
+play-return-requires : tie.Need-play-return-requires
+play-return-requires c κs = search needs
 
 same-length : tie.Need-same-length
 same-length c = search needs
@@ -316,6 +328,18 @@ same-length-39 c = search needs
 returns-21 : tie.Need-returns-21
 returns-21 c = search (needs, ready-publish-all)
 
+same-length-40 : tie.Need-same-length-40
+same-length-40 c = search needs
+
+returns-22 : tie.Need-returns-22
+returns-22 c = search (needs, ready-keep)
+
+same-length-41 : tie.Need-same-length-41
+same-length-41 c = search needs
+
+returns-23 : tie.Need-returns-23
+returns-23 c = search (needs, ready-return)
+
 pub play-ready-spec : {M : Type 1} → statement M
 play-ready-spec =
     tie.close
@@ -362,6 +386,10 @@ play-ready-spec =
     play-receive-all-requires
     enum-told-9
     play-publish-all-requires
+    enum-told-10
+    play-keep-requires
+    enum-told-11
+    play-return-requires
     same-length
     returns
     same-length-2
@@ -421,4 +449,8 @@ play-ready-spec =
     same-length-37
     same-length-38
     same-length-39
-    returns-21)
+    returns-21
+    same-length-40
+    returns-22
+    same-length-41
+    returns-23)

@@ -1,0 +1,2 @@
+-- The laws of checkpoints as numbers.
+pub mod Laws

@@ -1,0 +1,10 @@
+-- The worked rows of checkpoints, computed. Assumes nothing.
+use Rattle.flow.specs.Checkpoints.{wrongName, freshCheckpoints, usedNames, isUsed, checkpointOf, withCheckpoint}
+use Rattle.flow.specs.Checkpoints.{keepOf, restored, restoreOf}
+use Rattle.flow.specs.CheckpointRows.{fourKept, checkpointRows, CheckpointRows}
+use Rattle.flow.proofs.bench.Opened.{opened}
+
+pub checkpoint-rows : CheckpointRows
+unfolding opened wrongName freshCheckpoints usedNames isUsed checkpointOf withCheckpoint keepOf restored restoreOf
+    fourKept checkpointRows
+checkpoint-rows = tt

@@ -1,0 +1,2 @@
+-- The laws of the named places' calls.
+pub mod Shown
