@@ -1,6 +1,6 @@
 # The library for C and C++, the examples and their tests. What is proved and tried in all: .ci/run.
 #   make lib        proves and builds the library, where it is not there or a source is newer: target/lib/libftd.a (needs the Rattle kit, rt)
-#   make example    builds the examples with it: target/example/driver, target/example/frames
+#   make example    builds the examples with it: target/example/driver, target/example/frames, target/example/standby
 #   make check-c    builds the header's test and the examples with each compiler that is there, and runs them
 # LIB=.. names another library, which is then taken as it is.
 
@@ -23,6 +23,7 @@ example: $(LIB)
 	mkdir -p target/example
 	$(CC) $(CFLAGS) -Iinclude examples/driver.c $(LIB) -o target/example/driver
 	$(CC) $(CFLAGS) -Iinclude examples/frames.c $(LIB) -o target/example/frames
+	$(CC) $(CFLAGS) -Iinclude examples/standby.c $(LIB) -o target/example/standby
 
 check-c: $(LIB)
 	sh tests/c/run.sh $(LIB)

@@ -578,6 +578,22 @@ struct ftd_box_sent_packet {
     uint8_t last; /* message: 1 where the packet is its last one, and the seat has stepped on */
 };
 
+/* ---- The order of two serving ends ---- */
+
+enum ftd_order_answer {
+    FTD_ORDER_SAME = 0,         /* the same messages, none among them too */
+    FTD_ORDER_FIRST_START = 1,  /* the first has fewer, and those are the second's first ones */
+    FTD_ORDER_SECOND_START = 2, /* the second has fewer, and those are the first's first ones */
+    FTD_ORDER_DIFFER = 3,       /* both have a message of a number, and these have another TID or content */
+    FTD_ORDER_REFUSED = 4
+};
+
+struct ftd_order {
+    uint32_t number; /* differ: the first such number */
+    uint8_t answer;  /* enum ftd_order_answer */
+    uint8_t refusal;
+};
+
 /* ---- The trading calendar: state and answers ---- */
 
 /* A session is three numbers: its first second of the day, its last, and 0, or any other number where it is late. It
@@ -1023,6 +1039,21 @@ struct ftd_box_sent ftd_box_send(struct ftd_box box, size_t seat, uint16_t serie
  * Refusals: 25, 13, 14, then FTD_SEND_NONE where nothing is left, 20, 18. */
 struct ftd_box_sent_packet ftd_box_send_packet(struct ftd_box box, size_t seat, uint16_t series, uint64_t *places,
                                                const uint8_t *log, size_t log_len, uint8_t *output, size_t room);
+
+/* ---- The order of two serving ends ---- */
+
+/* What two ends have published in a series, each read off its own log, is put in order: so that a standby takes the
+ * fuller one. Nothing is changed; seats, logins and reserves play no part. Each log is read up to the series' last
+ * message, and only where there is one.
+ * Refusals: 13 (unless open at both), 15 (other trade dates), 20 (ftd_send of the last message would find damage). */
+struct ftd_order ftd_order(struct ftd_sender first, const uint8_t *log, size_t log_len,
+                           struct ftd_sender second, const uint8_t *other, size_t other_len, uint16_t series);
+
+/* The same of two boxes by the days open below, and of a box and a serving end. */
+struct ftd_order ftd_box_order(struct ftd_box first, const uint8_t *log, size_t log_len,
+                               struct ftd_box second, const uint8_t *other, size_t other_len, uint16_t series);
+struct ftd_order ftd_box_order_with(struct ftd_box first, const uint8_t *log, size_t log_len,
+                                    struct ftd_sender second, const uint8_t *other, size_t other_len, uint16_t series);
 
 /* ---- The trading calendar ---- */
 

@@ -1,7 +1,7 @@
 #!/usr/bin/env bash
 # Deliberate faults, each in a copy of one side: the differential tests must find every one of them.
-#   tests/faults.sh          faults of the reader and of the models of the ends, of named places and of the box, and one
-#                            of the library's exported functions
+#   tests/faults.sh          faults of the reader and of the models of the ends, of named places, of the order of two
+#                            ends and of the box, and one of the library's exported functions
 #   tests/faults.sh --long   also ends that clause c shuts out, and one of the library's tables: the crates are proved anew for each
 # A fault of the library is one of its definitions and its code together, so that it is proved and built: the kind that no proof finds.
 # Needs what tests/run.sh has built.
@@ -29,14 +29,15 @@ fresh_reader() {
     done
 }
 
-# Builds the copies with the library of a folder, and expects differences: of the reader's side, or in lists of calls (calls).
-expect() { # WHAT LIBRARY [PROGRAM]
+# Builds the copies with the library of a folder, and expects differences: of the reader's side, or in lists of calls
+# (calls), all or those of one kind.
+expect() { # WHAT LIBRARY [PROGRAM [KIND]]
     if ! (cd "$work/tests/outside" && FTD_LIBRARY=$2 CARGO_TARGET_DIR=$work/cargo CARGO_PROFILE_RELEASE_LTO=off \
         cargo build --release --offline --quiet); then
         echo "$1: the copy doesn't build"
         exit 1
     fi
-    if "$work/cargo/release/${3:-differ}" 100000 1 >"$work/out" 2>&1; then
+    if "$work/cargo/release/${3:-differ}" 100000 1 ${4:-} >"$work/out" 2>&1; then
         echo "MISSED: $1"
         missed=$((missed + 1))
     elif grep -q '^DIFFERENCE' "$work/out"; then
@@ -174,6 +175,39 @@ fresh_reader
 change "$named" '.copied().unwrap_or_default();' '.copied().unwrap_or(Position { series: one.series, mark: one.mark, last: one.last });'
 expect "what was kept before the opening brings nothing back" "$root/target/lib" calls
 
+# With the library's calls, or without the feature `order` with the definitions in their place.
+echo "- the model of the order of two ends"
+order=$work/tests/reader/src/order.rs
+serving=$work/tests/reader/src/serving.rs
+fresh_reader
+change "$order" 'position(|(one, two)| one != two)' 'position(|(one, two)| one.1 != two.1)'
+expect "TIDs aren't compared" "$root/target/lib" calls
+fresh_reader
+change "$order" 'before as u32 + 1' 'before as u32'
+expect "the number that differs is counted from 0" "$root/target/lib" calls
+fresh_reader
+change "$order" 'if one.mark != two.mark {' 'if false {'
+expect "the order doesn't compare marks" "$root/target/lib" calls
+fresh_reader
+change "$serving" '|one| all.push(one))?;
+            all.push(last);' '|one| all.push(one));
+            all.extend(last);'
+expect "damage ends a list, a log cut short too, and isn't refused" "$root/target/lib" calls
+fresh_reader
+change "$serving" 'if published > 0 {
+' 'if published > 0 {
+            for one in self.open.iter().filter(|one| one.published > 0) {
+                self.entry(log, one.series, one.published.into())?;
+            }
+'
+expect "damage behind the last entry counts" "$root/target/lib" calls
+fresh_reader
+change "$serving" 'if published > 0 {
+' 'log.get(..self.used)?;
+        if published > 0 {
+'
+expect "with nothing published a log cut short is damage" "$root/target/lib" calls
+
 # Where the library has the box. (The wrong boxes of `calls .. wrong` are tried with and without it.)
 if grep -q '^default = .*"box"' "$root/tests/outside/Cargo.toml"; then
     echo "- the model of the box"
@@ -210,6 +244,19 @@ if grep -q '^default = .*"box"' "$root/tests/outside/Cargo.toml"; then
     change "$relay" 'SEATS: usize = 16' 'SEATS: usize = 15'
     change "$work/tests/outside/src/boxes.rs" 'PLACES: usize = SEATS *' 'PLACES: usize = 16 *'
     expect "seat 15 is refused" "$root/target/lib" calls
+    echo "- the model of the box, in a row"
+    fresh_reader
+    change "$relay" '|(mark, day)| mark < day)' '|(mark, day)| mark > day)'
+    expect "in a row a message of an older series is published in the new day" "$root/target/lib" calls row
+    fresh_reader
+    change "$relay" 'day.is_none_or(|day| mark > day)' 'day.is_none()'
+    expect "in a row the first day alone is opened below" "$root/target/lib" calls row
+    fresh_reader
+    change "$relay" 'self.seats.get_mut(seat)' 'self.seats.get_mut(if seat < SEATS { seat / 2 } else { seat })'
+    expect "in a row two seats in one place" "$root/target/lib" calls row
+    fresh_reader
+    change "$relay" 'self.below.publish(piece.series, piece.tid, &message, log)?;' 'self.below.publish(piece.series, piece.tid, piece.content, log)?;'
+    expect "in a row a long message is published by its last piece" "$root/target/lib" calls row
 fi
 
 # A copy of the repository's library with one thing changed in code and definition, proved and built.

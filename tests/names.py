@@ -105,8 +105,8 @@ for total, rows in tables:
             wrong.append(f"docs/GUIDE.md: lines of {names}: {found}, not {said[:len(found)]}")
     if numbers(total) != [there]:
         wrong.append(f"docs/GUIDE.md: {there} lines in all, not {total}")
-if len(tables) != 3:
-    wrong.append("docs/GUIDE.md: the three tables of lines to be believed are not where they were")
+if len(tables) != 4:
+    wrong.append("docs/GUIDE.md: the four tables of lines to be believed are not where they were")
 script = (root / "crates/ftdplay/stdin").read_text().count("\n")
 if numbers(re.search(r"Its stdin, ([\d,]+) lines", guide).group(1)) != [script]:
     wrong.append(f"docs/GUIDE.md: the player's script has {script} lines")

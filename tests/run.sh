@@ -1,9 +1,9 @@
 #!/usr/bin/env bash
 # The outside tests: builds the static library, the lister and the Rust side,
 # compares the proved library with the independent reader on generated inputs and captures, and the two ends, named
-# places and the box with their models on random lists of calls; the reader's frames with QuickFIX where that is
-# installed; shows that deliberate faults, wrong boxes and wrong programs for named places are found, and times both
-# sides.
+# places, the box, three boxes in a row and the order of two ends with their models on random lists of calls; the
+# reader's frames with QuickFIX where that is installed; shows that deliberate faults, wrong boxes and wrong programs
+# for named places and for the order are found, and times both sides.
 # Any failure makes it fail.
 #   tests/run.sh           all of it, some minutes on top of the proofs
 #   tests/run.sh --quick   the comparison alone, on a million inputs and calls: a minute or so where the crates are proved already

@@ -69,6 +69,8 @@ static void sizes(void) {
     EXPECT(sizeof(struct ftd_box_opened) == 552 && sizeof(struct ftd_box_confirmed) == 552);
     EXPECT(sizeof(struct ftd_box_received) == 576 && sizeof(struct ftd_box_received_several) == 592);
     EXPECT(sizeof(struct ftd_box_sent) == 16 && sizeof(struct ftd_box_sent_packet) == 16);
+    EXPECT(sizeof(struct ftd_order) == 8 && offsetof(struct ftd_order, number) == 0);
+    EXPECT(offsetof(struct ftd_order, answer) == 4 && offsetof(struct ftd_order, refusal) == 5);
     EXPECT(sizeof(struct ftd_calendar) == 224);
     EXPECT(sizeof(struct ftd_calendar_step) == 228);
     EXPECT(sizeof(struct ftd_trade_time) == 8);
@@ -1263,6 +1265,145 @@ static void box_seats(void) {
     EXPECT(others == 0);
 }
 
+/* ---- The order of two serving ends ---- */
+
+static uint8_t one_log[100], two_log[100];
+static size_t one_len = sizeof one_log, two_len = sizeof two_log;
+
+enum { ORDER_ENTRY = FTD_LOG_HEAD + 7 }; /* bytes of a message here */
+
+/* An end at a trade date, both series opened, that has published these letters: small ones in series 7, others in 3. */
+static struct ftd_sender lettered(uint32_t date, const char *letters, uint8_t *log, size_t log_len) {
+    struct ftd_sender end = day_open(ftd_sender_fresh(), date, 2, 0, 0).end;
+    uint8_t content[7] = {0, 0, 0x77, 0x77, 0, 1, 0};
+
+    for (; *letters; letters++) {
+        struct ftd_published step;
+
+        content[6] = (uint8_t)*letters;
+        step = ftd_publish(end, *letters >= 'a' ? 7 : 3, 0x7777, content, sizeof content, log, log_len);
+        EXPECT(step.refusal == 0);
+        end = step.end;
+    }
+    return end;
+}
+
+static struct ftd_sender one_end(const char *letters) { return lettered(5, letters, one_log, sizeof one_log); }
+
+static struct ftd_sender two_end(const char *letters) { return lettered(5, letters, two_log, sizeof two_log); }
+
+/* The order of both in a series, and with the ends exchanged. */
+static int in_order(struct ftd_sender one, struct ftd_sender two, uint16_t of, uint8_t said, uint32_t number) {
+    struct ftd_order given = ftd_order(one, one_log, one_len, two, two_log, two_len, of);
+    struct ftd_order back = ftd_order(two, two_log, two_len, one, one_log, one_len, of);
+    int starts = said == FTD_ORDER_FIRST_START || said == FTD_ORDER_SECOND_START;
+
+    return given.answer == said && given.number == number && given.refusal == 0 && back.number == number &&
+           back.answer == (starts ? FTD_ORDER_FIRST_START + FTD_ORDER_SECOND_START - said : said) && back.refusal == 0;
+}
+
+/* The refusal, the same with the ends exchanged; 0: none. */
+static uint8_t no_order(struct ftd_sender one, struct ftd_sender two, uint16_t of) {
+    struct ftd_order given = ftd_order(one, one_log, one_len, two, two_log, two_len, of);
+    struct ftd_order back = ftd_order(two, two_log, two_len, one, one_log, one_len, of);
+
+    EXPECT(given.answer == FTD_ORDER_REFUSED && back.answer == FTD_ORDER_REFUSED);
+    EXPECT(given.refusal == back.refusal && given.number == 0 && back.number == 0);
+    return given.refusal;
+}
+
+static void order_answers(void) {
+    struct ftd_sender one = one_end("aXb");
+
+    EXPECT(in_order(one, two_end("ab"), 7, FTD_ORDER_SAME, 0));
+    EXPECT(in_order(one, two_end("a"), 7, FTD_ORDER_SECOND_START, 0));
+    EXPECT(in_order(one, two_end("ab"), 3, FTD_ORDER_SECOND_START, 0));
+    EXPECT(in_order(one, two_end("aXbX"), 7, FTD_ORDER_SAME, 0));
+    EXPECT(in_order(one, two_end("aXbX"), 3, FTD_ORDER_FIRST_START, 0));
+    EXPECT(in_order(one, two_end("aa"), 7, FTD_ORDER_DIFFER, 2));
+    EXPECT(in_order(one, two_end("bb"), 7, FTD_ORDER_DIFFER, 1));
+    EXPECT(in_order(one, two_end("aca"), 7, FTD_ORDER_DIFFER, 2));
+    EXPECT(in_order(one_end(""), two_end(""), 7, FTD_ORDER_SAME, 0));
+    EXPECT(in_order(one_end(""), two_end("aXb"), 7, FTD_ORDER_FIRST_START, 0));
+    one = one_end("aXb");
+    two_end("aXb");
+    two_log[2 * ORDER_ENTRY + 7] ^= 1; /* b's TID */
+    EXPECT(in_order(one, one, 7, FTD_ORDER_DIFFER, 2) && in_order(one, one, 3, FTD_ORDER_SAME, 0));
+}
+
+/* 13 before 15, 15 before 20, and 20 before the lists are compared. */
+static void order_refused(void) {
+    static const size_t heads[7] = {0, 1, 2, 3, 8, 11, 12};
+    struct ftd_sender one = one_end("aXb"), two = two_end("bX"), later = day_open(ftd_sender_fresh(), 6, 1, 0, 0).end;
+    size_t i, entry;
+
+    EXPECT(no_order(one, two, 5) == FTD_UNKNOWN_SERIES && no_order(one, ftd_sender_fresh(), 7) == FTD_UNKNOWN_SERIES);
+    EXPECT(no_order(one, day_open(ftd_sender_fresh(), 5, 1, 0, 0).end, 3) == FTD_UNKNOWN_SERIES);
+    EXPECT(no_order(one, later, 3) == FTD_UNKNOWN_SERIES && no_order(one, later, 7) == FTD_OTHER_DAY);
+    for (entry = 0; entry < 3; entry++)
+        for (i = 0; i < 7; i++) {
+            one_log[entry * ORDER_ENTRY + heads[i]] ^= 8;
+            EXPECT(no_order(one, two, 7) == FTD_DAMAGED_LOG && no_order(one, later, 7) == FTD_OTHER_DAY);
+            /* b's entry stands behind the last one of series 3. */
+            if (entry == 2)
+                EXPECT(in_order(one, two, 3, FTD_ORDER_SAME, 0));
+            else
+                EXPECT(no_order(one, two, 3) == FTD_DAMAGED_LOG);
+            one_log[entry * ORDER_ENTRY + heads[i]] ^= 8;
+        }
+    EXPECT(in_order(one, two, 7, FTD_ORDER_DIFFER, 1));
+    one_len = one.used - 1;
+    EXPECT(no_order(one, two, 7) == FTD_DAMAGED_LOG && no_order(one, two, 3) == FTD_DAMAGED_LOG);
+    one_len = one.used;
+    EXPECT(in_order(one, two, 7, FTD_ORDER_DIFFER, 1));
+    one_len = sizeof one_log;
+    one.used -= 1;
+    EXPECT(no_order(one, two, 7) == FTD_DAMAGED_LOG && in_order(one, two, 3, FTD_ORDER_SAME, 0));
+}
+
+/* Without a message in the series no byte of a log is looked at. */
+static void order_of_nulls(void) {
+    struct ftd_sender empty = one_end(""), one = one_end("a");
+
+    one_len = 3;
+    EXPECT(in_order(one, empty, 3, FTD_ORDER_SAME, 0) && no_order(one, empty, 7) == FTD_DAMAGED_LOG);
+    one_len = sizeof one_log;
+    EXPECT(ftd_order(empty, NULL, 0, empty, NULL, 0, 7).answer == FTD_ORDER_SAME);
+    EXPECT(ftd_order(empty, NULL, 0, one, one_log, one_len, 7).answer == FTD_ORDER_FIRST_START);
+    EXPECT(ftd_order(one, NULL, 0, empty, NULL, 0, 7).refusal == FTD_DAMAGED_LOG);
+    EXPECT(ftd_order(ftd_sender_fresh(), NULL, 0, empty, NULL, 0, 7).refusal == FTD_UNKNOWN_SERIES);
+    EXPECT(ftd_box_order(ftd_box_fresh(), NULL, 0, ftd_box_fresh(), NULL, 0, 7).refusal == FTD_UNKNOWN_SERIES);
+    EXPECT(ftd_box_order_with(ftd_box_fresh(), NULL, 0, empty, NULL, 0, 7).refusal == FTD_UNKNOWN_SERIES);
+    memset(&one, 255, sizeof one);
+    EXPECT(ftd_order(one, one_log, one_len, one, one_log, one_len, 65535).refusal == FTD_DAMAGED_LOG);
+}
+
+/* A box before and behind the exchange's two messages, and the exchange. */
+static void order_of_boxes(void) {
+    struct ftd_sender sender = serving();
+    struct ftd_box empty = box_in(&sender), box = box_fed(&sender);
+    size_t log = sizeof box_log, day = sizeof day_log;
+
+    EXPECT(ftd_box_order(box, box_log, log, box, box_log, log, 3).answer == FTD_ORDER_SAME);
+    EXPECT(ftd_box_order(empty, box_log, log, box, box_log, log, 3).answer == FTD_ORDER_FIRST_START);
+    EXPECT(ftd_box_order(box, box_log, log, empty, box_log, log, 3).answer == FTD_ORDER_SECOND_START);
+    EXPECT(ftd_box_order(box, box_log, log, box, box_log, log, 5).refusal == FTD_UNKNOWN_SERIES);
+    EXPECT(ftd_box_order(box, box_log, log, box, day_log, day, 3).answer == FTD_ORDER_SAME);
+    EXPECT(ftd_box_order_with(box, box_log, log, sender, day_log, day, 3).answer == FTD_ORDER_SAME);
+    EXPECT(ftd_box_order_with(empty, box_log, log, sender, day_log, day, 3).answer == FTD_ORDER_FIRST_START);
+    box_log[FTD_LOG_HEAD + 4006 + 7] ^= 1; /* the TID of the second message */
+    EXPECT(ftd_box_order_with(box, box_log, log, sender, day_log, day, 3).answer == FTD_ORDER_DIFFER);
+    EXPECT(ftd_box_order_with(box, box_log, log, sender, day_log, day, 3).number == 2);
+    EXPECT(ftd_box_order(box, day_log, day, box, box_log, log, 3).number == 2);
+    box_log[2] = 1;
+    EXPECT(ftd_box_order_with(box, box_log, log, sender, day_log, day, 3).refusal == FTD_DAMAGED_LOG);
+    EXPECT(ftd_box_order(box, day_log, day, box, box_log, log, 3).refusal == FTD_DAMAGED_LOG);
+    sender.date = 101;
+    EXPECT(ftd_box_order_with(box, box_log, log, sender, day_log, day, 3).refusal == FTD_OTHER_DAY);
+    box.day.date = 101;
+    EXPECT(ftd_box_order(empty, box_log, log, box, box_log, log, 3).refusal == FTD_OTHER_DAY);
+}
+
 /* ---- The trading calendar ---- */
 
 /* Four sessions, the first late, and eight holidays. */
@@ -2000,6 +2141,10 @@ int main(void) {
     line_test();
     places_of_any_state();
     box_seats();
+    order_answers();
+    order_refused();
+    order_of_nulls();
+    order_of_boxes();
     calendar_set();
     calendar_asked();
     marks();

@@ -21,7 +21,7 @@ try() { # COMPILER OPTION..
     fi
     "$@" -Wall -Wextra -pedantic -Werror -Iinclude tests/c/header.c -x none "$library" -o "$work/header"
     "$work/header" >"$work/header.out" || { cat "$work/header.out"; exit 1; }
-    for example in driver frames; do
+    for example in driver frames standby; do
         "$@" -Wall -Wextra -pedantic -Werror -Iinclude "examples/$example.c" -x none "$library" -o "$work/$example"
         "$work/$example" >"$work/$example.out"
         diff "examples/$example.out" "$work/$example.out"

@@ -6,6 +6,7 @@ pub mod Receiving
 pub mod Keeping
 pub mod Several
 pub mod Boxes
+pub mod Orders
 pub mod Trading
 pub mod Quotes
 pub mod Frames

@@ -153,7 +153,7 @@ fn day_for(s: FtdDay) -> Day
 }
 
 // The box that the numbers say.
-fn relay_for(s: FtdBox) -> Relay
+pub(crate) fn relay_for(s: FtdBox) -> Relay
     ensures { λ r. ⌜ r ≡ relayFor s ⌝ }
 {
     let end = s.receiver;

@@ -58,6 +58,7 @@ pub mod receiving; // the receiving end
 pub mod keeping; // named places of the receiving end to come back to
 pub mod several; // a bufferful of packets or records in one call of an end
 pub mod boxes; // the box
+pub mod orders; // the order of two serving ends
 pub mod trading; // the trading calendar
 pub mod quotes; // the book of a contract
 pub mod frames; // frames of JR/T 0087

@@ -19,6 +19,7 @@ pub mod PacketByPacket
 pub mod EveryPiece
 pub mod Shares
 pub mod RewindAgreement
+pub mod OrderLaws
 pub mod Follows
 pub mod bench
 pub mod Biggest

@@ -17,6 +17,8 @@ pub mod Rewind
 pub mod Effective
 pub mod CheckpointRows
 pub mod RewindNumbers
+pub mod Order
+pub mod OrderRows
 pub mod Biggest
 pub mod Several
 pub mod Bufferful
@@ -28,3 +30,4 @@ pub mod SendHelpers
 pub mod ReceiveHelpers
 pub mod RequestHelpers
 pub mod CheckpointHelpers
+pub mod OrderHelpers

@@ -8,6 +8,8 @@ ghost use Rattle.flow.specs.Follows.{NumbersFollow};
 ghost use Rattle.flow.specs.PacketByPacket.{PacketByPacket};
 ghost use Rattle.flow.specs.EveryPiece.{EveryPiece};
 ghost use Rattle.flow.specs.Shares.{Shares};
+ghost use Rattle.flow.specs.Order.{OrderLaws};
+ghost use Rattle.flow.specs.OrderRows.{OrderRows};
 ghost use Rattle.flow.specs.Rewind.{RewindAgreement};
 ghost use Rattle.flow.specs.RewindNumbers.{RewindNumbers};
 
@@ -24,6 +26,7 @@ mod receive; // the receiving end's Receive
 pub mod receiver; // the receiving end
 pub mod several; // a bufferful of packets, or of records
 pub mod checkpoint; // named places of the receiving end to come back to
+pub mod order; // the order of two serving ends
 
 // Demand 3, as a promise.
 pub fn keeps_agreement()
@@ -78,4 +81,9 @@ pub fn keeps_effective()
 // And the numbers taken with them, as a promise.
 pub fn keeps_rewind_numbers()
     ensures { λ _. ⌜ RewindNumbers ⌝ }
+{}
+
+// The order of two serving ends, its laws and its worked rows, as a promise.
+pub fn keeps_order()
+    ensures { λ _. ⌜ OrderLaws × OrderRows ⌝ }
 {}

@@ -69,7 +69,7 @@ pub(crate) fn put_entry(
 }
 
 // How many bytes the entry at a place takes; 0 where none stands there whole.
-fn entry_size(l: &[u8], at: usize) -> usize
+pub(crate) fn entry_size(l: &[u8], at: usize) -> usize
     ensures { λ r. ⌜ (r ≡ front entry (drop at (now (l .entry)))) × (r ≤ length (now (l .entry)) - at) ⌝ }
 {
     if l.len() < at {

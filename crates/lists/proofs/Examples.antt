@@ -5,12 +5,12 @@ use lib.Dec.{T, eqb, eqb→eq}
 use lib.ListN.{length}
 use Rattle.ftd.specs.Bench.{same}
 use Rattle.flow.specs.Agreement.{publishedOn, reported}
+use Rattle.flow.proofs.bench.Tests.{holdAll, each, isCaughtUp, caught-up}
 use Rattle.lists.specs.Examples.{refusals, twoDays, twoDaysStart, twoDaysEnd, twoDaysRefusals, twoDaysShown}
 use Rattle.lists.specs.Examples.{twoLogins, twoLoginsStart, beforeOne, behindOne, beforeThree, behindThree}
 use Rattle.lists.specs.Examples.{twoLoginsEnd, twoLoginsRefusals, twoLoginsShown, lastAnswer, chainDropped}
 use Rattle.lists.specs.Examples.{onePacket, onePacketStart, beforeWithin, behindWithin, onePacketEnd}
 use Rattle.lists.specs.Examples.{onePacketRefusals, onePacketShown, Examples}
-use Rattle.lists.proofs.Tests.{holdAll, each, isCaughtUp, caught-up}
 use Rattle.lists.proofs.Opened.{opened}
 
 refused-are : T (same (refusals twoDaysStart twoDays) twoDaysRefusals)

@@ -1,4 +1,3 @@
-pub mod Tests
 pub mod Opened
 pub mod Examples
 pub mod Rewinds

@@ -5,7 +5,7 @@ use Rattle.lists.specs.Examples.{twoDaysRefusals, early, lastOfOne, betw
 use Rattle.lists.specs.Examples.{beforeOne, behindOne, beforeThree, behindThree, twoLoginsEnd, twoLoginsRefusals}
 use Rattle.lists.specs.Examples.{singly, lastWithin, anew, onePacketStart, beforeWithin, behindWithin, onePacketEnd}
 use Rattle.lists.specs.Examples.{onePacketRefusals, behindFirst, behindMiddle, behindLast}
-use Rattle.lists.proofs.Tests.{isCaughtUp}
+use Rattle.flow.proofs.bench.Tests.{isCaughtUp}
 
 unfoldable pub opened : Unit {0}
 unfolding Opened.opened a1 a2 a3 b1 b2 c1 c2 d1 twoDays twoDaysStart twoDaysEnd twoDaysRefusals early lastOfOne between

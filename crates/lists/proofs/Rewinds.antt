@@ -7,10 +7,10 @@ use Rattle.flow.specs.Agreement.{publishedOn, reported}
 use Rattle.flow.specs.Checkpoints.{wrongName, freshCheckpoints, usedNames, isUsed, checkpointOf, withCheckpoint, keepOf}
 use Rattle.flow.specs.Checkpoints.{restored, restoreOf}
 use Rattle.flow.specs.Rewind.{rewindStart}
+use Rattle.flow.proofs.bench.Tests.{holdAll, each, isCaughtUp, caught-up}
 use Rattle.lists.specs.Examples.{a1, shows, lastAnswer}
 use Rattle.lists.specs.Rewinds.{lineTest, tested, back, staleLogin, staleEnd, askedAgain, freshLogin, freshEnd}
 use Rattle.lists.specs.Rewinds.{Rewinds}
-use Rattle.lists.proofs.Tests.{holdAll, each, isCaughtUp, caught-up}
 use Rattle.lists.proofs.Opened.{opened}
 
 abbrev tests : List Bool

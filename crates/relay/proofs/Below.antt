@@ -75,19 +75,19 @@ module _ (n : Node) (h : Sixteen n) where
   set-sixteen : (i : ℕ) (x : Seat) → length (set (n .seats) i x) ≡ 16
   set-sixteen i x = length-set (n .seats) i x ∙ h
 
-  sixteen-login : (i s : ℕ) (p content out : List ℕ) (b : Bool) → noSuchSeat i ≡ b
+  pub sixteen-login : (i s : ℕ) (p content out : List ℕ) (b : Bool) → noSuchSeat i ≡ b
       → length (loginSeatOf (boxOf n) i s p content out .end .seats) ≡ 16
   unfolding loginSeatOf
   sixteen-login i s p content out true q = rw q h
   sixteen-login i s p content out false q = rw q (set-sixteen i _)
 
-  sixteen-send : (i s : ℕ) (out : List ℕ) (b : Bool) → noSuchSeat i ≡ b
+  pub sixteen-send : (i s : ℕ) (out : List ℕ) (b : Bool) → noSuchSeat i ≡ b
       → length (sendSeatOf (boxOf n) i s (n .log) out .end .seats) ≡ 16
   unfolding sendSeatOf
   sixteen-send i s out true q = rw q h
   sixteen-send i s out false q = rw q (set-sixteen i _)
 
-  sixteen-packet : (i s : ℕ) (out : List ℕ) (b : Bool) → noSuchSeat i ≡ b
+  pub sixteen-packet : (i s : ℕ) (out : List ℕ) (b : Bool) → noSuchSeat i ≡ b
       → length (sendPacketSeatOf (boxOf n) i s (n .log) out .end .seats) ≡ 16
   unfolding sendPacketSeatOf
   sixteen-packet i s out true q = rw q h

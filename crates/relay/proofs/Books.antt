@@ -50,7 +50,7 @@ use Rattle.relay.specs.State.{Box}
 use Rattle.relay.specs.Box.{AnswerWay, ReceiveWay, answerWay, answerBy, answerOf, receiveWay, receiveBy, receiveBoxOf}
 use Rattle.relay.specs.Box.{openBoxOf, connectBoxOf, askOf, serving, noSuchSeat, reservesOf}
 use Rattle.relay.specs.Box.{reservesBy}
-use Rattle.relay.specs.World.{Lent, Node, BoxWorld, boxOf, startNode, startBox, BoxEvent, openExchange}
+use Rattle.relay.specs.World.{Node, BoxWorld, boxOf, startNode, BoxEvent, openExchange}
 use Rattle.relay.specs.World.{publishExchange, loginExchange, sendExchange, sendPacketExchange, openBox, connectBox}
 use Rattle.relay.specs.World.{askBox, answerBox, receiveBox, loginSeat, sendSeat, sendPacketSeat, openEnd}
 use Rattle.relay.specs.World.{connectEnd, askEnd, answerEnd, receiveEnd, openNode, seated, afterAnswer, afterRelay}
@@ -62,7 +62,7 @@ use Rattle.relay.proofs.Above.{above-step, by-box}
 use Rattle.relay.proofs.Calls.{publish-date}
 use Rattle.relay.proofs.Join.{hands-one}
 use Rattle.relay.proofs.Joint.{Rests, login-rests, send-rests, packet-rests, handed-day}
-use Rattle.relay.proofs.Halves.{Good}
+use Rattle.relay.proofs.Halves.{AtSeat}
 use Rattle.relay.proofs.Sums.{bytes-append}
 
 -- ─── Series with their reserves, and what was published ───
@@ -178,7 +178,7 @@ turn-kept o c e z after ms ks (Turns.confirms t d r b x) =
 turn-kept o c e z after ms ks (Turns.receives {last} {live} t r h g) =
     inr (series-stay e z t r (keptOf e t .date) last live)
 
-module _ (w : BoxWorld) (g : Good w) where
+module _ (w : BoxWorld) (g : AtSeat w) where
   abbrev N : Node
   N = w .node
 
@@ -275,7 +275,7 @@ unfolding isOpen
 none-member e s q = rw q
 
 -- Where a day is open, series and reserves stay.
-module _ (w : BoxWorld) (g : Good w) (h : Booked (w .node)) where
+module _ (w : BoxWorld) (g : AtSeat w) (h : Booked (w .node)) where
   abbrev K : Node
   K = w .node
 
@@ -285,7 +285,7 @@ module _ (w : BoxWorld) (g : Good w) (h : Booked (w .node)) where
   at-day d q m (inr z) = rw (z .0, z .1)
 
   -- Day and publications as they were.
-  along : (m : Node) → m .day ≡ K .day → m .published ≡ K .published → Keeps K m → Booked m
+  pub along : (m : Node) → m .day ≡ K .day → m .published ≡ K .published → Keeps K m → Booked m
   along m a b k =
       record {
         sum = record { sum = rw a (h .sum .sum) };
@@ -302,7 +302,7 @@ module _ (w : BoxWorld) (g : Good w) (h : Booked (w .node)) where
   nothing : (d : ℕ) → upTo d (K .day .date) ≡ false → (u : ℕ) → of u d (K .published) ≡ []
   nothing d q u =
       of-is u d (K .published)
-      ∙ ap (messagesOf u) (g .below-timely 0 (omega arith) .source .served .not-later d q)
+      ∙ ap (messagesOf u) (g .served .not-later d q)
 
   opened-booked : (s : ℕ) (p : List ℕ) (d : ℕ) → upTo d (K .day .date) ≡ false → (q : Left Sender Opened)
       → OpenDone (serving (boxOf K)) d (keptSeries (K .receiving .end)) (reservesAt K) (K .log) q → q .answer ≡ Done
@@ -407,7 +407,7 @@ right-few ss q = right-parts ss q .1
 
 -- ─── Every event ───
 
-module _ (w : BoxWorld) (g : Good w) (h : Booked (w .node)) (right : RightSeries (w .node .receiving .end)) where
+module _ (w : BoxWorld) (g : AtSeat w) (h : Booked (w .node)) (right : RightSeries (w .node .receiving .end)) where
   abbrev L : Node
   L = w .node
 
@@ -484,9 +484,9 @@ module _ (w : BoxWorld) (g : Good w) (h : Booked (w .node)) (right : RightSeries
   pub booked-step : (e : BoxEvent) → Booked (boxStep w e .node)
   booked-step e = booked e (keeps-step w g e)
 
-pub start-booked : (l : Lent) → Booked (startBox l .node)
-unfolding startBox startNode freshSender
-start-booked l =
+pub start-booked : (buffer log : List ℕ) → Booked (startNode buffer log)
+unfolding startNode freshSender
+start-booked buffer log =
     record {
       sum = record { sum = refl };
       books = λ d q. let z : _≡_ {A = ℕ} 0 1 = cc in absurd (omega arith);

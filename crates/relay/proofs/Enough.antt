@@ -66,8 +66,8 @@ use Rattle.relay.proofs.Ways.{ReceiveDone, hands-none, not-published, p
 use Rattle.relay.proofs.Above.{above-step, by-box}
 use Rattle.relay.proofs.Join.{hands-one}
 use Rattle.relay.proofs.Joint.{handed-day}
-use Rattle.relay.proofs.Halves.{Good, good-step, good-run, good-start, refuses-step, refuses-run}
-use Rattle.relay.proofs.Numbers.{served-open, published-last}
+use Rattle.relay.proofs.Halves.{Good, AtSeat, first-seat, good-step, good-run, good-start, refuses-step, refuses-run}
+use Rattle.relay.proofs.Numbers.{served-open, seat-last}
 use Rattle.relay.proofs.Sums.{needed-starts, needed-more, reserves-needed}
 use Rattle.relay.proofs.Books.{Books, books-shares, Booked, booked-step, start-booked, reservesAt, entered, RightSeries}
 use Rattle.relay.proofs.Books.{turn-right, right-differing, right-few, Keeps, keeps-step, EightReserves, eight-step}
@@ -100,10 +100,10 @@ publish-passes e s m log c q f h n =
 
 -- ─── What the exchange published passed them ───
 
-abbrev Checked : SenderSide → Type 0
+abbrev pub Checked : SenderSide → Type 0
 Checked v = Every (λ (y : Dated Message). Checks (y .what)) (v .published)
 
-move-checked : (v u : SenderSide) → Move v u → Checked v → Checked u
+pub move-checked : (v u : SenderSide) → Move v u → Checked v → Checked u
 move-checked v u Moves.stays h = h
 move-checked v u (Moves.opens date ss rs a b) h = h
 move-checked v u (Moves.publishes s tid content t) h =
@@ -151,7 +151,7 @@ unfolding sharesOf daySeries
 entry-shares e rs d P ss q h =
     books-shares (take (e .day .count) (e .day .series)) rs d P h ∙ ap (λ (l : List ℕ). needed l rs d P) q
 
-module _ (w : BoxWorld) (g : Good w) (right : RightSeries (w .node .receiving .end)) (checked : Checked (w .exchange))
+module _ (w : BoxWorld) (g : AtSeat w) (right : RightSeries (w .node .receiving .end)) (checked : Checked (w .exchange))
     (booked : Booked (w .node)) where
   abbrev N : Node
   N = w .node
@@ -250,7 +250,7 @@ module _ (w : BoxWorld) (g : Good w) (right : RightSeries (w .node .receiving .e
 
       few : publishedOf (serving (boxOf N)) t < mostMessages
       few =
-          let a = published-last w g t d served o kept (facts .1) in
+          let a = seat-last w g t d served o kept (facts .1) in
           let b = hands-one R p (N .receiving .buffer) x xs q .few in
           omega arith
 
@@ -320,7 +320,7 @@ module _ (m : Node) (right : RightSeries (m .receiving .end)) (eight : EightRese
 -- ─── Each event ───
 
 module _ (s d : ℕ) where
-  no-more : (a b : List (Dated Refusal)) → b ≡ a → of s d (since a b) ≡ []
+  pub no-more : (a b : List (Dated Refusal)) → b ≡ a → of s d (since a b) ≡ []
   no-more a b q = ap (of s d) (since-is a b [] (q ∙ sym (append-nil a)))
 
   none-of : (t : ℕ) (o : TradeDate) (z : Refusal) → (o ≡ At d → ⊥) → of s d (dated t o z ∷ []) ≡ []
@@ -331,7 +331,7 @@ module _ (s d : ℕ) where
       go true false q = refl
       go false b q = refl
 
-  module _ (w : BoxWorld) (g : Good w) (right : RightSeries (w .node .receiving .end)) (checked : Checked (w .exchange))
+  module _ (w : BoxWorld) (g : AtSeat w) (right : RightSeries (w .node .receiving .end)) (checked : Checked (w .exchange))
       (booked : Booked (w .node)) (eight : EightReserves (w .node))
       (room : neededBy (w .node) d (w .exchange .published) ≤ length (w .node .log)) where
     abbrev M : Node
@@ -371,7 +371,7 @@ module _ (s d : ℕ) where
         (λ k. never-refused w g right checked booked i j m p at here x xs q l d k room z e)
     received i j m p at here y (published x xs q l n e) = same _ (append-nil (M .refused))
 
-    takes-step : (e : BoxEvent) → LogTakes M (boxStep w e .node) s d
+    pub takes-step : (e : BoxEvent) → LogTakes M (boxStep w e .node) s d
     unfolding answerOf receiveBoxOf
     takes-step (openExchange date xs rs) = same _ refl
     takes-step (publishExchange t tid content) = same _ refl
@@ -406,7 +406,7 @@ module _ (s d : ℕ) where
 
 -- ─── What is needed only grows; the log stays as long ───
 
-keeps-needs : (n m : Node) → Keeps n m → (d : ℕ) (l : List (Dated Message)) → neededBy n d l ≤ neededBy m d l
+pub keeps-needs : (n m : Node) → Keeps n m → (d : ℕ) (l : List (Dated Message)) → neededBy n d l ≤ neededBy m d l
 keeps-needs n m (inl q) d l = rw q (omega arith)
 keeps-needs n m (inr q) d l = rw (q .0, q .1) (omega arith)
 
@@ -435,7 +435,7 @@ relay-long n m i j p y (not-published x xs q l z e) = refl
 relay-long n m i j p y (published x xs q l k e) =
     publish-length (serving (boxOf n)) (seriesIn (datedOf p .packet)) (x .tid) (x .content) (n .log)
 
-log-long : (w : BoxWorld) (e : BoxEvent) → Long w (boxStep w e)
+pub log-long : (w : BoxWorld) (e : BoxEvent) → Long w (boxStep w e)
 unfolding receiveBoxOf
 log-long w (openExchange date ss rs) = refl
 log-long w (publishExchange s tid content) = refl
@@ -473,11 +473,11 @@ pub record Fine (w : BoxWorld) : Type 0 where
   pub booked : Booked (w .node)
   pub eight : EightReserves (w .node)
 
-module _ (w : BoxWorld) (g : Good w) (e : BoxEvent) where
+module _ (w : BoxWorld) (g : AtSeat w) (e : BoxEvent) where
   taken : LineStep (above w) (above (boxStep w e))
   taken = above-step w (g .above-timely .source .begun) e .step-of
 
-  fine-step : Fine w → Fine (boxStep w e)
+  pub fine-step : Fine w → Fine (boxStep w e)
   fine-step f =
       let t = line-turn (g .above-timely .source .answers) taken in
       record {
@@ -505,7 +505,7 @@ needs-run : (w : BoxWorld) → Good w → (es : List BoxEvent) → (d : ℕ)
     ≤ neededBy (boxRun w es .node) d (boxRun w es .exchange .published)
 needs-run w g [] d = omega arith
 needs-run w g (e ∷ es) d =
-    let x = needs-step w g e d in
+    let x = needs-step w (first-seat w g) e d in
     let y = needs-run (boxStep w e) (good-step w g e) es d in
     omega arith
 
@@ -528,12 +528,12 @@ enough-run s d w g f (e ∷ es) room =
     let n = needs-run w g (e ∷ es) d in
     let k = log-long w e in
     takes-along w e es s d
-    (takes-step s d w g (f .right) (f .checked) (f .booked) (f .eight) (omega arith) e)
-    (enough-run s d (boxStep w e) (good-step w g e) (fine-step w g e f) es (rw k room))
+    (takes-step s d w (first-seat w g) (f .right) (f .checked) (f .booked) (f .eight) (omega arith) e)
+    (enough-run s d (boxStep w e) (good-step w g e) (fine-step w (first-seat w g) e f) es (rw k room))
 
 fine-run : (w : BoxWorld) → Good w → Fine w → (es : List BoxEvent) → Fine (boxRun w es)
 fine-run w g f [] = f
-fine-run w g f (e ∷ es) = fine-run (boxStep w e) (good-step w g e) (fine-step w g e f) es
+fine-run w g f (e ∷ es) = fine-run (boxStep w e) (good-step w g e) (fine-step w (first-seat w g) e f) es
 
 long-run : (w : BoxWorld) (es : List BoxEvent) → length (boxRun w es .node .log) ≡ length (w .node .log)
 long-run w [] = refl
@@ -542,7 +542,7 @@ long-run w (e ∷ es) = long-run (boxStep w e) es ∙ log-long w e
 start-fine : (l : Lent) → Fine (startBox l)
 unfolding startBox startNode start freshReceiver isOpen keptSeries
 start-fine l =
-    record { right = λ s q. clash false q refl; checked = tt; booked = start-booked l; eight = refl }
+    record { right = λ s q. clash false q refl; checked = tt; booked = start-booked (l .buffer) (l .log); eight = refl }
 
 start-log : (l : Lent) → startBox l .node .log ≡ l .log
 unfolding startBox startNode

@@ -15,6 +15,7 @@ use Rattle.flow.proofs.common.Days.{Upto, upto-along, upto-same}
 use Rattle.flow.proofs.common.Extends.{Extends, extends-same, extends-append, extends-along}
 use Rattle.flow.proofs.common.Lists.{since-along, append-empty}
 use Rattle.flow.proofs.common.Histories.{of-append}
+use Rattle.flow.proofs.source.Served.{ServedSide}
 use Rattle.flow.proofs.source.Sources.{Source, move-source}
 use Rattle.flow.proofs.source.Days.{day-rises, day-stays, openings-grow}
 use Rattle.flow.proofs.lines.Steps.{Steps, none, then, SparesAll}
@@ -23,7 +24,7 @@ use Rattle.flow.proofs.logins.Starts.{Timely, timely-line, timely-start}
 use Rattle.flow.proofs.first.Half.{SafeWorld, line-safe, start-safe}
 use Rattle.flow.proofs.second.Half.{line-complete}
 use Rattle.relay.specs.Box.{serverOf, noSeat}
-use Rattle.relay.specs.World.{Lent, BoxWorld, above, below, startNode, startBox, BoxEvent, openExchange}
+use Rattle.relay.specs.World.{Lent, BoxWorld, above, below, servingAt, startNode, startBox, BoxEvent, openExchange}
 use Rattle.relay.specs.World.{publishExchange, loginExchange, sendExchange, sendPacketExchange, openBox, connectBox}
 use Rattle.relay.specs.World.{askBox, answerBox, receiveBox, loginSeat, sendSeat, sendPacketSeat, openEnd}
 use Rattle.relay.specs.World.{connectEnd, askEnd, answerEnd, receiveEnd, boxStep, boxRun}
@@ -40,6 +41,24 @@ pub record Good (w : BoxWorld) : Type 0 where
   pub below-timely : (i : ℕ) → i < 16 → Timely 0 (below w i)
   pub below-safe : (i : ℕ) → i < 16 → SafeWorld (below w i)
   pub joint : Joint (w .node)
+
+-- The line from above, and one seat: all that the day's books and a log's length need.
+pub record AtSeat (w : BoxWorld) : Type 0 where
+  pub above-timely : Timely 0 (above w)
+  pub above-safe : SafeWorld (above w)
+  pub joint : Joint (w .node)
+  pub seat : ℕ
+  pub served : ServedSide (servingAt (w .node) seat (w .lines seat))
+
+pub first-seat : (w : BoxWorld) → Good w → AtSeat w
+first-seat w g =
+    record {
+      above-timely = g .above-timely;
+      above-safe = g .above-safe;
+      joint = g .joint;
+      seat = 0;
+      served = g .below-timely 0 (omega arith) .source .served;
+    }
 
 pub good-step : (w : BoxWorld) → Good w → (e : BoxEvent) → Good (boxStep w e)
 good-step w g e =
@@ -102,7 +121,7 @@ below-start : (l : Lent) (i : ℕ) → i < 16 → below (startBox l) i ≡ start
 unfolding start freshSender
 below-start l i f = seat-start l i f
 
-start-join : DayJoin (freshSender .day) freshReceiver
+pub start-join : DayJoin (freshSender .day) freshReceiver
 unfolding freshSender freshReceiver keptOf keptSeries
 start-join = record { behind = λ s. tt; series = λ d q. none-at d q; someone = λ d q. none-at d q }
   where
@@ -139,7 +158,7 @@ ahead w g = go (w .node .day .date) refl
         let x = g .joint .0 .someone d q in rw (x .2) at (g .above-timely .behind (x .0))
 
 -- Over a list of steps the serving day rises, and stays while no opening comes.
-rises : {w v : World} → Steps w v → Source (w .serving) → Upto (w .serving .day) (v .serving .day)
+pub rises : {w v : World} → Steps w v → Source (w .serving) → Upto (w .serving .day) (v .serving .day)
 rises {w} ls z =
     steps-keep (λ (v : SenderSide). Source v × Upto (w .serving .day) (v .day))
     (λ v u m x. (
@@ -148,7 +167,7 @@ rises {w} ls z =
           (day-rises v u m (x .0 .served)),
     )) ls (z, upto-same (w .serving .day)) .1
 
-steps-day : {w v : World} → Steps w v → v .serving .openings ≡ w .serving .openings → v .serving .day ≡ w .serving .day
+pub steps-day : {w v : World} → Steps w v → v .serving .openings ≡ w .serving .openings → v .serving .day ≡ w .serving .day
 steps-day none q = refl
 steps-day {w} {v} (then {v = x} l ls) q =
     let a = openings-grow (w .serving) (x .serving) (line-moves l) in

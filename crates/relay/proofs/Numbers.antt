@@ -33,7 +33,7 @@ use Rattle.relay.specs.Agreement.{SameNumber, Counts, DayBelow, UpToDate
 use Rattle.relay.proofs.Ways.{ReceiveDone, hands-none, not-published, published, receive-done}
 use Rattle.relay.proofs.Join.{hands-one}
 use Rattle.relay.proofs.Joint.{handed-day}
-use Rattle.relay.proofs.Halves.{Good}
+use Rattle.relay.proofs.Halves.{Good, AtSeat, first-seat}
 
 -- ─── Counts and series are the day's, whatever the seat ───
 
@@ -52,23 +52,45 @@ served-open D X e s q = ap (member s) q
 
 -- ─── The count below is last ───
 
+pub seat-last : (w : BoxWorld) → AtSeat w → (s d : ℕ) →
+    let n = w .node in
+    isServed (serving (boxOf n)) s ≡ true → isOpen (n .receiving .end) s ≡ true
+    → keptOf (n .receiving .end) s .date ≡ At d → n .day .date ≡ At d
+    → publishedOf (serving (boxOf n)) s ≡ keptOf (n .receiving .end) s .last
+seat-last w g s d q o k f =
+    let n = w .node in
+    let X = seatOf (boxOf n) (g .seat) in
+    let count =
+    published-count (servingAt n (g .seat) (w .lines (g .seat))) (g .served) s d f
+    (seat-served (n .day) X noSeat s ∙ q) in
+    let agreed = safe-agreed (above w) s d (g .above-safe) in
+    let today = rw o at (g .above-safe .right .right s d .today) in
+    let now : keptOf (n .receiving .end) s .last ≡ reported (above w) s d = today k in
+    seat-published (n .day) noSeat X s ∙ count
+    ∙ ap (λ (l : List (Dated Message)). length (of s d l)) (g .joint .1) ∙ agreed .exactly ∙ sym now
+
+pub take-take : (r n : ℕ) (l : List Message) → r ≤ length (take n l) → take r (take n l) ≡ take r l
+take-take zero n l q = refl
+take-take (suc r) zero l q = absurd (omega arith)
+take-take (suc r) (suc n) [] q = refl
+take-take (suc r) (suc n) (x ∷ l) q = ap (λ (k : List Message). x ∷ k) (take-take r n l (omega arith))
+
+pub enough : (r : ℕ) (h l : List Message) → length h ≡ r → h ≡ take r l → r ≤ length l
+enough r h l n q =
+    let k : length h ≡ min r (length l) = ap length q ∙ length-take r l in omega arith
+
+pub take-whole : (l : List Message) → take (length l) l ≡ l
+take-whole [] = refl
+take-whole (x ∷ l) = ap (λ (k : List Message). x ∷ k) (take-whole l)
+
 module _ (w : BoxWorld) (g : Good w) where
   abbrev N : Node
   N = w .node
 
-  pub published-last : (s d : ℕ) → isServed (serving (boxOf N)) s ≡ true → isOpen (N .receiving .end) s ≡ true
+  published-last : (s d : ℕ) → isServed (serving (boxOf N)) s ≡ true → isOpen (N .receiving .end) s ≡ true
       → keptOf (N .receiving .end) s .date ≡ At d → N .day .date ≡ At d
       → publishedOf (serving (boxOf N)) s ≡ keptOf (N .receiving .end) s .last
-  published-last s d q o k f =
-      let X = seatOf (boxOf N) 0 in
-      let count =
-      published-count (servingAt N 0 (w .lines 0)) (g .below-timely 0 (omega arith) .source .served) s d f
-      (seat-served (N .day) X noSeat s ∙ q) in
-      let agreed = safe-agreed (above w) s d (g .above-safe) in
-      let today = rw o at (g .above-safe .right .right s d .today) in
-      let now : keptOf (N .receiving .end) s .last ≡ reported (above w) s d = today k in
-      seat-published (N .day) noSeat X s ∙ count
-      ∙ ap (λ (l : List (Dated Message)). length (of s d l)) (g .joint .1) ∙ agreed .exactly ∙ sym now
+  published-last s d q o k f = seat-last w (first-seat w g) s d q o k f
 
   pub counts : (s d : ℕ) → N .day .date ≡ At d → isOpen (N .receiving .end) s ≡ true → Counts N s d
   counts s d f o =
@@ -150,20 +172,6 @@ module _ (w : BoxWorld) (g : Good w) where
       }
 
   -- ─── From the exchange to a seat ───
-
-  take-take : (r n : ℕ) (l : List Message) → r ≤ length (take n l) → take r (take n l) ≡ take r l
-  take-take zero n l q = refl
-  take-take (suc r) zero l q = absurd (omega arith)
-  take-take (suc r) (suc n) [] q = refl
-  take-take (suc r) (suc n) (x ∷ l) q = ap (λ (k : List Message). x ∷ k) (take-take r n l (omega arith))
-
-  enough : (r : ℕ) (h l : List Message) → length h ≡ r → h ≡ take r l → r ≤ length l
-  enough r h l n q =
-      let k : length h ≡ min r (length l) = ap length q ∙ length-take r l in omega arith
-
-  take-whole : (l : List Message) → take (length l) l ≡ l
-  take-whole [] = refl
-  take-whole (x ∷ l) = ap (λ (k : List Message). x ∷ k) (take-whole l)
 
   module _ (i : ℕ) (f : i < 16) (s d : ℕ) where
     up : Agreed (above w) s d

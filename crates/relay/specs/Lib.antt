@@ -9,3 +9,6 @@ pub mod Examples
 pub mod World
 pub mod Seats
 pub mod Agreement
+pub mod Row
+pub mod RowAgreement
+pub mod RowExamples

@@ -8,6 +8,7 @@ ghost use Rattle.flow.specs.declared.receiver.KeptSeries.{KeptSeries};
 ghost use Rattle.flow.specs.Ends.{filled, keptSeries};
 ghost use Rattle.flow.specs.Serving.{openDayOf};
 ghost use Rattle.flow.specs.Deciding.{Decides, LiesAt};
+ghost use Rattle.flow.specs.Order.{orderOf};
 ghost use Rattle.flow.specs.Promises.{Publishes};
 ghost use Rattle.flow.specs.declared.receiver.Received.the-variants.{Complete};
 ghost use Rattle.relay.specs.Box.{confirmPast, noSeat, serverOf, takenWay, reservesOf};
@@ -20,6 +21,8 @@ use crate::places::put_place;
 use crate::places::seat_at;
 use flow::days::before;
 use flow::days::is_up_to;
+use flow::order::Order;
+use flow::order::order_of;
 use flow::receiver::Confirmed;
 use flow::receiver::Decision;
 use flow::receiver::Origin;
@@ -562,5 +565,22 @@ impl Relay {
             SentPacket::Drained => SentPacket::Drained,
             SentPacket::Refused(r) => SentPacket::Refused(r),
         }
+    }
+
+    // The order of the box and another serving end, an exchange say, for a series (02, No. 14): of the box its day
+    // alone counts, and nothing is changed.
+    pub fn order_with(self, series: u16, log: &[u8], second: Sender, other: &[u8]) -> Order
+        ensures { λ r. ⌜ r ≡ orderOf series (serverOf (self .day) noSeat) (now (log .entry)) second
+            (now (other .entry)) ⌝ }
+    {
+        order_of(series, self.server(no_seat()), log, second, other)
+    }
+
+    // The order of two boxes for a series.
+    pub fn order(self, series: u16, log: &[u8], second: Relay, other: &[u8]) -> Order
+        ensures { λ r. ⌜ r ≡ orderOf series (serverOf (self .day) noSeat) (now (log .entry))
+            (serverOf (second .day) noSeat) (now (other .entry)) ⌝ }
+    {
+        self.order_with(series, log, second.server(no_seat()), other)
     }
 }

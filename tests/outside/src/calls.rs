@@ -21,6 +21,7 @@ use std::rc::Rc;
 
 pub mod boxes;
 mod named;
+pub mod orders;
 mod packets;
 mod pieces;
 mod several;

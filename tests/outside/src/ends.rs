@@ -391,6 +391,23 @@ pub fn receiver(of: &Receiving) -> Receiver {
     Receiver { series: places(&of.open, number), count: of.open.len() }
 }
 
+/// The model of a serving end: of numbers that it can say, so at most eight series, and none without a day.
+pub fn serving(of: &Sender) -> Serving {
+    let served = |one: &Served| serving::Served {
+        series: one.series,
+        published: one.published,
+        next: (one.login != 0).then_some(one.next),
+        piece: one.piece,
+        reserve: one.reserve,
+        used: one.used,
+    };
+    let day = (of.dated != 0).then(|| {
+        let open = Few::of(of.series.iter().take(of.count).map(served)).expect("at most eight");
+        serving::Day { mark: of.date, open, used: of.used }
+    });
+    Serving { day }
+}
+
 /// The model of a receiving end: of numbers that it can say, so of at most eight series.
 pub fn receiving(of: &Receiver) -> Receiving {
     let kept = |one: &Kept| receiving::Kept {

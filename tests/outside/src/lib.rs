@@ -17,6 +17,7 @@ pub mod ends;
 pub mod frames;
 pub mod history;
 pub mod items;
+pub mod orders;
 pub mod several;
 pub mod world;
 

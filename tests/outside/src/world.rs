@@ -55,7 +55,7 @@ pub(crate) fn flag(r: &mut Random, of: &mut u8) -> bool {
 }
 
 /// The same end with any numbers where they don't count.
-fn noisy_sender(r: &mut Random, mut end: Sender) -> Sender {
+pub(crate) fn noisy_sender(r: &mut Random, mut end: Sender) -> Sender {
     if !flag(r, &mut end.dated) {
         end.date = r.next() as u32;
     }

@@ -16,6 +16,7 @@ pub mod given;
 pub mod items;
 pub mod lister;
 pub mod makeup;
+pub mod order;
 pub mod packet;
 pub mod plain;
 pub mod receiving;

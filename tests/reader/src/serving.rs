@@ -50,7 +50,7 @@ pub struct Day {
 
 impl Day {
     /// Where a series stands among the open ones.
-    fn place(&self, series: u16) -> Option<usize> {
+    pub fn place(&self, series: u16) -> Option<usize> {
         self.open.iter().position(|one| one.series == series)
     }
 
@@ -63,6 +63,17 @@ impl Day {
 
     /// TID and content of a message's entry; none where the log is damaged up to it.
     fn entry<'a>(&self, log: &'a [u8], series: u16, number: u64) -> Option<(u32, &'a [u8])> {
+        self.entries(log, series, number, |_| ())
+    }
+
+    /// Likewise, and those of its series before it are given one by one.
+    fn entries<'a>(
+        &self,
+        log: &'a [u8],
+        series: u16,
+        number: u64,
+        mut each: impl FnMut((u32, &'a [u8])),
+    ) -> Option<(u32, &'a [u8])> {
         let mut rest = log.get(..self.used)?;
         let mut seen = [0; crate::few::MOST_SERIES];
         loop {
@@ -75,11 +86,27 @@ impl Day {
             {
                 return None;
             }
-            if u16_at(head, 0) == series && seen[place] == number {
-                return Some((u32_at(head, 4), content));
+            if u16_at(head, 0) == series {
+                let one = (u32_at(head, 4), content);
+                if seen[place] == number {
+                    return Some(one);
+                }
+                each(one);
             }
             rest = &rest[ENTRY_HEADER + length..];
         }
+    }
+
+    /// TIDs and contents of all that was published in a series, in order (No. 14); none where Send of the last one
+    /// would find damage. Where nothing was published the log isn't looked at.
+    pub fn messages<'a>(&self, log: &'a [u8], series: u16) -> Option<Vec<(u32, &'a [u8])>> {
+        let mut all = vec![];
+        let published = self.place(series).map_or(0, |place| self.open[place].published);
+        if published > 0 {
+            let last = self.entries(log, series, published.into(), |one| all.push(one))?;
+            all.push(last);
+        }
+        Some(all)
     }
 
     /// The message that both forms of Send are about, with its series' place: 13, 14, none if all have been stepped over, 20.

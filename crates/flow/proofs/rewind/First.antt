@@ -13,7 +13,7 @@ use Rattle.flow.specs.declared.checkpoint.Restored.{Restored}
 use Rattle.flow.specs.Ends.{Left, dayOf, lastOf, isOpen}
 use Rattle.flow.specs.Answers.{Message}
 use Rattle.flow.specs.Checkpoints.{checkpointOf, restored}
-use Rattle.flow.specs.World.{Dated, latestOf, Event, ReceiverSide, step}
+use Rattle.flow.specs.World.{Dated, latestOf, ReceiverSide, World}
 use Rattle.flow.specs.Agreement.{Agreed, EachDated}
 use Rattle.flow.specs.Rewind.{RewindEvent, call, keep, restore, Histories, Memory, remember, RewindWorld}
 use Rattle.flow.specs.Rewind.{rewindStart, runOver, afterKeep, returned, afterRestore, rewindStep, rewindRun}
@@ -23,12 +23,13 @@ use Rattle.flow.proofs.steps.Turns.{turn-open}
 use Rattle.flow.proofs.right.Right.{right-grows}
 use Rattle.flow.proofs.right.Chain.{chain-none}
 use Rattle.flow.proofs.right.Kept.{AllRight, right-stays}
-use Rattle.flow.proofs.source.Moves.{step-moves}
+use Rattle.flow.proofs.lines.Steps.{LineStep, calls}
+use Rattle.flow.proofs.lines.Moves.{line-moves}
 use Rattle.flow.proofs.source.Growth.{move-grows}
 use Rattle.flow.proofs.source.Sources.{Source, move-source, start-source}
-use Rattle.flow.proofs.logins.Consistent.{isConnect, step-turn}
+use Rattle.flow.proofs.logins.Consistent.{isLink, line-turn}
 use Rattle.flow.proofs.first.Safe.{Safe}
-use Rattle.flow.proofs.first.Half.{SafeWorld, start-safe, step-safe, safe-agreed}
+use Rattle.flow.proofs.first.Half.{SafeWorld, start-safe, line-safe, safe-agreed}
 use Rattle.flow.proofs.rewind.Lookups.{fresh-four}
 use Rattle.flow.proofs.rewind.Restored.{resting-open, resting-same, restored-open, restored-eight, restored-live}
 use Rattle.flow.proofs.rewind.Restored.{restored-as}
@@ -161,23 +162,24 @@ module _ (w : RewindWorld) (h : SafeRewind w) where
       append-none [] = refl
       append-none (x ∷ l) = ap (λ (r : List (Dated Message)). x ∷ r) (append-none l)
 
-  called : (e : Event) → SafeRewind (rewindStep w (call e))
-  called e =
-      let m = step-moves (w .now) e in
-      let turn = step-turn (w .now) (h .source .answers) e .turn in
+  -- Any step of the line.
+  pub safe-on-line : {u : World} → LineStep (w .now) u →
+      SafeRewind (record { now = u; checkpoints = w .checkpoints; memories = w .memories; asked = w .asked })
+  safe-on-line {u} l =
+      let m = line-moves l in
+      let turn = line-turn (h .source .answers) l .turn in
       record {
-        source = move-source (w .now .serving) (step (w .now) e .serving) m (h .source);
-        safe = step-safe (w .now) e (h .source .begun) (h .safe);
+        source = move-source (w .now .serving) (u .serving) m (h .source);
+        safe = line-safe l (h .source .begun) (h .safe);
         links = linked-on _ _ (w .checkpoints) (w .memories)
-            (sound-on P (step (w .now) e .serving .published) (v .end) (step (w .now) e .receiving .end)
-            (move-grows (w .now .serving) (step (w .now) e .serving) m .published)
-            (turn-open (w .now .serving .day) (isConnect e) (v .end) (h .safe .eight)
-            (step (w .now) e .receiving .end) _ _ turn))
+            (sound-on P (u .serving .published) (v .end) (u .receiving .end)
+            (move-grows (w .now .serving) (u .serving) m .published)
+            (turn-open (w .now .serving .day) (isLink l) (v .end) (h .safe .eight) (u .receiving .end) _ _ turn))
             (h .links);
       }
 
   pub safe-step : (e : RewindEvent) → SafeRewind (rewindStep w e)
-  safe-step (call e) = called e
+  safe-step (call e) = safe-on-line (calls e)
   safe-step (keep name) = kept name _ (keep-as (w .checkpoints) (v .end) name)
   safe-step (restore name) = brought name _ (restore-as (w .checkpoints) (v .end) name)
 

@@ -30,12 +30,12 @@ use Rattle.flow.proofs.common.Days.{Upto, upto-along}
 use Rattle.flow.proofs.calls.Receiving.{Opened-as, opens, open-as}
 use Rattle.flow.proofs.ends.ReceiverLookups.{Eight}
 use Rattle.flow.proofs.steps.Turns.{turn-open}
-use Rattle.flow.proofs.source.Moves.{step-moves}
 use Rattle.flow.proofs.source.Days.{day-rises}
 use Rattle.flow.proofs.logins.Taken.{LoginTaken}
-use Rattle.flow.proofs.logins.Consistent.{isConnect, step-turn}
-use Rattle.flow.proofs.logins.Starts.{Timely, timely-step, timely-start}
-use Rattle.flow.proofs.lines.Steps.{run-steps, run-spares}
+use Rattle.flow.proofs.logins.Consistent.{isLink, line-turn}
+use Rattle.flow.proofs.logins.Starts.{Timely, timely-line, timely-start}
+use Rattle.flow.proofs.lines.Steps.{LineStep, calls, run-steps, run-spares}
+use Rattle.flow.proofs.lines.Moves.{line-moves}
 use Rattle.flow.proofs.second.Due.{grows-step}
 use Rattle.flow.proofs.second.Half.{caught-up, settled}
 use Rattle.flow.proofs.rewind.Lookups.{fresh-four}
@@ -171,22 +171,24 @@ module _ (w : RewindWorld) (h : TimelyRewind w) where
           same-day None = tt
           same-day (At d) = omega arith
 
-  called : (e : Event) → TimelyRewind (rewindStep w (call e))
-  called e =
-      let m = step-moves (w .now) e in
-      let turn = step-turn (w .now) (h .timely .source .answers) e .turn in
+  -- Any step of the line.
+  pub timely-on-line : {u : World} → LineStep (w .now) u →
+      TimelyRewind (record { now = u; checkpoints = w .checkpoints; memories = w .memories; asked = w .asked })
+  timely-on-line {u} l =
+      let m = line-moves l in
+      let turn = line-turn (h .timely .source .answers) l .turn in
       record {
-        timely = timely-step (w .now) (h .timely) e;
+        timely = timely-line (h .timely) l;
         links = linked-on _ _ (w .checkpoints) (w .memories)
-            (prior-on (w .now .serving .day) (step (w .now) e .serving .day) (v .end) (step (w .now) e .receiving .end)
-            (day-rises (w .now .serving) (step (w .now) e .serving) m (h .timely .source .served))
-            (turn-open (w .now .serving .day) (isConnect e) (v .end) (h .timely .receiving .eight)
-            (step (w .now) e .receiving .end) _ _ turn))
+            (prior-on (w .now .serving .day) (u .serving .day) (v .end) (u .receiving .end)
+            (day-rises (w .now .serving) (u .serving) m (h .timely .source .served))
+            (turn-open (w .now .serving .day) (isLink l) (v .end) (h .timely .receiving .eight) (u .receiving .end) _ _
+            turn))
             (h .links);
       }
 
   pub timely-next : (e : RewindEvent) → TimelyRewind (rewindStep w e)
-  timely-next (call e) = called e
+  timely-next (call e) = timely-on-line (calls e)
   timely-next (keep name) = kept name _ (keep-as (w .checkpoints) (v .end) name)
   timely-next (restore name) = brought name _ (restore-as (w .checkpoints) (v .end) name)
 
@@ -221,7 +223,7 @@ no-series : wrongSeries [] ≡ true
 unfolding wrongSeries
 no-series = refl
 
-refused-opening : (w : World) → step w (openReceiver []) ≡ receives w (runOver (w .receiving))
+pub refused-opening : (w : World) → step w (openReceiver []) ≡ receives w (runOver (w .receiving))
 refused-opening w = go (openEndOf (w .receiving .end) []) (open-as (w .receiving .end) [])
   where
     go : (r : Left Receiver Opened) → Opened-as (w .receiving .end) [] r
@@ -293,7 +295,7 @@ pub rewind-append : (w : RewindWorld) (es fs : List RewindEvent)
 rewind-append w [] fs = refl
 rewind-append w (e ∷ es) fs = rewind-append (rewindStep w e) es fs
 
-same-place : (s t i j : ℕ) (a b c d : List ℕ) → login s i a b ≡ login t j c d → i ≡ j
+pub same-place : (s t i j : ℕ) (a b c d : List ℕ) → login s i a b ≡ login t j c d → i ≡ j
 same-place s t i j a b c d q = cc
 
 pub rewind-complete : (log buffer : List ℕ) (es fs : List RewindEvent) (s i : ℕ) (content answer : List ℕ) (d : ℕ)

@@ -394,7 +394,7 @@ grows-step w h (World.receive i j) =
       size = receive-length (w .receiving .end) h (w .receiving .buffer) p;
     }))
 
-grows-line : {from : ℕ} {w v : World} → Timely from w → LineStep w v → Grows w v
+pub grows-line : {from : ℕ} {w v : World} → Timely from w → LineStep w v → Grows w v
 grows-line {w = w} h (calls e) = grows-step w (h .receiving .eight) e
 grows-line {w = w} h rests = grows-same w w refl (omega arith) refl
 grows-line h (turns-answer i a q x) = record { delivered = (_, refl); restarts = omega arith; size = refl }

@@ -1,15 +1,18 @@
-//! The differential test of the two ends, of named places and of the box: `calls [CALLS [SEED [WHAT]]]`. Random lists
-//! of calls on both sides, the proved ends and the models; each difference is printed with the calls before it, and
-//! makes the run fail. Then streams for a bufferful, cut at every place. Then a quarter as many calls of lists with
-//! named places, and as many of lists for the box between an exchange and three seats' ends. WHAT is `ends`, `named` or
-//! `box` for one of them alone; with `wrong` deliberately wrong boxes, and wrong programs for named places, are tried
-//! instead of the library's, and each has to be found.
+//! The differential test of the two ends, of named places, of the box, alone and in a row, and of the order of two
+//! ends: `calls [CALLS [SEED [WHAT]]]`. Random lists of calls on both sides, the proved ends and the models; each
+//! difference is printed with the calls before it, and makes the run fail. Then streams for a bufferful, cut at every
+//! place. Then a quarter as many calls of lists with named places, as many of lists for the box between an exchange and
+//! three seats' ends, a quarter as many for three boxes in a row; and pairs of ends, a twentieth as many. WHAT is
+//! `ends`, `named`, `box`, `row` or `order` for one of them alone; with `wrong` deliberately wrong boxes, and wrong
+//! programs for named places and for the order, are tried instead of the library's, and each has to be found.
 
 use outside::boxes::stand_in::{StandIn, FAULTS};
 use outside::boxes::Side;
 use outside::calls::boxes::Boxes;
+use outside::calls::orders::Orders;
 use outside::calls::Lists;
 use outside::checkpoints;
+use outside::orders;
 use outside::several::Cuts;
 use std::time::Instant;
 
@@ -19,6 +22,8 @@ const MOST: usize = 10;
 const ENOUGH: u64 = 1_000_000;
 /// Of so many calls of the ends one is spent on lists with named places.
 const SHARE: u64 = 4;
+/// And of so many one pair is put in order.
+const PAIRS: u64 = 20;
 
 /// The box that is tried: the library's, or without the feature `box` the model in its place.
 fn side() -> Box<dyn Side> {
@@ -36,6 +41,14 @@ fn named_side() -> Box<dyn checkpoints::Side> {
     Box::new(checkpoints::stand_in::StandIn::default())
 }
 
+/// What answers for the order of two ends: the library, or without the feature `order` the definitions in its place.
+fn order_side() -> Box<dyn orders::Side> {
+    #[cfg(feature = "order")]
+    return Box::new(orders::Library);
+    #[cfg(not(feature = "order"))]
+    Box::new(orders::stand_in::StandIn::default())
+}
+
 fn main() {
     let words: Vec<String> = std::env::args().skip(1).collect();
     let number = |i: usize, or: u64| words.get(i).map_or(or, |word| word.parse().expect("a number"));
@@ -44,7 +57,9 @@ fn main() {
     let mut differences = 0;
     if what == "wrong" {
         differences += wrong_boxes(calls, seed);
+        differences += wrong_rows(calls, seed);
         differences += wrong_names(calls, seed);
+        differences += wrong_orders(calls, seed);
     }
     if what.is_empty() || what == "ends" {
         differences += ends(calls, seed);
@@ -54,6 +69,12 @@ fn main() {
     }
     if what.is_empty() || what == "box" {
         differences += boxes(calls, seed);
+    }
+    if what.is_empty() || what == "row" {
+        differences += row(calls, seed);
+    }
+    if what.is_empty() || what == "order" {
+        differences += order(calls, seed);
     }
     println!("{differences} differences");
     if differences > 0 {
@@ -176,7 +197,7 @@ fn boxes(calls: u64, seed: u64) -> usize {
     println!(
         "the box, {}: {} calls in {count} lists, {} of them of the box, {} answers and buffers compared, {:.1} s, \
          {:.0} calls a second",
-        boxes.world.side.name(),
+        boxes.worlds[0].side.name(),
         counts.calls,
         counts.of_the_box,
         boxes.asked(),
@@ -200,6 +221,81 @@ fn boxes(calls: u64, seed: u64) -> usize {
     // In fewer calls some of it may be wanting.
     if calls >= ENOUGH {
         for what in counts.missing() {
+            differences += 1;
+            println!("MISSING: {what}");
+        }
+    }
+    differences
+}
+
+fn row(calls: u64, seed: u64) -> usize {
+    let mut boxes = Boxes::in_a_row(side, named_side());
+    let (mut count, mut differences) = (0, 0);
+    let start = Instant::now();
+    while boxes.counts.calls < calls / SHARE && differences < MOST {
+        count += 1;
+        if let Err(text) = boxes.list(seed * 1_000_000_007 + count, 300) {
+            differences += 1;
+            println!("DIFFERENCE in {text}");
+        }
+    }
+    let (seconds, counts) = (start.elapsed().as_secs_f64(), &boxes.counts);
+    println!(
+        "a row of three boxes, {}: {} calls in {count} lists, {} of them of the boxes, {} keeps and {} returns at the \
+         last end, {} answers and buffers compared, {} checks of demand 3 ({} and {} that all has arrived on the first \
+         line and on another, {} that the whole list has at the last end, {} of them behind returns), {:.1} s, {:.0} \
+         calls a second",
+        boxes.worlds[0].side.name(),
+        counts.calls,
+        counts.of_the_box,
+        counts.kept,
+        counts.returned,
+        boxes.asked(),
+        counts.demand,
+        counts.arrived[0],
+        counts.arrived[1],
+        counts.whole,
+        counts.whole_behind,
+        seconds,
+        counts.calls as f64 / seconds
+    );
+    if calls >= ENOUGH {
+        for what in boxes.row_missing() {
+            differences += 1;
+            println!("MISSING in rows: {what}");
+        }
+    }
+    differences
+}
+
+fn order(calls: u64, seed: u64) -> usize {
+    let mut orders = Orders::new(order_side(), side);
+    let (mut count, mut differences) = (0, 0);
+    let start = Instant::now();
+    while orders.pairs < calls / PAIRS && differences < MOST {
+        count += 1;
+        if let Err(text) = orders.list(seed * 1_000_000_007 + count) {
+            differences += 1;
+            println!("DIFFERENCE in {text}");
+        }
+    }
+    println!(
+        "the order of two ends, {}: {} pairs of {count} lists, {} of them by what was published too, {} answers \
+         compared, {:.1} s",
+        orders.side.name(),
+        orders.pairs,
+        orders.by_lists,
+        orders.asked.0,
+        start.elapsed().as_secs_f64()
+    );
+    for ((call, name, row), n) in &orders.answers {
+        match row {
+            0 => println!("  {call}: {name} {n}"),
+            _ => println!("  {call}: {name} {row} {n}"),
+        }
+    }
+    if calls >= ENOUGH {
+        for what in orders.missing() {
             differences += 1;
             println!("MISSING: {what}");
         }
@@ -260,6 +356,29 @@ fn wrong_names(calls: u64, seed: u64) -> usize {
     missed
 }
 
+/// Each wrong order is found by comparison. Those that the laws of the order shut out are also found without it.
+fn wrong_orders(calls: u64, seed: u64) -> usize {
+    let mut missed = 0;
+    for fault in orders::stand_in::FAULTS {
+        for (how, comparing) in [("comparison", true), ("its laws", false)] {
+            if !comparing && !fault.by_laws() {
+                continue;
+            }
+            let mut orders = Orders::new(Box::new(orders::stand_in::StandIn { fault: Some(fault) }), side);
+            orders.comparing = comparing;
+            let first = (1..calls / PAIRS).find_map(|count| orders.list(seed * 1_000_000_007 + count).err());
+            match first.and_then(|text| found(orders.pairs, &text)) {
+                Some(text) => println!("found: {fault:?} by {how}: {text}"),
+                None => {
+                    missed += 1;
+                    println!("MISSED: {fault:?} by {how}");
+                }
+            }
+        }
+    }
+    missed
+}
+
 /// Each wrong box is found by comparison. Those that the statements shut out are also found without it: by what holds
 /// of every box and of a seat alone, and most of them by demand 3 on the lines alone.
 fn wrong_boxes(calls: u64, seed: u64) -> usize {
@@ -272,7 +391,7 @@ fn wrong_boxes(calls: u64, seed: u64) -> usize {
                 continue;
             }
             let mut boxes = Boxes::new(Box::new(StandIn { fault: Some(fault) }));
-            boxes.world.comparing = comparing;
+            boxes.worlds[0].comparing = comparing;
             (boxes.joining, boxes.parting) = (joining, joining);
             match wrong_box(boxes, calls, seed) {
                 Some(text) => println!("found: {fault:?} by {how}: {text}"),
@@ -280,6 +399,27 @@ fn wrong_boxes(calls: u64, seed: u64) -> usize {
                     missed += usize::from(how != "demand 3");
                     println!("{}: {fault:?} by {how}", if how == "demand 3" { "not found" } else { "MISSED" });
                 }
+            }
+        }
+    }
+    missed
+}
+
+/// Rows of three such boxes: found without a comparison, by what the last end and each line heard alone.
+fn wrong_rows(calls: u64, seed: u64) -> usize {
+    let mut missed = 0;
+    for fault in FAULTS.into_iter().filter(|fault| fault.by_statements()) {
+        let side = || -> Box<dyn Side> { Box::new(StandIn { fault: Some(fault) }) };
+        let mut boxes = Boxes::in_a_row(side, named_side());
+        for world in &mut boxes.worlds {
+            world.comparing = false;
+        }
+        (boxes.joining, boxes.parting) = (false, false);
+        match wrong_box(boxes, calls, seed) {
+            Some(text) => println!("found: {fault:?} in a row: {text}"),
+            None => {
+                missed += usize::from(fault.in_a_row());
+                println!("{}: {fault:?} in a row", if fault.in_a_row() { "MISSED" } else { "not found" });
             }
         }
     }

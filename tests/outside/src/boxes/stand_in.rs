@@ -112,6 +112,11 @@ impl Fault {
                 | AskOpenDay
         )
     }
+
+    /// And does a row of three such boxes tell it, by what its lines and its last end hear alone?
+    pub fn in_a_row(self) -> bool {
+        self.by_statements() && self != Fault::TakesOut
+    }
 }
 
 /// The model, right or with a fault.

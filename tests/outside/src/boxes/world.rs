@@ -6,7 +6,7 @@ use super::{boxed, place_at, places, received, received_several, relay, sent, se
 use super::{Boxed, Places, Received, ReceivedSeveral, Sent, SentPacket, Side, PLACES};
 use crate::compare::Asked;
 use crate::ends::SEND_MESSAGE;
-use crate::world::{noisy_receiver, same_bytes, PATTERN};
+use crate::world::{flag, noisy_receiver, same_bytes, PATTERN};
 use crate::{Span, Written};
 use reader::generate::Random;
 use reader::relay::Relay;
@@ -225,6 +225,23 @@ impl Model {
     }
 }
 
+/// The same box with any numbers where they don't count.
+pub(crate) fn noisy_box(r: &mut Random, mut state: Boxed) -> Boxed {
+    state.receiver = noisy_receiver(r, state.receiver);
+    for one in state.reserves.iter_mut().skip(state.receiver.count) {
+        *one = r.next() as usize;
+    }
+    let day = &mut state.day;
+    if !flag(r, &mut day.dated) {
+        day.date = r.next() as u32;
+    }
+    for one in day.series.iter_mut().skip(day.count) {
+        (one.reserve, one.used) = (r.next() as usize, r.next() as usize);
+        (one.published, one.series) = (r.next() as u32, r.pick(&[0, 1, 2, 3]));
+    }
+    state
+}
+
 /// A call that was made, what was heard and what was written.
 struct Made {
     call: Call,
@@ -273,21 +290,7 @@ impl BoxWorld {
     /// The state as it is lent, and the places set so: any numbers where they don't count.
     fn noisy(&mut self) -> Boxed {
         let Some(r) = &mut self.noise else { return self.tried.state };
-        let mut state = self.tried.state;
-        state.receiver = noisy_receiver(r, state.receiver);
-        for one in state.reserves.iter_mut().skip(state.receiver.count) {
-            *one = r.next() as usize;
-        }
-        let day = &mut state.day;
-        if day.dated != 0 {
-            day.dated = r.within(1, 255) as u8;
-        } else {
-            day.date = r.next() as u32;
-        }
-        for one in day.series.iter_mut().skip(day.count) {
-            (one.reserve, one.used) = (r.next() as usize, r.next() as usize);
-            (one.published, one.series) = (r.next() as u32, r.pick(&[0, 1, 2, 3]));
-        }
+        let state = noisy_box(r, self.tried.state);
         for three in self.tried.places.chunks_mut(3) {
             if !r.once_in(8) {
                 continue;

@@ -1,9 +1,9 @@
 //! Random lists of calls for the box (document 02, No. 3): the exchange, the box with three seats' ends below it, and
-//! the lines between them. In an honest list only the lines are at fault, and the buffers that are lent: packets are
-//! lost, repeated and late at will; there both halves of demand 3 are checked on each line. In a damaged one packets
-//! are altered or made up, and login packets go to other seats; in a wild one the log and the chain buffer are altered
-//! too, and states set that no call made. After each list that only calls made, the calls are made once more without
-//! those of all seats but one.
+//! the lines between them; or three boxes in a row and an end behind the last one (No. 14, row.rs). In an honest list
+//! only the lines are at fault, and the buffers that are lent: packets are lost, repeated and late at will; there both
+//! halves of demand 3 are checked on each line. In a damaged one packets are altered or made up, and login packets go
+//! to other seats; in a wild one the log and the chain buffer are altered too, and states set that no call made. After
+//! each list that only calls made, the calls are made once more without those of all seats but one.
 
 use super::pieces::single_packets;
 use super::shares::some_reserves;
@@ -20,24 +20,30 @@ use reader::generate::Random;
 use reader::packet::{cut_apart, read, said_length, Packet};
 use reader::receiving::Kept;
 use reader::relay::SEATS;
-use reader::serving::LOGIN;
+use reader::serving::{Day, LOGIN};
 
 mod counts;
+mod row;
 mod wild;
 
 use counts::{joined, Counts};
+use row::Row;
 
-/// The line from the exchange to the box; the others are those of three seats.
+/// The line from the exchange to the box; the others are those of three seats. In a row each is of a seat of the box
+/// that the one before it leads to.
 const ABOVE: usize = 0;
 const ENDS: usize = 3;
 const LINES: usize = 1 + ENDS;
 
 pub struct Boxes {
-    pub world: BoxWorld,
+    /// The box, or those of the row from above.
+    pub worlds: Vec<BoxWorld>,
     exchange: World,
     ends: Vec<World>,
-    /// The seats that the ends are at.
+    /// The seats that the lines from below are at.
     seats: [usize; ENDS],
+    /// Of a row: what happens at its last end.
+    row: Option<Row>,
     lines: [Line; LINES],
     histories: [History; LINES],
     contents: Contents,
@@ -74,10 +80,11 @@ fn last_packet(mut bytes: &[u8]) -> &[u8] {
 impl Boxes {
     pub fn new(side: Box<dyn Side>) -> Self {
         Boxes {
-            world: BoxWorld::new(side),
+            worlds: vec![BoxWorld::new(side)],
             exchange: World::default(),
             ends: (0..ENDS).map(|_| World::default()).collect(),
             seats: [0; ENDS],
+            row: None,
             lines: Default::default(),
             histories: Default::default(),
             contents: Contents::new(),
@@ -93,7 +100,29 @@ impl Boxes {
 
     /// Answers and buffers compared, of all ends.
     pub fn asked(&self) -> u64 {
-        self.world.asked.0 + self.exchange.asked.0 + self.ends.iter().map(|end| end.asked.0).sum::<u64>()
+        let boxes = self.worlds.iter().map(|one| one.asked.0).sum::<u64>();
+        boxes + self.exchange.asked.0 + self.ends.iter().map(|end| end.asked.0).sum::<u64>()
+    }
+
+    /// The box that serves a line; none where the exchange does.
+    fn above(&self, line: usize) -> Option<usize> {
+        line.checked_sub(1).map(|before| if self.row.is_some() { before } else { 0 })
+    }
+
+    /// The box that a line leads to; none where it leads to an end.
+    fn below(&self, line: usize) -> Option<usize> {
+        (line < self.worlds.len()).then_some(line)
+    }
+
+    /// The end that it leads to.
+    fn end(&mut self, line: usize) -> &mut World {
+        let place = line - self.worlds.len();
+        &mut self.ends[place]
+    }
+
+    /// The lines that a box serves.
+    fn served_by(&self, of: usize) -> Vec<usize> {
+        (0..LINES).filter(|&line| self.above(line) == Some(of)).collect()
     }
 
     /// A list of about so many calls; the first difference with the calls of the box that led to it.
@@ -113,7 +142,8 @@ impl Boxes {
 
     fn try_list(&mut self, seed: u64, calls: usize) -> Result<(), String> {
         let r = &mut Random::new(seed);
-        self.kind = r.pick(&[Kind::Honest, Kind::Honest, Kind::Damaged, Kind::Wild]);
+        let other = if self.row.is_some() { Kind::Honest } else { Kind::Wild };
+        self.kind = r.pick(&[Kind::Honest, Kind::Honest, Kind::Damaged, other]);
         self.lines = Default::default();
         self.histories = Default::default();
         let many = if r.once_in(12) { 8 } else { r.within(1, 3) };
@@ -123,7 +153,8 @@ impl Boxes {
         }
         let mut seats: Vec<usize> = (0..SEATS).collect();
         r.shuffle(&mut seats);
-        self.seats = if r.once_in(4) { [0, 14, 15] } else { [seats[0], seats[1], seats[2]] };
+        let few = if self.row.is_some() { 2 } else { 4 };
+        self.seats = if r.once_in(few) { [0, 14, 15] } else { [seats[0], seats[1], seats[2]] };
         let log = match r.below(8) {
             0 => r.below(200),
             1 => 40_000,
@@ -140,8 +171,11 @@ impl Boxes {
         for end in &mut self.ends {
             end.fresh(0, buffer)?;
         }
-        self.world.fresh(own, buffer, self.kind != Kind::Wild && self.parting)?;
-        self.world.noise = (self.kind == Kind::Wild).then(|| r.clone());
+        for world in &mut self.worlds {
+            world.fresh(own, buffer, self.kind != Kind::Wild && self.parting)?;
+            world.noise = (self.kind == Kind::Wild).then(|| r.clone());
+        }
+        self.begin_row(r)?;
         let until = self.counts.calls + calls as u64;
         if !r.once_in(8) {
             self.start(r)?;
@@ -153,10 +187,13 @@ impl Boxes {
             for line in 0..LINES {
                 self.catch_up(line)?;
             }
+            self.end_row()?;
         }
         if self.kind != Kind::Wild && self.parting {
-            let seat = if r.once_in(4) { r.below(SEATS) } else { self.seats[r.below(ENDS)] };
-            self.counts.left_out += self.world.alone(seat)?;
+            let of = r.below(self.worlds.len());
+            let own = self.served_by(of);
+            let seat = if r.once_in(4) { r.below(SEATS) } else { self.seats[own[r.below(own.len())] - 1] };
+            self.counts.left_out += self.worlds[of].alone(seat)?;
             self.counts.alone += 1;
         }
         Ok(())
@@ -196,22 +233,22 @@ impl Boxes {
         Ok(())
     }
 
-    /// A call of the box.
-    fn call(&mut self, call: Call) -> Result<Heard, String> {
+    /// A call of a box.
+    fn call(&mut self, of: usize, call: Call) -> Result<Heard, String> {
         self.counts.calls += 1;
         self.counts.of_the_box += 1;
-        let before = self.world.model.relay;
-        let heard = self.world.call(call.clone())?;
-        self.look(&before, &call, &heard);
+        let before = self.worlds[of].model.relay;
+        let heard = self.worlds[of].call(call.clone())?;
+        self.look(of, &before, &call, &heard);
         if self.kind != Kind::Wild && self.joining {
-            joined(&self.world.model.relay)?;
+            joined(&self.worlds[of].model.relay)?;
             let handed_on = match call {
                 Call::Receive { ref packet, .. } if heard.answer == HANDED_ON => Some(packet),
                 Call::Several { ref packets, .. } if heard.answer == SEVERAL_MESSAGE => Some(packets),
                 _ => None,
             };
             if let Some(given) = handed_on {
-                self.published_below(&before, given, &heard)?;
+                self.published_below(of, &before, given, &heard)?;
             }
         }
         Ok(heard)
@@ -228,8 +265,11 @@ impl Boxes {
     }
 
     fn step(&mut self, r: &mut Random) -> Result<(), String> {
-        let line = if r.once_in(2) { ABOVE } else { r.within(1, ENDS) };
+        let line = if self.row.is_none() && r.once_in(2) { ABOVE } else { r.below(LINES) };
         let series = self.series(r);
+        if self.row.is_some() && r.once_in(4) {
+            return self.row_step(r, series);
+        }
         match r.below(100) {
             0 => self.open_day(r),
             1 => self.open_end(r, line),
@@ -316,12 +356,12 @@ impl Boxes {
 
     fn open_end(&mut self, r: &mut Random, line: usize) -> Result<(), String> {
         let series = self.some_series(r);
-        let opened = if line == ABOVE {
-            let reserves = some_reserves(r, series.len(), self.world.tried.log.len());
-            self.call(Call::Open { series, reserves })?.refusal == 0
+        let opened = if let Some(of) = self.below(line) {
+            let reserves = some_reserves(r, series.len(), self.worlds[of].tried.log.len());
+            self.call(of, Call::Open { series, reserves })?.refusal == 0
         } else {
             self.counts.calls += 1;
-            self.ends[line - 1].open_end(&series)?.is_ok()
+            self.end(line).open_end(&series)?.is_ok()
         };
         if opened {
             self.histories[line].disturbed();
@@ -330,11 +370,11 @@ impl Boxes {
     }
 
     fn connect(&mut self, line: usize) -> Result<(), String> {
-        if line == ABOVE {
-            self.call(Call::Connect)?;
+        if let Some(of) = self.below(line) {
+            self.call(of, Call::Connect)?;
         } else {
             self.counts.calls += 1;
-            _ = self.ends[line - 1].connect()?;
+            _ = self.end(line).connect()?;
         }
         self.histories[line].disturbed();
         Ok(())
@@ -353,24 +393,22 @@ impl Boxes {
 
     /// What the receiving end of a line keeps.
     fn open(&self, line: usize) -> Few<Kept> {
-        if line == ABOVE {
-            self.world.model.relay.receiving.open
-        } else {
-            self.ends[line - 1].receiving.open
+        match self.below(line) {
+            Some(of) => self.worlds[of].model.relay.receiving.open,
+            None => self.ends[line - self.worlds.len()].receiving.open,
         }
+    }
+
+    /// The day of the serving end of a line.
+    fn day(&self, line: usize) -> Option<Day> {
+        self.above(line).map_or(self.exchange.serving.day, |of| self.worlds[of].model.relay.below.day)
     }
 
     /// Mark and published of a series at the serving end of a line.
     fn served(&self, line: usize, series: u16) -> (u32, u32) {
-        if line == ABOVE {
-            let day = self.exchange.serving.day;
-            let one = day.and_then(|day| day.open.iter().find(|one| one.series == series).copied());
-            (day.map_or(1, |day| day.mark), one.map_or(0, |one| one.published))
-        } else {
-            let day = self.world.model.relay.below.day;
-            let one = day.and_then(|day| day.open.iter().find(|one| one.series == series).copied());
-            (day.map_or(1, |day| day.mark), one.map_or(0, |one| one.published))
-        }
+        let day = self.day(line);
+        let one = day.and_then(|day| day.open.iter().find(|one| one.series == series).copied());
+        (day.map_or(1, |day| day.mark), one.map_or(0, |one| one.published))
     }
 
     fn ask(&mut self, r: &mut Random, line: usize, series: u16) -> Result<(), String> {
@@ -381,18 +419,18 @@ impl Boxes {
     }
 
     fn ask_with(&mut self, line: usize, series: u16, content: &Bytes, room: usize) -> Result<(), String> {
-        let packet: Bytes = if line == ABOVE {
-            let heard = self.call(Call::Ask { series, content: content.clone(), room })?;
+        let packet: Bytes = if let Some(of) = self.below(line) {
+            let heard = self.call(of, Call::Ask { series, content: content.clone(), room })?;
             if heard.refusal != 0 {
                 return Ok(());
             }
-            self.world.written(&heard)
+            self.worlds[of].written(&heard)
         } else {
             self.counts.calls += 1;
-            if self.ends[line - 1].ask(series, content, room)?.is_err() {
+            if self.end(line).ask(series, content, room)?.is_err() {
                 return Ok(());
             }
-            self.ends[line - 1].written[..].into()
+            self.end(line).written[..].into()
         };
         self.lines[line].logins.push((series, packet));
         Ok(())
@@ -401,7 +439,8 @@ impl Boxes {
     /// A login packet of the line. Where they aren't honest also one of another line, of any start, or damaged.
     fn login(&mut self, r: &mut Random, line: usize) -> Result<(), String> {
         let from = if self.kind != Kind::Honest && r.once_in(8) { r.below(LINES) } else { line };
-        let (mut series, mut packet) = late(r, &self.lines[from].logins).unwrap_or((1, [].into()));
+        let place = late_place(r, self.lines[from].logins.len());
+        let (mut series, mut packet) = place.map_or((1, [].into()), |place| self.lines[from].logins[place].clone());
         if self.kind == Kind::Honest && packet.is_empty() {
             return Ok(());
         }
@@ -416,7 +455,14 @@ impl Boxes {
                 packet = damaged(r, &packet).into();
             }
         }
-        self.login_with(r, line, series, &packet)
+        let answers = self.lines[line].answers.len();
+        self.login_with(r, line, series, &packet)?;
+        // Asked for before a return, it owes nothing.
+        if self.lines[line].answers.len() > answers && place.is_some_and(|place| place < self.lines[line].asked_before)
+        {
+            self.histories[line].let_off(series);
+        }
+        Ok(())
     }
 
     fn login_with(&mut self, r: &mut Random, line: usize, series: u16, packet: &Bytes) -> Result<(), String> {
@@ -433,19 +479,19 @@ impl Boxes {
         content: &Bytes,
         room: usize,
     ) -> Result<(), String> {
-        let answer: Bytes = if line == ABOVE {
+        let answer: Bytes = if let Some(of) = self.above(line) {
+            let (seat, packet, content) = (self.seats[line - 1], packet.clone(), content.clone());
+            let heard = self.call(of, Call::Login { seat, series, packet, content, room })?;
+            if heard.refusal != 0 {
+                return Ok(());
+            }
+            self.worlds[of].written(&heard)
+        } else {
             self.counts.calls += 1;
             if self.exchange.login(series, packet, content, room)?.is_err() {
                 return Ok(());
             }
             self.exchange.written[..].into()
-        } else {
-            let (seat, packet, content) = (self.seats[line - 1], packet.clone(), content.clone());
-            let heard = self.call(Call::Login { seat, series, packet, content, room })?;
-            if heard.refusal != 0 {
-                return Ok(());
-            }
-            self.world.written(&heard)
         };
         self.lines[line].answers.push((series, answer.clone()));
         self.lines[line].unfinished.remove(&series);
@@ -455,17 +501,21 @@ impl Boxes {
 
     /// A login, or a Send, at any seat: at those that no end is at, and at none.
     fn other_seat(&mut self, r: &mut Random) -> Result<(), String> {
-        let seat = any_seat(r);
-        if self.seats.contains(&seat) && self.kind == Kind::Honest {
+        let of = r.below(self.worlds.len());
+        let own = self.served_by(of);
+        // Beside a row often at the seat next to the row's.
+        let seat = if self.row.is_some() && r.once_in(2) { self.seats[own[0] - 1] ^ 1 } else { any_seat(r) };
+        if own.iter().any(|&line| self.seats[line - 1] == seat) && self.kind == Kind::Honest {
             return Ok(());
         }
-        let (series, log, room) = (self.series(r), self.log(r), r.pick(&[0, 25, 200, MOST_PACKET, MOST_OUTPUT]));
+        let (series, log, room) =
+            (self.series(r), self.log(r, Some(of)), r.pick(&[0, 25, 200, MOST_PACKET, MOST_OUTPUT]));
         let call = match r.below(3) {
             0 => {
-                let of = r.below(LINES);
-                let (series, mut packet) = late(r, &self.lines[of].logins).unwrap_or((series, [].into()));
+                let from = r.below(LINES);
+                let (series, mut packet) = late(r, &self.lines[from].logins).unwrap_or((series, [].into()));
                 if r.once_in(3) {
-                    packet = self.made_up_login(r, 1, series).into();
+                    packet = self.made_up_login(r, own[0], series).into();
                 }
                 if r.once_in(4) {
                     packet = damaged(r, &packet).into();
@@ -475,7 +525,7 @@ impl Boxes {
             1 => Call::Send { seat, series, log, room },
             _ => Call::SendPacket { seat, series, log, room },
         };
-        self.call(call).map(|_| ())
+        self.call(of, call).map(|_| ())
     }
 
     fn answer(&mut self, r: &mut Random, line: usize) -> Result<(), String> {
@@ -486,7 +536,8 @@ impl Boxes {
         if self.kind != Kind::Honest {
             if r.once_in(3) {
                 series = self.series(r);
-                let day = self.world.model.relay.below.day.filter(|_| line == ABOVE && r.once_in(2));
+                let day = self.below(line).and_then(|of| self.worlds[of].model.relay.below.day);
+                let day = day.filter(|_| r.once_in(2));
                 let day = day.map(|day| day.mark.wrapping_add(r.pick(&[0, 0, 1])));
                 let mark = day.or(kept(&self.open(line), series).mark).unwrap_or(r.below(3) as u32);
                 let of = r.pick(&[(0, 0), (0, 0), (0, 0), (0, 0), (0, 1), (1, 0)]);
@@ -498,23 +549,23 @@ impl Boxes {
                 packet = damaged(r, &packet).into();
             }
         }
-        let log = self.log(r);
+        let log = self.log(r, self.below(line));
         self.answer_with(line, series, &packet, log)
     }
 
     fn answer_with(&mut self, line: usize, series: u16, packet: &Bytes, log: usize) -> Result<(), String> {
-        let answer = if line == ABOVE {
-            let before = self.world.model.relay.below.day.map(|day| day.mark);
-            let heard = self.call(Call::Answer { series, packet: packet.clone(), log })?;
-            let mark = self.world.model.relay.below.day.map(|day| day.mark);
+        let answer = if let Some(of) = self.below(line) {
+            let before = self.worlds[of].model.relay.below.day.map(|day| day.mark);
+            let heard = self.call(of, Call::Answer { series, packet: packet.clone(), log })?;
+            let mark = self.worlds[of].model.relay.below.day.map(|day| day.mark);
             if let (true, Some(mark)) = (mark != before, mark) {
-                for line in 1..LINES {
+                for line in self.served_by(of) {
                     self.histories[line].opened(mark);
                     self.lines[line].unfinished.clear();
                 }
             }
             if heard.refusal == 11 {
-                self.histories[ABOVE].let_off(series);
+                self.histories[line].let_off(series);
             }
             if heard.refusal == 0 {
                 Ok(heard.last)
@@ -523,21 +574,24 @@ impl Boxes {
             }
         } else {
             self.counts.calls += 1;
-            self.ends[line - 1].answer(series, packet)?
+            self.end(line).answer(series, packet)?
         };
         self.histories[line].delivered(&Delivery::Answer(series, packet.clone()));
         if let (Ok(last), Kind::Honest) = (answer, self.kind) {
             let Packet::Message(message) = read(packet) else { return Err("an answer that is no packet".to_string()) };
             self.counts.demand += 1;
             self.histories[line].answered(series, message.mark.unwrap_or(0), last)?;
+            self.reported(line, series, last);
+            self.days()?;
         }
         Ok(())
     }
 
-    /// How much of the box's log is lent.
-    fn log(&self, r: &mut Random) -> usize {
-        let all = self.world.tried.log.len();
-        let used = self.world.model.relay.below.day.map_or(0, |day| day.used).min(all);
+    /// How much of a box's log is lent.
+    fn log(&self, r: &mut Random, of: Option<usize>) -> usize {
+        let Some(of) = of.map(|of| &self.worlds[of]) else { return 0 };
+        let all = of.tried.log.len();
+        let used = of.model.relay.below.day.map_or(0, |day| day.used).min(all);
         match r.below(30) {
             0 => r.pick(&[used.saturating_sub(1), used, used + (all - used) / 2, 0]),
             1 => (used + r.below(60)).min(all),
@@ -545,14 +599,18 @@ impl Boxes {
         }
     }
 
+    fn all_of_the_log(&self, of: Option<usize>) -> usize {
+        of.map_or(0, |of| self.worlds[of].tried.log.len())
+    }
+
     fn send(&mut self, r: &mut Random, line: usize, series: u16) -> Result<(), String> {
-        let (log, mut out) = (self.log(r), vec![]);
-        let sent = if line == ABOVE {
+        let (log, mut out) = (self.log(r, self.above(line)), vec![]);
+        let sent = if let Some(of) = self.above(line).map(|of| &self.worlds[of]) {
+            let mut copy = of.model.relay;
+            copy.send(self.seats[line - 1], series, &of.tried.log[..log], usize::MAX, &mut out)
+        } else {
             let mut copy = self.exchange.serving;
             copy.send(series, &self.exchange.logs[0], usize::MAX, &mut out)
-        } else {
-            let mut copy = self.world.model.relay;
-            copy.send(self.seats[line - 1], series, &self.world.tried.log[..log], usize::MAX, &mut out)
         };
         let takes = if matches!(sent, Ok(Some(_))) { out.len() } else { r.below(40) };
         let room = room(r, takes);
@@ -561,14 +619,14 @@ impl Boxes {
 
     /// A message whole. Gives where the line has it.
     fn send_with(&mut self, line: usize, series: u16, log: usize, room: usize) -> Result<Option<usize>, String> {
-        let (answer, written): (Result<Option<u32>, u8>, Bytes) = if line == ABOVE {
+        let (answer, written): (Result<Option<u32>, u8>, Bytes) = if let Some(of) = self.above(line) {
+            let heard = self.call(of, Call::Send { seat: self.seats[line - 1], series, log, room })?;
+            let sent = (heard.answer == SEND_MESSAGE).then_some(heard.last);
+            (if heard.refusal == 0 { Ok(sent) } else { Err(heard.refusal) }, self.worlds[of].written(&heard))
+        } else {
             self.counts.calls += 1;
             let log = self.exchange.logs[0].len();
             (self.exchange.send(series, log, room)?, self.exchange.written[..].into())
-        } else {
-            let heard = self.call(Call::Send { seat: self.seats[line - 1], series, log, room })?;
-            let sent = (heard.answer == SEND_MESSAGE).then_some(heard.last);
-            (if heard.refusal == 0 { Ok(sent) } else { Err(heard.refusal) }, self.world.written(&heard))
         };
         self.none_left(line, series, answer == Ok(None))?;
         let Ok(Some(number)) = answer else { return Ok(None) };
@@ -579,13 +637,13 @@ impl Boxes {
     }
 
     fn send_packet(&mut self, r: &mut Random, line: usize, series: u16) -> Result<Option<usize>, String> {
-        let (log, mut out) = (self.log(r), vec![]);
-        let sent = if line == ABOVE {
+        let (log, mut out) = (self.log(r, self.above(line)), vec![]);
+        let sent = if let Some(of) = self.above(line).map(|of| &self.worlds[of]) {
+            let mut copy = of.model.relay;
+            copy.send_packet(self.seats[line - 1], series, &of.tried.log[..log], usize::MAX, &mut out)
+        } else {
             let mut copy = self.exchange.serving;
             copy.send_packet(series, &self.exchange.logs[0], usize::MAX, &mut out)
-        } else {
-            let mut copy = self.world.model.relay;
-            copy.send_packet(self.seats[line - 1], series, &self.world.tried.log[..log], usize::MAX, &mut out)
         };
         let takes = if matches!(sent, Ok(Some(_))) { out.len() } else { r.below(40) };
         let room = room(r, takes);
@@ -594,15 +652,15 @@ impl Boxes {
 
     /// One packet. Gives where the line has its message.
     fn send_packet_with(&mut self, line: usize, series: u16, log: usize, room: usize) -> Result<Option<usize>, String> {
-        let (answer, written): (Result<Option<(u32, bool)>, u8>, Bytes) = if line == ABOVE {
+        let (answer, written): (Result<Option<(u32, bool)>, u8>, Bytes) = if let Some(of) = self.above(line) {
+            let heard = self.call(of, Call::SendPacket { seat: self.seats[line - 1], series, log, room })?;
+            let sent = (heard.answer == SEND_MESSAGE).then_some((heard.last, heard.whole != 0));
+            (if heard.refusal == 0 { Ok(sent) } else { Err(heard.refusal) }, self.worlds[of].written(&heard))
+        } else {
             self.counts.calls += 1;
             let log = self.exchange.logs[0].len();
             let answer = self.exchange.send_packet(series, log, room)?;
             (answer.map(|one| one.map(|one| (one.number, one.last))), self.exchange.written[..].into())
-        } else {
-            let heard = self.call(Call::SendPacket { seat: self.seats[line - 1], series, log, room })?;
-            let sent = (heard.answer == SEND_MESSAGE).then_some((heard.last, heard.whole != 0));
-            (if heard.refusal == 0 { Ok(sent) } else { Err(heard.refusal) }, self.world.written(&heard))
         };
         self.none_left(line, series, answer == Ok(None))?;
         let Ok(Some((number, last))) = answer else { return Ok(None) };
@@ -628,6 +686,7 @@ impl Boxes {
         if none && self.kind == Kind::Honest && self.of_line(line, self.histories[line].none_left(series))? {
             self.counts.demand += 1;
             self.counts.arrived[usize::from(line != ABOVE)] += 1;
+            self.whole_row(series)?;
         }
         Ok(())
     }
@@ -636,16 +695,25 @@ impl Boxes {
     fn of_line<T>(&self, line: usize, check: Result<T, String>) -> Result<T, String> {
         check.map_err(|text| match line {
             ABOVE => format!("on the line from above: {text}"),
+            _ if self.row.is_some() => format!("on line {line} of the row: {text}"),
             _ => format!("on the line of seat {}: {text}", self.seats[line - 1]),
         })
     }
 
     // --- What the receiving ends are handed ---
 
+    /// The chain buffer of the receiving end of a line.
+    fn lent(&self, line: usize) -> &[u8] {
+        match self.below(line) {
+            Some(of) => &self.worlds[of].tried.buffer,
+            None => &self.ends[line - self.worlds.len()].buffers[0],
+        }
+    }
+
     /// How much of a chain buffer is lent. Where it hasn't all its parts nothing is owed any more.
     fn buffer(&mut self, r: &mut Random, line: usize) -> usize {
         let parts = self.open(line).len() * BUFFER;
-        let all = if line == ABOVE { self.world.tried.buffer.len() } else { self.ends[line - 1].buffers[0].len() };
+        let all = self.lent(line).len();
         let buffer = match r.below(24) {
             0 => parts.saturating_sub(1),
             1 => r.below(parts + 1),
@@ -661,17 +729,16 @@ impl Boxes {
     }
 
     fn receive(&mut self, r: &mut Random, line: usize, packet: &Bytes) -> Result<(), String> {
-        let (log, buffer) = (self.log(r), self.buffer(r, line));
+        let (log, buffer) = (self.log(r, self.below(line)), self.buffer(r, line));
         self.receive_with(line, packet, log, buffer)
     }
 
     fn receive_with(&mut self, line: usize, packet: &Bytes, log: usize, buffer: usize) -> Result<(), String> {
-        let heard: Heard = if line == ABOVE {
-            self.call(Call::Receive { packet: packet.clone(), log, buffer })?
+        let heard: Heard = if let Some(of) = self.below(line) {
+            self.call(of, Call::Receive { packet: packet.clone(), log, buffer })?
         } else {
             self.counts.calls += 1;
-            let end = &mut self.ends[line - 1];
-            let Ok(taken) = end.receive(packet, buffer)? else { return Ok(()) };
+            let Ok(taken) = self.end(line).receive(packet, buffer)? else { return Ok(()) };
             let crate::ends::Received { content, last, tid, answer, origin, .. } = taken;
             Heard { content, last, tid, answer, origin, ..Heard::default() }
         };
@@ -679,16 +746,16 @@ impl Boxes {
             IDLE => Ok(()),
             AGAIN | HELD | HANDED_ON => self.hear(line, packet, &heard, heard.answer == HANDED_ON),
             _ => {
-                self.not_taken(packet, heard.refusal);
+                self.not_taken(line, packet, heard.refusal);
                 Ok(())
             }
         }
     }
 
-    /// A refusal of the box: where the log didn't take the message nothing is owed any more.
-    fn not_taken(&mut self, packet: &[u8], row: u8) {
+    /// A refusal of a box: where the log didn't take the message nothing is owed any more.
+    fn not_taken(&mut self, line: usize, packet: &[u8], row: u8) {
         if let (18 | 20, Packet::Message(piece)) = (row, read(packet)) {
-            self.histories[ABOVE].let_off(piece.series);
+            self.histories[line].let_off(piece.series);
         }
     }
 
@@ -704,8 +771,8 @@ impl Boxes {
         };
         self.counts.demand += 1;
         if handed_on {
-            let buffer = if line == ABOVE { &self.world.tried.buffer } else { &self.ends[line - 1].buffers[0] };
-            let content = heard.content.of(if heard.origin == IN_PACKET { given } else { buffer }).to_vec();
+            let bytes = if heard.origin == IN_PACKET { given } else { self.lent(line) };
+            let content = heard.content.of(bytes).to_vec();
             let mark = message.mark.unwrap_or(0);
             let right = self.histories[line].handed_on(message.series, mark, heard.tid, &content);
             self.of_line(line, right)?;
@@ -715,13 +782,13 @@ impl Boxes {
                 let text = format!("message {number} of series {}, day {mark}, isn't the exchange's", message.series);
                 return self.of_line(line, Err(text));
             }
-            if line == ABOVE {
-                for history in &mut self.histories[1..] {
-                    history.published(message.series, heard.tid, &content);
-                }
+            for below in self.below(line).map_or(vec![], |of| self.served_by(of)) {
+                self.histories[below].published(message.series, heard.tid, &content);
             }
+            self.handed_on(line, &message, heard.tid, content);
         }
         let right = self.histories[line].reported(message.series, heard.last);
+        self.reported(line, message.series, heard.last);
         self.of_line(line, right)
     }
 
@@ -750,7 +817,7 @@ impl Boxes {
             }
             self.hand_over(r, line, place, i)?;
             // Calls of seats stand within a run from above; they are no calls of the box's receiving end.
-            if line == ABOVE && r.once_in(12) {
+            if self.below(line).is_some() && r.once_in(12) {
                 self.other_seat(r)?;
             }
         }
@@ -759,7 +826,7 @@ impl Boxes {
 
     /// Packet i of a message, in a run with those before it.
     fn hand_over(&mut self, r: &mut Random, line: usize, place: usize, i: usize) -> Result<(), String> {
-        let (log, buffer) = (self.log(r), self.buffer(r, line));
+        let (log, buffer) = (self.log(r, self.below(line)), self.buffer(r, line));
         self.hand_over_with(line, place, i, log, buffer)
     }
 
@@ -815,7 +882,8 @@ impl Boxes {
                 }
             }
         }
-        let (cut, log, buffer) = (r.below(bytes.len() + 1), self.log(r), self.buffer(r, line));
+        let (cut, log) = (r.below(bytes.len() + 1), self.log(r, self.below(line)));
+        let buffer = self.buffer(r, line);
         self.receive_cut(line, &bytes, cut, log, buffer)?;
         for one in whole {
             self.histories[line].delivered(&one);
@@ -828,18 +896,18 @@ impl Boxes {
         for to in [cut, bytes.len()] {
             loop {
                 let given: Bytes = bytes[taken..to].into();
-                let heard: Heard = if line == ABOVE {
-                    self.call(Call::Several { packets: given.clone(), log, buffer })?
+                let heard: Heard = if let Some(of) = self.below(line) {
+                    self.call(of, Call::Several { packets: given.clone(), log, buffer })?
                 } else {
                     self.counts.calls += 1;
-                    let answer = self.ends[line - 1].receive_several(&given, buffer)?;
+                    let answer = self.end(line).receive_several(&given, buffer)?;
                     let crate::ends::ReceivedSeveral { content, taken, last, tid, answer, origin, .. } = answer;
                     Heard { content, taken, last, tid, answer, origin, ..Heard::default() }
                 };
                 match heard.answer {
                     SEVERAL_MESSAGE => self.hear(line, &given, &heard, true)?,
-                    SEVERAL_REFUSED if line == ABOVE => {
-                        self.not_taken(last_packet(&given[..heard.taken]), heard.refusal)
+                    SEVERAL_REFUSED if self.below(line).is_some() => {
+                        self.not_taken(line, last_packet(&given[..heard.taken]), heard.refusal)
                     }
                     _ => {}
                 }
@@ -864,7 +932,7 @@ impl Boxes {
             self.login_with(r, line, series, &packet)?;
         }
         if self.lines[line].answers.len() > before.1 {
-            let (packet, log) = (self.lines[line].answers[before.1].1.clone(), self.log(r));
+            let (packet, log) = (self.lines[line].answers[before.1].1.clone(), self.log(r, self.below(line)));
             self.answer_with(line, series, &packet, log)?;
         }
         Ok(())
@@ -873,7 +941,7 @@ impl Boxes {
     /// Some messages, each sent whole and handed over at once.
     fn pass(&mut self, r: &mut Random, line: usize, series: u16) -> Result<(), String> {
         for _ in 0..r.within(1, 4) {
-            let log = self.log(r);
+            let log = self.log(r, self.above(line));
             let Some(place) = self.send_with(line, series, log, MOST_OUTPUT)? else { return Ok(()) };
             for i in 0..self.lines[line].messages[place].packets.len() {
                 self.hand_over(r, line, place, i)?;
@@ -918,17 +986,12 @@ impl Boxes {
     /// All that is left of the day arrives, with large buffers; then as much is reported as was published, unless the
     /// log of the box hasn't taken something.
     fn catch_up(&mut self, line: usize) -> Result<(), String> {
-        let all = if line == ABOVE { self.world.tried.buffer.len() } else { self.ends[line - 1].buffers[0].len() };
-        if all < self.open(line).len() * BUFFER {
+        if self.lent(line).len() < self.open(line).len() * BUFFER {
             return Ok(());
         }
         self.connect(line)?;
-        let log = self.world.tried.log.len();
-        let open: Vec<u16> = if line == ABOVE {
-            self.exchange.serving.day.map_or(vec![], |day| day.open.iter().map(|one| one.series).collect())
-        } else {
-            self.world.model.relay.below.day.map_or(vec![], |day| day.open.iter().map(|one| one.series).collect())
-        };
+        let log = self.all_of_the_log(self.below(line));
+        let open: Vec<u16> = self.day(line).map_or(vec![], |day| day.open.iter().map(|one| one.series).collect());
         let (request, content): (Bytes, Bytes) = (self.contents.request[..].into(), self.contents.answer[..].into());
         for series in open {
             if !self.open(line).iter().any(|kept| kept.series == series) {
@@ -961,18 +1024,18 @@ impl Boxes {
     /// The next message is sent and arrives: whole as a run, whole as a bufferful, packet by packet. Gives whether
     /// there was one.
     fn arrives(&mut self, line: usize, series: u16, how: usize) -> Result<bool, String> {
-        let log = self.world.tried.log.len();
-        let all = if line == ABOVE { self.world.tried.buffer.len() } else { self.ends[line - 1].buffers[0].len() };
+        let (own, log) = (self.all_of_the_log(self.above(line)), self.all_of_the_log(self.below(line)));
+        let all = self.lent(line).len();
         if how == 2 {
             for i in 0.. {
-                let Some(place) = self.send_packet_with(line, series, log, MOST_PACKET)? else { return Ok(false) };
+                let Some(place) = self.send_packet_with(line, series, own, MOST_PACKET)? else { return Ok(false) };
                 self.hand_over_with(line, place, i, log, all)?;
                 if !self.lines[line].unfinished.contains_key(&series) {
                     return Ok(true);
                 }
             }
         }
-        let Some(place) = self.send_with(line, series, log, MOST_OUTPUT)? else { return Ok(false) };
+        let Some(place) = self.send_with(line, series, own, MOST_OUTPUT)? else { return Ok(false) };
         let Transmission { packets, sent } = self.lines[line].messages[place].clone();
         if how == 1 {
             let bytes = packets.concat();

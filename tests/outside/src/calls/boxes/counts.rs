@@ -65,6 +65,12 @@ pub struct Counts {
     /// Lists made once more for one seat alone, and the calls that were left out.
     pub alone: u64,
     pub left_out: u64,
+    /// Of rows: keeps and returns at the last end; how often the whole list had to be there, with messages in it, and
+    /// how often so in lists with returns.
+    pub kept: u64,
+    pub returned: u64,
+    pub whole: u64,
+    pub whole_behind: u64,
 }
 
 impl Counts {
@@ -131,14 +137,15 @@ impl Boxes {
     }
 
     /// What was handed on stands at the end of the log, under its number, and nothing else was published.
-    pub(super) fn published_below(&self, before: &Relay, given: &[u8], heard: &Heard) -> Result<(), String> {
-        let content = heard.content.of(if heard.origin == IN_PACKET { given } else { &self.world.tried.buffer });
+    pub(super) fn published_below(&self, of: usize, before: &Relay, given: &[u8], heard: &Heard) -> Result<(), String> {
+        let world = &self.worlds[of];
+        let content = heard.content.of(if heard.origin == IN_PACKET { given } else { &world.tried.buffer });
         let taken = if heard.taken == 0 { given.len() } else { heard.taken };
         let Packet::Message(piece) = read(last_packet(&given[..taken])) else { return Err("no packet".to_string()) };
-        let (Some(was), Some(day)) = (before.below.day, self.world.model.relay.below.day) else {
+        let (Some(was), Some(day)) = (before.below.day, world.model.relay.below.day) else {
             return Err("no day".to_string());
         };
-        let entry = self.world.tried.log.get(was.used..day.used).unwrap_or(&[]);
+        let entry = world.tried.log.get(was.used..day.used).unwrap_or(&[]);
         let right = entry.len() == ENTRY_HEADER + content.len()
             && (u16_at(entry, 0), u16_at(entry, 2)) == (piece.series, 0)
             && (u32_at(entry, 4), u32_at(entry, 8)) == (heard.tid, heard.last)
@@ -153,9 +160,9 @@ impl Boxes {
     }
 
     /// Counts what the call came to.
-    pub(super) fn look(&mut self, before: &Relay, call: &Call, heard: &Heard) {
+    pub(super) fn look(&mut self, of: usize, before: &Relay, call: &Call, heard: &Heard) {
         let row = heard.refusal;
-        let after = self.world.model.relay;
+        let after = self.worlds[of].model.relay;
         let opened = before.below.day.map(|day| day.mark) != after.below.day.map(|day| day.mark);
         let day = before.below.day.map(|day| day.mark);
         let name = match call {

@@ -101,7 +101,7 @@ impl Boxes {
         if r.once_in(5) {
             return self.wrong_series(r);
         }
-        let BoxWorld { tried, model, .. } = &mut self.world;
+        let BoxWorld { tried, model, .. } = &mut self.worlds[0];
         let (Some(day), false) = (&mut model.relay.below.day, model.relay.receiving.open.is_empty()) else {
             return Ok(());
         };
@@ -123,14 +123,14 @@ impl Boxes {
             }
         }
         let of = (one.series, one.last.wrapping_add(1));
-        self.world.level();
+        self.worlds[0].level();
         let content = plain(r.below(12));
         let packet = made_packet(r, STRANGE, of, (letter, None), [None; 4], &content).into();
         self.receive(r, ABOVE, &packet)
     }
 
     pub(super) fn wrong_series(&mut self, r: &mut Random) -> Result<(), String> {
-        let relay = &mut self.world.model.relay;
+        let relay = &mut self.worlds[0].model.relay;
         let before = *relay;
         let open = &mut relay.receiving.open;
         let (Some(first), Some(last)) = (open.first().map(|one| one.series), open.len().checked_sub(1)) else {
@@ -138,15 +138,15 @@ impl Boxes {
         };
         open[last].series = r.pick(&[0, first]);
         let mark = Some(relay.below.day.map_or(1, |day| day.mark.wrapping_add(1)));
-        self.world.level();
+        self.worlds[0].level();
         let content = self.contents.answer.clone();
         let packet = made_packet(r, LOGIN, (0, 0), (b'S', None), [mark; 4], &content).into();
-        let log = self.log(r);
+        let log = self.log(r, Some(0));
         self.answer_with(ABOVE, first, &packet, log)?;
         // Mostly put back, so that the list goes on.
         if !r.once_in(6) {
-            self.world.model.relay.receiving.open[last].series = before.receiving.open[last].series;
-            self.world.level();
+            self.worlds[0].model.relay.receiving.open[last].series = before.receiving.open[last].series;
+            self.worlds[0].level();
         }
         Ok(())
     }
@@ -156,7 +156,7 @@ impl Boxes {
         for line in &mut self.lines[1..] {
             line.unfinished.clear();
         }
-        let BoxWorld { tried, model, .. } = &mut self.world;
+        let BoxWorld { tried, model, .. } = &mut self.worlds[0];
         let relay = &mut model.relay;
         let length = tried.log.len();
         let used = relay.below.day.map_or(0, |day| day.used).min(length);
@@ -182,7 +182,7 @@ impl Boxes {
                 relay.seats[seat][r.below(8)] = (!r.once_in(5)).then_some(place);
             }
         }
-        self.world.level();
+        self.worlds[0].level();
     }
 }
 

@@ -116,7 +116,7 @@ abbrev pub isEmpty : {A : Type 0} → List A → Bool
 isEmpty [] = true
 isEmpty (x ∷ l) = false
 
-is-empty : {A : Type 0} (l : List A) → T (isEmpty l) → l ≡ []
+pub is-empty : {A : Type 0} (l : List A) → T (isEmpty l) → l ≡ []
 is-empty [] t = refl
 is-empty (x ∷ l) t = absurd t
 

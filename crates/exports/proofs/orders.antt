@@ -1,0 +1,2 @@
+-- The order as numbers: its laws.
+pub mod Laws
