@@ -177,10 +177,10 @@ enum ftd_limit {
     FTD_MOST_NUMBER = 999999999  /* value of a number in a frame, and of a tag */
 };
 
-/* The side of a book. */
+/* The side of a book, by the numbers of the item Direction of a quotation. */
 enum ftd_side {
-    FTD_SELLING = 0, /* from the lowest price */
-    FTD_BUYING = 1   /* from the highest price */
+    FTD_BUYING = 0, /* from the highest price */
+    FTD_SELLING = 1 /* from the lowest price */
 };
 
 /* A part of lent bytes. */
@@ -1103,9 +1103,9 @@ struct ftd_book_step ftd_book_start(struct ftd_book book, const uint8_t *code, s
  * less than the volume), 23, 24. */
 struct ftd_book_step ftd_book_take(struct ftd_book book, uint32_t tid, const uint8_t *content, size_t count);
 
-/* Level: the level at a place of a side, counted from 0, best first; none behind the last. side: enum ftd_side, any
- * number but 0 is buying. (The same as reading the member of struct ftd_book.) The book stays as it is, and isn't
- * answered. */
+/* Level: the level at a place of a side, counted from 0, best first; none behind the last. side: enum ftd_side,
+ * any number but 0 is selling; so the byte of the item Direction of a quotation is its side. (The same as reading the
+ * member of struct ftd_book.) The book stays as it is, and isn't answered. */
 struct ftd_listed ftd_book_level(struct ftd_book book, uint8_t side, size_t place);
 
 /* Mean: the mean match price since ftd_book_start, turnover over volume, to the nearest 0.0001 and at the exact half to the

@@ -1598,7 +1598,7 @@ static uint8_t trade(struct ftd_book *book, uint32_t volume, int64_t price) {
 /* That pair stands there, by the call and in the state; price 0 and quantity 0: none. */
 static int stands(struct ftd_book book, uint8_t side, size_t place, int64_t price, uint32_t quantity) {
     struct ftd_listed listed = ftd_book_level(book, side, place);
-    const struct ftd_level *levels = side == FTD_SELLING ? book.selling : book.buying;
+    const struct ftd_level *levels = side == FTD_BUYING ? book.buying : book.selling;
 
     return listed.found == (quantity != 0) && listed.price == price && listed.quantity == quantity &&
            levels[place].price == price && levels[place].quantity == quantity;
@@ -1649,7 +1649,9 @@ static void book_levels(void) {
     EXPECT(stands(book, FTD_BUYING, 0, 1235000, 4) && stands(book, FTD_BUYING, 1, P, 10));
     EXPECT(stands(book, FTD_BUYING, 2, 1200000, 7) && stands(book, FTD_BUYING, 3, 0, 0));
     EXPECT(stands(book, FTD_SELLING, 0, 1239000, 9) && stands(book, FTD_SELLING, 1, 1240000, 2));
-    EXPECT(stands(book, 255, 1, P, 10) && ftd_book_level(book, FTD_BUYING, 64).found == 0);
+    EXPECT(stands(book, 255, 1, 1240000, 2) && ftd_book_level(book, FTD_BUYING, 64).found == 0);
+    /* The bytes of a quotation's Direction: 0 buying, 1 selling (bid, offer). */
+    EXPECT(stands(book, 0, 0, 1235000, 4) && stands(book, 1, 0, 1239000, 9));
     EXPECT(ftd_book_level(book, FTD_BUYING, SIZE_MAX).found == 0);
     /* Below zero: in one message with the highest prices and the lowest. */
     book = started();

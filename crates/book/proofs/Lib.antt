@@ -1,2 +1,4 @@
 pub mod agreement
+pub mod verdict
+pub mod Refusals
 pub mod Examples

@@ -1,2 +1,3 @@
 -- Laws of what a field says.
 pub mod Reading
+pub mod Laws

@@ -12,7 +12,7 @@ use Rattle.book.specs.declared.calls.Book.{Book}
 use Rattle.book.specs.declared.calls.Outcome.{Outcome}
 use Rattle.book.specs.declared.calls.Outcome.the-variants.{Done, Refused}
 use Rattle.book.specs.declared.calls.Step.{Step}
-use Rattle.book.specs.Levels.{better, samePrice}
+use Rattle.book.specs.Levels.{samePrice}
 use Rattle.book.specs.Quantity.{twos}
 use Rattle.book.specs.Sums.{meanOf}
 use Rattle.book.specs.Calls.{freshBook, startOf, takeOf, eventsOf, levelOf, bookMean}
@@ -98,9 +98,12 @@ pub record Shows (b : Book) (es : List Event) : Type 0 where
       → (i : ℕ) × (levelOf b buying i ≡ At p n)
   -- None is below zero.
   pub quantities : (buying : Bool) (p : ℤ) → (n : ℕ) × (quantityOf es buying p ≡ pos n)
-  -- Best first, without a gap.
-  pub ordered : (buying : Bool) (i j : ℕ) (p : ℤ) (n : ℕ) → i < j → levelOf b buying j ≡ At p n
-      → (r : ℤ) × (m : ℕ) × (levelOf b buying i ≡ At r m) × (better buying r p ≡ true)
+  -- Best first, without a gap: before a level of the buying side stands one with a higher price,
+  pub fromHighest : (i j : ℕ) (p : ℤ) (n : ℕ) → i < j → levelOf b true j ≡ At p n
+      → (r : ℤ) × (m : ℕ) × (levelOf b true i ≡ At r m) × (ltZ p r ≡ true)
+  -- and of the selling side one with a lower price.
+  pub fromLowest : (i j : ℕ) (p : ℤ) (n : ℕ) → i < j → levelOf b false j ≡ At p n
+      → (r : ℤ) × (m : ℕ) × (levelOf b false i ≡ At r m) × (ltZ r p ≡ true)
   -- At most 64.
   pub few : (buying : Bool) (i : ℕ) → 64 ≤ i → levelOf b buying i ≡ NoLevel
   -- The mean is that of the two sums.

@@ -1,4 +1,5 @@
 -- What a field of a message says to the book of a contract (request No. 2): an order quotation, a match, or nothing.
+pub mod Laws
 use Prim.Native.Nat.{ℕ, _+_, _≤_}
 use mathlib.Core.List.{List, [], _∷_}
 use mathlib.Core.Bool.{Bool, true, false, cond, _&&_}

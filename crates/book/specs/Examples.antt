@@ -1,5 +1,5 @@
 -- Worked examples of requests No. 2 and No. 9, computed over the definitions; the others are run by the program `bookcheck`.
-use Prim.Native.Nat.{ℕ, suc, _-_}
+use Prim.Native.Nat.{ℕ, zero, suc, _-_}
 use mathlib.Core.List.{List, [], _∷_, _++_}
 use mathlib.Core.Bool.{Bool, true, false, cond, _&&_}
 use lib.IntN.{ℤ, pos, negsuc}
@@ -10,6 +10,8 @@ use Rattle.ftd.specs.Fields.{fieldWith}
 use Rattle.ftd.specs.Signed.Write.{floatBytes}
 use Rattle.ftd.specs.Bench.{same}
 use Rattle.book.specs.declared.levels.Level.{Level}
+use Rattle.book.specs.declared.levels.Listed.{Listed}
+use Rattle.book.specs.declared.levels.Listed.the-variants.{NoLevel, At}
 use Rattle.book.specs.declared.sums.Mean.{Mean}
 use Rattle.book.specs.declared.sums.Mean.the-variants.{NoMean, Price}
 use Rattle.book.specs.declared.calls.Book.{Book}
@@ -20,7 +22,7 @@ use Rattle.book.specs.declared.sums.Total.{Total}
 use Rattle.book.specs.declared.sums.Total.the-variants.{Beyond, Within}
 use Rattle.book.specs.Levels.{used}
 use Rattle.book.specs.Sums.{addedTo, meanOf}
-use Rattle.book.specs.Calls.{started, takeOf, bookMean}
+use Rattle.book.specs.Calls.{started, takeOf, levelOf, bookMean}
 
 -- ─── Messages ───
 
@@ -197,6 +199,71 @@ examples =
     ∷ (sends 0x7777 (quotationField code 1 2 false p 5 ∷ []) (says 9 none none none) ∷ [])
     ∷ []
 
+-- ─── Several levels, read place after place ───
+
+-- What Level answers: 1, quantity and price, or 0.
+abbrev pub placeShown : Listed → List ℕ
+placeShown NoLevel = 0 ∷ []
+placeShown (At price quantity) = 1 ∷ quantity ∷ signed price
+
+-- Of n places of a side, from one on.
+abbrev pub placesShown : Book → Bool → ℕ → ℕ → List ℕ
+placesShown b buying i zero = []
+placesShown b buying i (suc n) = placeShown (levelOf b buying i) ++ placesShown b buying (suc i) n
+
+-- The answer, and the first five places of both sides.
+abbrev pub placesThen : Step → List ℕ
+placesThen s = answerShown (s .answer) ∷ (placesShown (s .book) true 0 5 ++ placesShown (s .book) false 0 5)
+
+-- The same as the paper has it: v at u, v at -u, nothing.
+abbrev pub stands : ℕ → ℕ → List ℕ
+stands v u = 1 ∷ v ∷ 0 ∷ u ∷ []
+
+abbrev pub standsBelow : ℕ → ℕ → List ℕ
+standsBelow v u = 1 ∷ v ∷ 1 ∷ u ∷ []
+
+abbrev pub reads : ℕ → List (List ℕ) → List (List ℕ) → List ℕ
+reads answer buying selling = answer ∷ (joined buying ++ joined selling)
+
+-- Fields by side, minus, units and volume: absolute ones.
+abbrev pub stating : ℕ → Bool → ℕ → ℕ → List ℕ
+stating side negative u v = quotationField code 1 side negative u v
+
+unfoldable pub severals : List (List Line)
+severals =
+    -- 1 quoted in mixed order
+    (quotes (bid 10 p ∷ ask 2 1240000 ∷ bid 4 1235000 ∷ ask 9 1239000 ∷ bid 7 1200000 ∷ ask 1 1250000 ∷ [])
+    (reads 0 (stands 4 1235000 ∷ stands 10 p ∷ stands 7 1200000 ∷ none ∷ none ∷ [])
+    (stands 9 1239000 ∷ stands 2 1240000 ∷ stands 1 1250000 ∷ none ∷ none ∷ []))
+    -- one more between two on each side, and the best of each anew
+    ∷ quotes (bid 6 1210000 ∷ ask 5 1239500 ∷ bid 8 1236000 ∷ bidMore 1 p ∷ [])
+    (reads 0 (stands 8 1236000 ∷ stands 4 1235000 ∷ stands 11 p ∷ stands 6 1210000 ∷ stands 7 1200000 ∷ [])
+    (stands 9 1239000 ∷ stands 5 1239500 ∷ stands 2 1240000 ∷ stands 1 1250000 ∷ none ∷ []))
+    -- one taken out of the middle of each
+    ∷ quotes (bid 0 p ∷ ask 0 1239500 ∷ [])
+    (reads 0 (stands 8 1236000 ∷ stands 4 1235000 ∷ stands 6 1210000 ∷ stands 7 1200000 ∷ none ∷ [])
+    (stands 9 1239000 ∷ stands 2 1240000 ∷ stands 1 1250000 ∷ none ∷ none ∷ []))
+    -- the best ask matched, and then taken whole, with a bid from the middle
+    ∷ meets (met 3 1239000 ∷ [])
+    (reads 0 (stands 8 1236000 ∷ stands 4 1235000 ∷ stands 6 1210000 ∷ stands 7 1200000 ∷ none ∷ [])
+    (stands 6 1239000 ∷ stands 2 1240000 ∷ stands 1 1250000 ∷ none ∷ none ∷ []))
+    ∷ meets (met 6 1239000 ∷ met 6 1210000 ∷ met 1 1235000 ∷ [])
+    (reads 0 (stands 8 1236000 ∷ stands 3 1235000 ∷ stands 7 1200000 ∷ none ∷ none ∷ [])
+    (stands 2 1240000 ∷ stands 1 1250000 ∷ none ∷ none ∷ none ∷ []))
+    -- 22 in the second field: the first is not kept either
+    ∷ quotes (bid 0 1236000 ∷ bidLess 8 1200000 ∷ [])
+    (reads 22 (stands 8 1236000 ∷ stands 3 1235000 ∷ stands 7 1200000 ∷ none ∷ none ∷ [])
+    (stands 2 1240000 ∷ stands 1 1250000 ∷ none ∷ none ∷ none ∷ []))
+    ∷ [])
+    -- 19 prices on both sides of zero
+    ∷ (quotes
+    (stating 0 true 10000 1 ∷ stating 0 false 10000 2 ∷ stating 0 false 0 3 ∷ stating 1 false 10000 4 ∷ stating 1 true 10000 5
+    ∷ stating 1 false 0 6 ∷ stating 0 true 20000 7 ∷ stating 1 true 20000 8 ∷ [])
+    (reads 0 (stands 2 10000 ∷ stands 3 0 ∷ standsBelow 1 10000 ∷ standsBelow 7 20000 ∷ none ∷ [])
+    (standsBelow 8 20000 ∷ standsBelow 5 10000 ∷ stands 6 0 ∷ stands 4 10000 ∷ none ∷ []))
+    ∷ [])
+    ∷ []
+
 -- ─── The limits of the sums ───
 
 -- A sum and what is added to it; 1 and the sum then, or 0: beyond.
@@ -287,6 +354,17 @@ abbrev pub allRight : List (List Line) → Bool
 allRight [] = true
 allRight (ls ∷ rest) = rightAfter (started code) ls && allRight rest
 
+-- The same, with the places read one by one.
+abbrev pub readAfter : Book → List Line → Bool
+readAfter b [] = true
+readAfter b (l ∷ ls) =
+    same (placesThen (takeOf b (l .tid) (joined (l .fields)))) (l .paper)
+    && readAfter (takeOf b (l .tid) (joined (l .fields)) .book) ls
+
+abbrev pub allRead : List (List Line) → Bool
+allRead [] = true
+allRead (ls ∷ rest) = readAfter (started code) ls && allRead rest
+
 -- Each call of each row is answered, and shows, what the paper says; so do the sums at their limits, and the means.
 abbrev pub Examples : Type 0
-Examples = T (allRight examples && (rightSums additions && rightMeans quotients))
+Examples = T (allRight examples && (allRead severals && (rightSums additions && rightMeans quotients)))

@@ -4,4 +4,6 @@ pub mod Sums
 pub mod Event
 pub mod Calls
 pub mod Agreement
+pub mod Verdict
+pub mod Refusals
 pub mod Examples

@@ -5,6 +5,7 @@ ghost use lib.ListN.{length, drop};
 ghost use lib.IntN.{pos};
 ghost use Rattle.ftd.specs.Bytes.{part};
 ghost use Rattle.book.specs.Event.{sameBytes, eventOf, quotationIn, matchIn, sided, faced, priceOf, PriceInside, Inside};
+ghost use Rattle.book.specs.Event.Laws.{EventLaws};
 use crate::levels::Level;
 use ftd::bytes::be32;
 use ftd::signed::Signed;
@@ -172,3 +173,8 @@ pub(crate) fn event_of(code: &[u8], tid: u32, field: &[u8]) -> Event
     }
     Event::Nothing
 }
+
+// What a field says, whatever its values, as a promise.
+pub fn keeps_event_laws()
+    ensures { λ _. ⌜ EventLaws ⌝ }
+{}

@@ -28,6 +28,18 @@ module _ (p : ℕ → Bool) where
           let d = eqb-false i n q in
           rw (rest (omega arith))
 
+  -- One that has it, where some has.
+  pub some-found : (n : ℕ) → some n p ≡ true → (i : ℕ) × (i < n) × (p i ≡ true)
+  some-found zero e = absurd (false≢true e)
+  some-found (suc n) e = go (some n p) refl (some-found n) e
+    where
+      go : (a : Bool) → some n p ≡ a → (some n p ≡ true → (i : ℕ) × (i < n) × (p i ≡ true)) → (a || p n) ≡ true
+          → (i : ℕ) × (i < suc n) × (p i ≡ true)
+      go true q rest f =
+          let x = rest q in
+          (x .0, omega (arith, x .1), x .2)
+      go false q rest f = (n, omega arith, f)
+
   -- None has it: not this one.
   pub none-at : (n i : ℕ) → some n p ≡ false → i < n → p i ≡ false
   none-at n i e h = go (p i) refl

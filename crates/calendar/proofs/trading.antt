@@ -1,3 +1,5 @@
 -- The laws of the calendar.
 pub mod Copied
 pub mod Laws
+pub mod Times
+pub mod Taken

@@ -1,6 +1,8 @@
 -- The trading calendar (02, No. 7): up to 8 sessions and 32 holidays, and what a time or a mark is in it.
 pub mod Laws
 pub mod Examples
+pub mod Times
+pub mod Taken
 use Prim.Native.Nat.{ℕ, zero, suc, _+_, _-_, _*_, _/_, _%_}
 use mathlib.Core.List.{List, _++_}
 use mathlib.Core.Bool.{Bool, true, false, cond, not, _&&_, _||_}

@@ -5,7 +5,10 @@ ghost use Prim.Native.Nat.{_≤_, _<_};
 ghost use lib.ListN.{length, drop};
 ghost use Rattle.calendar.specs.Calendar.{freshCalendar, setOf, chinaDay, chinaSecond, askOf, markDate};
 ghost use Rattle.calendar.specs.Calendar.Laws.{CalendarLaws};
+ghost use Rattle.calendar.specs.Calendar.Times.{InsideLaws};
+ghost use Rattle.calendar.specs.Calendar.Taken.{SetLaws};
 ghost use Rattle.calendar.specs.Calendar.Examples.{CalendarExamples};
+ghost use Rattle.calendar.specs.Refusals.{RefusalsLeave};
 use crate::holidays::date_number;
 use crate::holidays::next_trading;
 use crate::holidays::trades;
@@ -138,6 +141,21 @@ pub fn mark_date(mark: u32) -> u32
 // What holds of the calendar, as a promise.
 pub fn keeps_calendar_laws()
     ensures { λ _. ⌜ CalendarLaws ⌝ }
+{}
+
+// Which times are inside, and of which date, as a promise.
+pub fn keeps_inside()
+    ensures { λ _. ⌜ InsideLaws ⌝ }
+{}
+
+// What Set takes and refuses, as a promise.
+pub fn keeps_set_laws()
+    ensures { λ _. ⌜ SetLaws ⌝ }
+{}
+
+// A refused Set leaves the calendar, as a promise.
+pub fn keeps_refusals()
+    ensures { λ _. ⌜ RefusalsLeave ⌝ }
 {}
 
 // The worked examples, as a promise.

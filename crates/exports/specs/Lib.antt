@@ -11,3 +11,7 @@ pub mod Trading
 pub mod Quotes
 pub mod Frames
 pub mod Laws
+pub mod Refusals
+pub mod Meaning
+pub mod Driver
+pub mod BoxDriver

@@ -2,7 +2,7 @@
 -- answers.
 pub mod Laws
 use Prim.Native.Nat.{ℕ}
-use mathlib.Core.Bool.{Bool, not}
+use mathlib.Core.Bool.{Bool}
 use lib.Dec.{eqb}
 use lib.IntN.{pos}
 use Rattle.ftd.specs.Refusal.{numberOf}
@@ -46,9 +46,9 @@ outcomeNumber (Refused r) = numberOf r
 abbrev pub stepNumbers : Step → FtdBookStep
 stepNumbers x = record { book = bookNumbers (x .book); refusal = outcomeNumber (x .answer) }
 
--- A side: 0 is selling, any other number buying.
+-- A side, by the numbers of the item Direction: 0 is buying, any other number selling.
 abbrev pub buyingFor : ℕ → Bool
-buyingFor n = not (eqb n 0)
+buyingFor n = eqb n 0
 
 -- A level: 1, its price and its quantity, or none, all 0.
 abbrev pub levelNumbers : Listed → FtdListed

@@ -14,6 +14,12 @@ ghost use Rattle.ftd.specs.Content.{contentCheck};
 ghost use Rattle.ftd.specs.Write.{writtenAnswer, writtenOutput, packetBytes, plainVerdict, fieldVerdict};
 ghost use Rattle.ftd.specs.Chain.{packetsOf, sizeAnswer, chainVerdict};
 ghost use Rattle.exports.specs.Laws.{EndLaws, BoxLaws};
+ghost use Rattle.exports.specs.Meaning.Calls.{AnswerLaws};
+ghost use Rattle.exports.specs.Meaning.Values.{ValueLaws};
+ghost use Rattle.exports.specs.Meaning.Absent.{AbsentLaws};
+ghost use Rattle.exports.specs.Driver.{DriverLaws};
+ghost use Rattle.exports.specs.BoxDriver.{BoxDriverLaws};
+ghost use Rattle.exports.specs.Refusals.{RefusalsLeave};
 ghost use Rattle.exports.specs.Numbers.{plainNumbers, linkNumbers, skippedNumbers, packetNumbers};
 ghost use Rattle.exports.specs.Numbers.{datedNumbers, fieldNumbers, stepOf, directionFor, verdictNumber};
 ghost use Rattle.exports.specs.Numbers.{spanNumbers, messageFor, sizeNumbers, writtenNumbers};
@@ -430,4 +436,34 @@ pub fn keeps_end_laws()
 // The box as numbers and back, as a promise.
 pub fn keeps_box_laws()
     ensures { λ _. ⌜ BoxLaws ⌝ }
+{}
+
+// The numbers of every call's answer mean that answer, as a promise: of the ends, of named places and of the box;
+pub fn keeps_answer_laws()
+    ensures { λ _. ⌜ AnswerLaws ⌝ }
+{}
+
+// and of all that is read, checked, written and asked beside them.
+pub fn keeps_value_laws()
+    ensures { λ _. ⌜ ValueLaws ⌝ }
+{}
+
+// What an answer does not have is 0, as a promise.
+pub fn keeps_absent_laws()
+    ensures { λ _. ⌜ AbsentLaws ⌝ }
+{}
+
+// What a driver of both ends is told by the numbers along every list of calls, as a promise: demand 3 holds of it.
+pub fn keeps_driver_laws()
+    ensures { λ _. ⌜ DriverLaws ⌝ }
+{}
+
+// The same of a driver of the box with the exchange and an end at each seat: the box's agreement holds of it.
+pub fn keeps_box_driver_laws()
+    ensures { λ _. ⌜ BoxDriverLaws ⌝ }
+{}
+
+// A refusal leaves all as before, as a promise: of every call of every state there is, and of every writer.
+pub fn keeps_refusals()
+    ensures { λ _. ⌜ RefusalsLeave ⌝ }
 {}

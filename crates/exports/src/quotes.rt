@@ -129,19 +129,19 @@ pub extern "C" fn ftd_book_take(book: FtdBook, tid: u32, content: &[u8]) -> FtdB
     }
 }
 
-// 0 is selling, any other number buying.
+// 0 is buying, any other number selling.
 fn buying_for(n: u8) -> bool
     ensures { λ r. ⌜ r ≡ buyingFor n ⌝ }
 {
-    n != 0
+    n == 0
 }
 
 // Level: the pair at a place of a side, best first.
 #[no_mangle]
-pub extern "C" fn ftd_book_level(book: FtdBook, buying: u8, place: usize) -> FtdListed
-    ensures { λ r. ⌜ r ≡ levelNumbers (levelOf (bookFor book) (buyingFor buying) place) ⌝ }
+pub extern "C" fn ftd_book_level(book: FtdBook, side: u8, place: usize) -> FtdListed
+    ensures { λ r. ⌜ r ≡ levelNumbers (levelOf (bookFor book) (buyingFor side) place) ⌝ }
 {
-    match book_for(book).level(buying_for(buying), place) {
+    match book_for(book).level(buying_for(side), place) {
         Listed::NoLevel => FtdListed {
             price: 0,
             quantity: 0,

@@ -296,21 +296,21 @@ fn sent(end: FtdSender, a: Sent) -> FtdSent
             end: end,
             bytes: 0,
             number: 0,
-            answer: 0,
+            answer: 0, // none left
             refusal: 0,
         },
         Sent::Wrote { number, len } => FtdSent {
             end: end,
             bytes: len,
             number: number,
-            answer: 1,
+            answer: 1, // a message
             refusal: 0,
         },
         Sent::Refused(r) => FtdSent {
             end: end,
             bytes: 0,
             number: 0,
-            answer: 2,
+            answer: 2, // refused
             refusal: number(r),
         },
     }
@@ -338,7 +338,7 @@ fn sent_packet(end: FtdSender, a: SentPacket) -> FtdSentPacket
             end: end,
             bytes: 0,
             number: 0,
-            answer: 0,
+            answer: 0, // no packet left
             refusal: 0,
             last: 0,
         },
@@ -346,7 +346,7 @@ fn sent_packet(end: FtdSender, a: SentPacket) -> FtdSentPacket
             end: end,
             bytes: len,
             number: number,
-            answer: 1,
+            answer: 1, // a packet
             refusal: 0,
             last: flag_of(last),
         },
@@ -354,7 +354,7 @@ fn sent_packet(end: FtdSender, a: SentPacket) -> FtdSentPacket
             end: end,
             bytes: 0,
             number: 0,
-            answer: 2,
+            answer: 2, // no packet: refused
             refusal: number(r),
             last: 0,
         },

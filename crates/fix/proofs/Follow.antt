@@ -25,7 +25,7 @@ use Rattle.fix.specs.Follow.{ComesBack}
 use Rattle.fix.specs.Follow.{Event, frame, setTo, numberIfNext, tookNumber, isSet, expectedThen, frames}
 
 -- What one read does with the number expected.
-data Did (expected : ℕ) (r : Reading) : Type 0 where
+pub data Did (expected : ℕ) (r : Reading) : Type 0 where
   stays : numberIfNext (r .answer) ≡ none → r .expected ≡ expected → Did expected r
   takes : numberIfNext (r .answer) ≡ some expected → r .expected ≡ expected + 1 → Did expected r
 
@@ -68,7 +68,7 @@ framed-did : (b : List ℕ) (expected : ℕ) (f : Frame) → Did expected (frame
 framed-did b expected NoFrame = stays refl refl
 framed-did b expected (Framed name fields) = checked-did _ _ expected
 
-read-did : (b : List ℕ) (expected : ℕ) → Did expected (readOf b expected)
+pub read-did : (b : List ℕ) (expected : ℕ) → Did expected (readOf b expected)
 unfolding readOf
 read-did b expected = framed-did b expected (frameOf b)
 
@@ -88,7 +88,7 @@ next : (expected : ℕ) (e : Event) (n : ℕ) → isSet expected e ≡ false →
 next expected (frame b) n a t = did-next expected (readOf b expected) n (read-did b expected) t
 next expected (setTo k) n a t = (cc, cc)
 
-did-stay : (expected : ℕ) (r : Reading) → Did expected r → numberIfNext (r .answer) ≡ none → r .expected ≡ expected
+pub did-stay : (expected : ℕ) (r : Reading) → Did expected r → numberIfNext (r .answer) ≡ none → r .expected ≡ expected
 did-stay expected r (stays t e) q = e
 did-stay expected r (takes t e) q = absurd (Option·none-ne-some expected (sym q ∙ t))
 

@@ -1,3 +1,10 @@
 pub mod Examples
 pub mod RoundTrips
 pub mod Follow
+pub mod Refusals
+pub mod Numerals
+pub mod Pairs
+pub mod Values
+pub mod Judgement
+pub mod Rows
+pub mod FrameLayout

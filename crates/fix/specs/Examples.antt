@@ -1,12 +1,18 @@
 -- Worked frames (02, No. 12), computed over the definitions; `|` stands for SOH in their comments.
 use Prim.Native.Nat.{ℕ}
 use mathlib.Core.List.{List, [], _∷_}
-use mathlib.Core.Bool.{Bool, true, _&&_}
+use mathlib.Core.Bool.{Bool, true, false, cond, _&&_, not}
+use mathlib.Core.Option.{Option, none, some}
 use lib.Dec.{T, eqb}
+use Rattle.ftd.specs.Bytes.{part}
 use Rattle.ftd.specs.Refusal.{numberOf}
+use Rattle.fix.specs.declared.kinds.Kind.{Kind}
+use Rattle.fix.specs.declared.kinds.Kind.the-variants.{Heartbeat, TestRequest, ResendRequest, SequenceReset}
+use Rattle.fix.specs.declared.kinds.Kind.the-variants.{Logout, Logon, Other}
+use Rattle.fix.specs.declared.read.Message.{Message}
 use Rattle.fix.specs.declared.read.Judged.{Judged}
 use Rattle.fix.specs.declared.read.Judged.the-variants.{Refused, Next, Again, Gap, Reset}
-use Rattle.fix.specs.Read.{readOf}
+use Rattle.fix.specs.Read.{messageIn, readOf}
 
 -- logon: 8=FIX.4.2|9=61|35=A|49=FUND|56=BROKER|34=1|52=20121226-01:00:00|98=0|108=30|10=016|
 abbrev pub logon : List ℕ
@@ -207,6 +213,20 @@ twoFrames =
     53 ∷ 1 ∷ 49 ∷ 48 ∷ 61 ∷ 49 ∷ 56 ∷ 55 ∷ 1 ∷ 56 ∷ 61 ∷ 70 ∷ 73 ∷ 88 ∷ 46 ∷ 52 ∷ 46 ∷ 50 ∷ 1 ∷ 57 ∷ 61 ∷ 49 ∷ 48 ∷ 1
     ∷ 51 ∷ 53 ∷ 61 ∷ 68 ∷ 1 ∷ 51 ∷ 52 ∷ 61 ∷ 54 ∷ 1 ∷ 49 ∷ 48 ∷ 61 ∷ 49 ∷ 56 ∷ 56 ∷ 1 ∷ []
 
+-- resend request, a range: 8=FIX.4.2|9=58|35=2|49=FUND|56=BROKER|34=5|52=20121226-01:00:00|16=4|7=2|10=114|
+abbrev pub resendRequestRange : List ℕ
+resendRequestRange =
+    56 ∷ 61 ∷ 70 ∷ 73 ∷ 88 ∷ 46 ∷ 52 ∷ 46 ∷ 50 ∷ 1 ∷ 57 ∷ 61 ∷ 53 ∷ 56 ∷ 1 ∷ 51 ∷ 53 ∷ 61 ∷ 50 ∷ 1 ∷ 52 ∷ 57 ∷ 61 ∷ 70 ∷
+    85 ∷ 78 ∷ 68 ∷ 1 ∷ 53 ∷ 54 ∷ 61 ∷ 66 ∷ 82 ∷ 79 ∷ 75 ∷ 69 ∷ 82 ∷ 1 ∷ 51 ∷ 52 ∷ 61 ∷ 53 ∷ 1 ∷ 53 ∷ 50 ∷ 61 ∷ 50 ∷ 48 ∷
+    49 ∷ 50 ∷ 49 ∷ 50 ∷ 50 ∷ 54 ∷ 45 ∷ 48 ∷ 49 ∷ 58 ∷ 48 ∷ 48 ∷ 58 ∷ 48 ∷ 48 ∷ 1 ∷ 49 ∷ 54 ∷ 61 ∷ 52 ∷ 1 ∷ 55 ∷ 61 ∷ 50
+    ∷ 1 ∷ 49 ∷ 48 ∷ 61 ∷ 49 ∷ 49 ∷ 52 ∷ 1 ∷ []
+
+-- a type of two letters, the first that of a logon: 8=FIX.4.2|9=11|35=AE|34=5|10=254|
+abbrev pub typeOfTwoLetters : List ℕ
+typeOfTwoLetters =
+    56 ∷ 61 ∷ 70 ∷ 73 ∷ 88 ∷ 46 ∷ 52 ∷ 46 ∷ 50 ∷ 1 ∷ 57 ∷ 61 ∷ 49 ∷ 49 ∷ 1 ∷ 51 ∷ 53 ∷ 61 ∷ 65 ∷ 69 ∷ 1 ∷ 51 ∷ 52 ∷ 61 ∷
+    53 ∷ 1 ∷ 49 ∷ 48 ∷ 61 ∷ 50 ∷ 53 ∷ 52 ∷ 1 ∷ []
+
 -- Next is 1, again 2, gap 3, reset 4, a refusal its number.
 abbrev pub answerNumber : Judged → ℕ
 answerNumber (Refused r) = numberOf r
@@ -232,19 +252,26 @@ table =
     line heartbeatEqual 3 3 3 ∷
     line heartbeatEqual 9 30 9 ∷
     line heartbeatLowerFlag 9 2 9 ∷
+    line heartbeatLowerFlag 5 1 6 ∷
+    line heartbeatLowerFlag 3 3 3 ∷
     line heartbeatLowerFlagN 9 30 9 ∷
     line numberWithZerosInFront 5 1 6 ∷
     line testRequest 5 1 6 ∷
     line testRequest112Missing 5 29 5 ∷
     line resendRequestAllThatFollow 5 1 6 ∷
+    line resendRequestRange 5 1 6 ∷
     line resendRequestLastBelowFirst 5 28 5 ∷
     line gapFillEqual 5 1 6 ∷
+    line gapFillEqual 3 3 3 ∷
     line gapFillEqual 7 30 7 ∷
     line resetLowerNoFlag 7 4 7 ∷
+    line resetLowerNoFlag 5 4 5 ∷
+    line resetLowerNoFlag 3 4 3 ∷
     line logout 5 1 6 ∷
     line rawDataWithSohInside 5 1 6 ∷
     line rawDataLengthOneLess 5 28 5 ∷
     line orderOnlyTheNumber 5 1 6 ∷
+    line typeOfTwoLetters 5 1 6 ∷
     line orderNoNumber 5 29 5 ∷
     line order34Twice 5 29 5 ∷
     line orderFlagTwice 5 29 5 ∷
@@ -270,5 +297,83 @@ abbrev pub allHold : List Line → Bool
 allHold [] = true
 allHold (x ∷ xs) = holds x && allHold xs
 
+-- ─── Every value of a message ───
+
+abbrev pub kindNumber : Kind → ℕ
+kindNumber Heartbeat = 0
+kindNumber TestRequest = 1
+kindNumber ResendRequest = 2
+kindNumber SequenceReset = 4
+kindNumber Logout = 5
+kindNumber Logon = 6
+kindNumber Other = 7
+
+-- A frame, the number expected, and what its message says: kind, number, first and second value, the type's text, the
+-- text of the first value, gap fill.
+pub record Row : Type 0 where
+  pub frame : List ℕ
+  pub expected : ℕ
+  pub kind : Kind
+  pub number : ℕ
+  pub first : ℕ
+  pub second : ℕ
+  pub name : List ℕ
+  pub text : List ℕ
+  pub fill : Bool
+
+abbrev pub row : List ℕ → ℕ → Kind → ℕ → ℕ → ℕ → List ℕ → List ℕ → Bool → Row
+row frame expected kind number first second name text fill =
+    record {
+      frame = frame;
+      expected = expected;
+      kind = kind;
+      number = number;
+      first = first;
+      second = second;
+      name = name;
+      text = text;
+      fill = fill;
+    }
+
+-- As next, again, gap and reset; each of the six types, and others.
+abbrev pub rows : List Row
+rows =
+    row logon 1 Logon 1 0 30 (65 ∷ []) (48 ∷ []) false ∷
+    row heartbeatEqual 5 Heartbeat 5 0 0 (48 ∷ []) [] false ∷
+    row heartbeatEqual 3 Heartbeat 5 0 0 (48 ∷ []) [] false ∷
+    row heartbeatLowerFlag 9 Heartbeat 5 0 0 (48 ∷ []) [] false ∷
+    row testRequest 5 TestRequest 5 0 0 (49 ∷ []) (84 ∷ 49 ∷ []) false ∷
+    row resendRequestAllThatFollow 5 ResendRequest 5 3 0 (50 ∷ []) (51 ∷ []) false ∷
+    row resendRequestRange 5 ResendRequest 5 2 4 (50 ∷ []) (50 ∷ []) false ∷
+    row resendRequestRange 1 ResendRequest 5 2 4 (50 ∷ []) (50 ∷ []) false ∷
+    row gapFillEqual 5 SequenceReset 5 9 0 (52 ∷ []) (57 ∷ []) true ∷
+    row resetLowerNoFlag 7 SequenceReset 5 9 0 (52 ∷ []) (57 ∷ []) false ∷
+    row logout 5 Logout 5 0 0 (53 ∷ []) [] false ∷
+    row rawDataWithSohInside 5 Logon 5 0 30 (65 ∷ []) (48 ∷ []) false ∷
+    row orderOnlyTheNumber 5 Other 5 0 0 (68 ∷ []) [] false ∷
+    row typeOfTwoLetters 5 Other 5 0 0 (65 ∷ 69 ∷ []) [] false ∷
+    []
+
+abbrev pub sameText : List ℕ → List ℕ → Bool
+sameText [] [] = true
+sameText [] (y ∷ ys) = false
+sameText (x ∷ xs) [] = false
+sameText (x ∷ xs) (y ∷ ys) = eqb x y && sameText xs ys
+
+abbrev pub says : Row → Option Message → Bool
+says x none = false
+says x (some m) =
+    eqb (kindNumber (m .kind)) (kindNumber (x .kind))
+    && eqb (m .number) (x .number)
+    && eqb (m .first) (x .first)
+    && eqb (m .second) (x .second)
+    && sameText (part (x .frame) (m .name .start) (m .name .len)) (x .name)
+    && sameText (part (x .frame) (m .text .start) (m .text .len)) (x .text)
+    && cond (m .fill) (x .fill) (not (x .fill))
+
+abbrev pub allSay : List Row → Bool
+allSay [] = true
+allSay (x ∷ xs) = says x (messageIn (readOf (x .frame) (x .expected) .answer)) && allSay xs
+
 abbrev pub FrameExamples : Type 0
-FrameExamples = T (allHold table)
+FrameExamples = T (allHold table) × T (allSay rows)

@@ -10,3 +10,9 @@ pub mod Tally
 pub mod Examples
 pub mod RoundTrips
 pub mod Follow
+pub mod Refusals
+pub mod Pairs
+pub mod Values
+pub mod Judgement
+pub mod Rows
+pub mod FrameLayout

@@ -2,6 +2,7 @@
 use Prim.Native.Nat.{ℕ, _+_}
 use mathlib.Core.List.{List}
 use mathlib.Core.Bool.{Bool, true, false, cond}
+use mathlib.Core.Option.{Option, none, some}
 use lib.Dec.{ltb, eqb}
 use Rattle.ftd.specs.Bytes.{part}
 use Rattle.ftd.specs.Packet.{span}
@@ -29,8 +30,8 @@ abbrev pub movedTo : ℕ → Front → Span
 movedTo at NoField = span 0 0
 movedTo at (Field tag start len) = span (at + start) len
 
--- Kind and type; the fields behind 35 up to the one before 10; the number of 34; the type's own values as numbers (a
--- test request's text is none), and the text of the first; whether 123 says Y.
+-- Kind and type; the fields behind 35 up to the one before 10; the number of 34; the type's own values as numbers (0
+-- where a test request's text is none), and the text of the first; whether 123 says Y.
 abbrev pub messageWith : List ℕ → Span → Span → Kind → Bool → Message
 messageWith b name fields kind fill =
     let run = part b (fields .start) (fields .len) in
@@ -51,6 +52,14 @@ messageOf b name fields =
     (saysYes 123 (fieldsOf (part b (fields .start) (fields .len))))
 
 -- ─── The judgement ───
+
+-- The message that an answer bears; a refusal bears none.
+abbrev pub messageIn : Judged → Option Message
+messageIn (Refused r) = none
+messageIn (Next m) = some m
+messageIn (Again m) = some m
+messageIn (Gap m) = some m
+messageIn (Reset m) = some m
 
 abbrev pub reading : ℕ → Judged → Reading
 reading expected answer = record { expected = expected; answer = answer }

@@ -30,8 +30,8 @@ use Rattle.flow.specs.Bufferful.{heard, Bufferful}
 use Rattle.flow.proofs.first.Half.{start-safe}
 use Rattle.flow.proofs.source.Sources.{start-source}
 use Rattle.flow.proofs.several.OneByOne.{StopFits, Fits, one-by-one}
-use Rattle.flow.proofs.several.Received.{some-packet, received-inside}
-use Rattle.flow.proofs.several.Published.{some-record}
+use Rattle.flow.proofs.several.Received.{some-packet, packet-local, received-inside}
+use Rattle.flow.proofs.several.Published.{some-record, record-local}
 use Rattle.flow.proofs.several.Heard.{heard-run}
 
 -- ─── Packets ───
@@ -68,6 +68,7 @@ packets-fit =
           received-fits s (r .bytes) at n (r .answer) (received-inside e (take n (drop at s)) l);
       ended = λ s l. refl;
       cut = λ s l n. refl;
+      local = packet-local;
     }
 
 -- ─── Records ───
@@ -87,6 +88,7 @@ records-fit =
           published-fits s (r .bytes) at (r .answer);
       ended = λ s l. refl;
       cut = λ s l n. refl;
+      local = record-local;
     }
 
 -- ─── All of it ───

@@ -24,3 +24,6 @@ pub mod Follows
 pub mod bench
 pub mod Biggest
 pub mod Bufferful
+pub mod Refusals
+pub mod Untagged
+pub mod Records

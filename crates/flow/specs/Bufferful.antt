@@ -1,11 +1,12 @@
 -- A bufferful is so many single calls (02, No. 8): called until it is through, each time with what was not taken, the
 -- call for several gives what the single call gives for each packet, or record, that the bytes cut into.
-use Prim.Native.Nat.{ℕ, zero, suc, _<_, _≤_}
+use Prim.Native.Nat.{ℕ, zero, suc, _+_, _-_, _<_, _≤_}
 use mathlib.Core.Path.{_≡_}
 use mathlib.Core.List.{List, [], _∷_, _++_, map}
 use mathlib.Core.Bool.{Bool, true, false, cond}
-use lib.ListN.{length, drop, replicate}
+use lib.ListN.{length, take, drop, replicate}
 use lib.Dec.{eqb}
+use Rattle.ftd.specs.Bytes.{joined}
 use Rattle.ftd.specs.Runs.{runOf}
 use Rattle.ftd.specs.declared.refusal.Refusal.the-variants.{LongExtension, BodyLength}
 use Rattle.flow.specs.declared.sender.Sender.{Sender}
@@ -94,6 +95,43 @@ calls (suc most) R e bytes l =
 abbrev pub lastTold : {E A B : Type 0} → Repeated E A B → List ℕ → Told
 lastTold R rest = cond (eqb (length rest) 0) end (short (R .missing rest))
 
+-- Where a call stopped that goes from a place on over some inputs: those before that one, none of which is handed out,
+-- and the input. The call leaves what the single call for it leaves, of the end and bytes that those before it left,
+-- and says what that says.
+pub record StoppedAt {E A B : Type 0} (R : Repeated E A B) (e : E) (l : List ℕ) (at : ℕ) (inputs : List (List ℕ))
+    (many : Took E B) (a : Said) : Type 0 where
+  pub before : List (List ℕ)
+  pub input : List ℕ
+  pub behind : List (List ℕ)
+  pub all : inputs ≡ before ++ (input ∷ behind)
+  pub passed : handedOut (each R e l before .said) ≡ []
+  pub says :
+      let b = each R e l before in
+      let r = R .call (b .end) input (b .bytes) in
+      (many .end ≡ r .end) × (many .bytes ≡ r .bytes) × (R .said input (r .bytes) (r .answer) ≡ a)
+  pub taken : many .taken ≡ at + length (joined before) + length input
+
+-- One reading behind another (a driver's reads): what both leave, with the answers of the first but its last, which was
+-- end or short, and then those of the second.
+abbrev pub allButLast : {A : Type 0} → List A → List A
+allButLast l = take (length l - 1) l
+
+abbrev pub readOn : {E : Type 0} → Through E → Through E → Through E
+readOn first second =
+    record {
+      end = second .end;
+      bytes = second .bytes;
+      rest = second .rest;
+      answers = allButLast (first .answers) ++ second .answers;
+    }
+
+-- Reading after reading, each with what the one before it did not take in front.
+abbrev pub inReads : {E A B : Type 0} → ℕ → Repeated E A B → E → List ℕ → List ℕ → List (List ℕ) → Through E
+inReads most R e bytes l [] = calls most R e bytes l
+inReads most R e bytes l (b ∷ bs) =
+    let first = calls most R e bytes l in
+    readOn first (inReads most R (first .end) (first .rest ++ b) (first .bytes) bs)
+
 pub record OneByOne {E A B : Type 0} (R : Repeated E A B) : Type 0 where
   -- With as many calls as it takes: the end, every byte lent, the messages and refusals in order, and then end or short
   -- with the rest, are those of the single call for each input that the bytes cut into.
@@ -114,6 +152,19 @@ pub record OneByOne {E A B : Type 0} (R : Repeated E A B) : Type 0 where
       let r = severalOf R e bytes l in
       R .told bytes (r .bytes) (r .answer) ≡ stopped a → R .form .head ≤ r .taken
   pub inside : (e : E) (bytes l : List ℕ) → severalOf R e bytes l .taken ≤ length bytes
+  -- Read in pieces, cut anywhere: what a reading of the first bytes did not take, with the others behind it, gives what
+  -- one reading of all of them gives.
+  pub across : (e : E) (a b l : List ℕ) (m n k : ℕ) → length a < m →
+      let first = calls m R e a l in
+      length (first .rest ++ b) < n → length (a ++ b) < k
+      → readOn first (calls n R (first .end) (first .rest ++ b) (first .bytes)) ≡ calls k R e (a ++ b) l
+  -- So for any number of reads.
+  pub reads : (e : E) (bytes l : List ℕ) (bs : List (List ℕ)) (most : ℕ) → length (bytes ++ joined bs) < most
+      → inReads most R e bytes l bs ≡ calls most R e (bytes ++ joined bs) l
+  -- A call that is not through stops at the first input that is handed out.
+  pub stops : (e : E) (bytes l : List ℕ) (a : Said) →
+      let r = severalOf R e bytes l in
+      R .told bytes (r .bytes) (r .answer) ≡ stopped a → StoppedAt R e l 0 (runOf (R .form) bytes .entries) r a
 
 -- ─── Reports that nobody hears: those of again and held ───
 

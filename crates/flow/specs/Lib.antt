@@ -22,6 +22,9 @@ pub mod OrderRows
 pub mod Biggest
 pub mod Several
 pub mod Bufferful
+pub mod Refusals
+pub mod Untagged
+pub mod Records
 pub mod SeveralHelpers
 pub mod Helpers
 pub mod ShareHelpers

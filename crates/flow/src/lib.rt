@@ -6,12 +6,15 @@ ghost use Rattle.flow.specs.Bufferful.{Bufferful};
 ghost use Rattle.flow.specs.Effective.{EffectiveHistories};
 ghost use Rattle.flow.specs.Follows.{NumbersFollow};
 ghost use Rattle.flow.specs.PacketByPacket.{PacketByPacket};
+ghost use Rattle.flow.specs.Records.{RecordLayout};
+ghost use Rattle.flow.specs.Refusals.{RefusalsLeave};
 ghost use Rattle.flow.specs.EveryPiece.{EveryPiece};
 ghost use Rattle.flow.specs.Shares.{Shares};
 ghost use Rattle.flow.specs.Order.{OrderLaws};
 ghost use Rattle.flow.specs.OrderRows.{OrderRows};
 ghost use Rattle.flow.specs.Rewind.{RewindAgreement};
 ghost use Rattle.flow.specs.RewindNumbers.{RewindNumbers};
+ghost use Rattle.flow.specs.Untagged.{Untagged};
 
 pub mod limits; // the limits of both
 pub mod series; // series in a list
@@ -61,6 +64,21 @@ pub fn keeps_biggest()
 // A bufferful is so many single calls, as a promise.
 pub fn keeps_bufferful()
     ensures { λ _. ⌜ Bufferful ⌝ }
+{}
+
+// A refusal changes nothing, as a promise.
+pub fn keeps_refusals()
+    ensures { λ _. ⌜ RefusalsLeave ⌝ }
+{}
+
+// Packets without a trade date, as a promise.
+pub fn keeps_untagged()
+    ensures { λ _. ⌜ Untagged ⌝ }
+{}
+
+// The layout of records, as a promise.
+pub fn keeps_records()
+    ensures { λ _. ⌜ RecordLayout ⌝ }
 {}
 
 // The numbers taken follow each other, as a promise.

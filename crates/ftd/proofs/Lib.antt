@@ -5,3 +5,4 @@ pub mod Opened
 pub mod Bench
 pub mod Follow
 pub mod Return
+pub mod Refusals

@@ -24,4 +24,5 @@ pub mod Item
 pub mod Follow
 pub mod Return
 pub mod Demand2
+pub mod Refusals
 pub mod Bench

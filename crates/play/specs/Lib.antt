@@ -4,3 +4,4 @@ pub mod Lines
 pub mod State
 pub mod Several
 pub mod Played
+pub mod Input

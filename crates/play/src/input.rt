@@ -2,6 +2,7 @@
 ghost use mathlib.Core.Path.{_≡_};
 ghost use Prim.Native.Nat.{_+_, _<_};
 ghost use lib.ListN.{length};
+ghost use Rattle.play.specs.Input.{LineLaws, lineTaken, takeLineOf};
 
 // How far the input was taken, how many bytes of the line there are, and whether it ended. More bytes than its buffer
 // has stand for a line that is too long.
@@ -14,7 +15,9 @@ pub struct Taken {
 // Takes the bytes of the input from a place on, up to the end of the line, into its buffer behind those that are there.
 pub fn take_line(input: &[u8], at: usize, line: &mut [u8], have: usize) -> Taken
     ensures { λ r. ⌜ (at < length (now (input .entry)) → at < r .at)
-        × (length (now (line .exit)) ≡ length (now (line .entry))) ⌝ }
+        × (length (now (line .exit)) ≡ length (now (line .entry)))
+        × (lineTaken (r .at) (r .have) (r .whole) (now (line .exit))
+        ≡ takeLineOf (now (input .entry)) at (now (line .entry)) have) ⌝ }
 {
     let mut i = at;
     let mut n = have;
@@ -41,3 +44,8 @@ pub fn take_line(input: &[u8], at: usize, line: &mut [u8], have: usize) -> Taken
         whole: false,
     }
 }
+
+// Lines taken from the pieces of an input are its lines, as a promise.
+pub fn keeps_line_laws()
+    ensures { λ _. ⌜ LineLaws ⌝ }
+{}

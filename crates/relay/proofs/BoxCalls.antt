@@ -62,7 +62,7 @@ use Rattle.relay.proofs.Logged.{logged-run}
 use Rattle.relay.proofs.Together.{both-lines}
 
 -- What wrote something was taken.
-wrote-taken : (a : Said) → any (off a .wrote) ≡ true → isTaken a ≡ true
+pub wrote-taken : (a : Said) → any (off a .wrote) ≡ true → isTaken a ≡ true
 wrote-taken (refused n) q = clash false q refl
 wrote-taken opened q = refl
 wrote-taken (published k) q = refl
@@ -81,7 +81,7 @@ wrote-taken returned q = refl
 
 -- ─── A call of a seat: nothing changed, or it wrote something ───
 
-data SeatLeft {A : Type 0} (said : A → Said) (b : Box) (i : ℕ) (out : List ℕ) : Wrote Box A → Type 0 where
+pub data SeatLeft {A : Type 0} (said : A → Said) (b : Box) (i : ℕ) (out : List ℕ) : Wrote Box A → Type 0 where
   rested : (a : A) → SeatLeft said b i out (wrote b a out)
   moved : (X : Seat) (a : A) (bytes : List ℕ) → any (off (said a) .wrote) ≡ true
       → SeatLeft said b i out (wrote (withSeat b i X) a bytes)
@@ -94,7 +94,7 @@ module _ (b : Box) (i s : ℕ) where
   abbrev e : Sender
   e = serverAt b i
 
-  login-left : (p content out : List ℕ) → SeatLeft loginSaid b i out (loginSeatOf b i s p content out)
+  pub login-left : (p content out : List ℕ) → SeatLeft loginSaid b i out (loginSeatOf b i s p content out)
   unfolding loginSeatOf
   login-left p content out =
       by-when (SeatLeft loginSaid b i out) (noSuchSeat i) (λ q. rested (NotIn NoSeat)) λ q.
@@ -105,7 +105,7 @@ module _ (b : Box) (i s : ℕ) where
       go r (login-refused x) = rw (seat-own b i) (rested (NotIn x))
       go r (login-taken h x c a d g t) = moved _ _ _ refl
 
-  send-left : (log out : List ℕ) → SeatLeft sentSaid b i out (sendSeatOf b i s log out)
+  pub send-left : (log out : List ℕ) → SeatLeft sentSaid b i out (sendSeatOf b i s log out)
   unfolding sendSeatOf
   send-left log out =
       by-when (SeatLeft sentSaid b i out) (noSuchSeat i) (λ q. rested (NotSent NoSeat)) λ q.
@@ -120,7 +120,7 @@ module _ (b : Box) (i s : ℕ) where
       go r (send-small x a c d f) = rw (seat-own b i) (rested _)
       go r (send-taken x a c d f) = moved _ _ _ refl
 
-  packet-left : (log out : List ℕ) → SeatLeft sentPacketSaid b i out (sendPacketSeatOf b i s log out)
+  pub packet-left : (log out : List ℕ) → SeatLeft sentPacketSaid b i out (sendPacketSeatOf b i s log out)
   unfolding sendPacketSeatOf
   packet-left log out =
       by-when (SeatLeft sentPacketSaid b i out) (noSuchSeat i) (λ q. rested (NotPacket NoSeat)) λ q.
@@ -171,11 +171,11 @@ module _ {A : Type 0} (said : A → Said) (b : Box) (j : ℕ) (out : List ℕ) w
 
 -- ─── Opening: nothing changed, or the receiving end and its reserves set ───
 
-data OpenLeft (b : Box) : Left Box Opened → Type 0 where
+pub data OpenLeft (b : Box) : Left Box Opened → Type 0 where
   rested : (x : Refusal) → OpenLeft b (left b (NotOpened x))
   set-up : (e : Receiver) (rs : List ℕ) → Eight e → OpenLeft b (left (box e rs (b .day) (b .seats)) Done)
 
-open-left : (b : Box) (ss rs : List ℕ) → OpenLeft b (openBoxOf b ss rs)
+pub open-left : (b : Box) (ss rs : List ℕ) → OpenLeft b (openBoxOf b ss rs)
 unfolding openBoxOf
 open-left b ss rs =
     by-when (OpenLeft b) (not (eqb (length rs) (length ss))) (λ q. rested Opening) λ q.
@@ -203,7 +203,7 @@ module _ (b : Box) where
   open-reserves r (rested x) q = refl
   open-reserves r (set-up e rs g) q = clash true refl q
 
-  open-refused : (r : Left Box Opened) → OpenLeft b r → isTaken (openedSaid (r .answer)) ≡ false → r .end ≡ b
+  pub open-refused : (r : Left Box Opened) → OpenLeft b r → isTaken (openedSaid (r .answer)) ≡ false → r .end ≡ b
   open-refused r (rested x) q = refl
   open-refused r (set-up e rs g) q = clash true refl q
 
@@ -257,7 +257,7 @@ module _ (b : Box) (s : ℕ) (p log : List ℕ) where
   answer-reserves r (stayed n d q f u) = refl
   answer-reserves r (turns n d q f u o) = refl
 
-  answer-refused : (r : Left Box Confirmed) → D r → isTaken (confirmedSaid (r .answer)) ≡ false → r .end ≡ b
+  pub answer-refused : (r : Left Box Confirmed) → D r → isTaken (confirmedSaid (r .answer)) ≡ false → r .end ≡ b
   answer-refused r (turned x) g = refl
   answer-refused r (stayed n d q f u) g = clash true refl g
   answer-refused r (turns n d q f u o) g = clash true refl g
@@ -337,7 +337,7 @@ module _ (b : Box) (p log buffer : List ℕ) where
       record { opens = c .opens t; kept = c .others-kept t z; live = c .others-live t z }
 
   -- Refused: by its number, and by whether the receiving end handed a message on.
-  same-number : (n k : ℕ) → refused n ≡ refused k → n ≡ k
+  pub same-number : (n k : ℕ) → refused n ≡ refused k → n ≡ k
   same-number n k q = cc
 
   early : (r : Relayed) → R r → (n : ℕ) → receivedSaid p (r .buffer) (r .answer) ≡ refused n → n < 15
@@ -350,7 +350,7 @@ module _ (b : Box) (p log buffer : List ℕ) where
   early r (ReceiveEffect.hands o last live k tid origin at bytes day more) n f l g =
       let z : _≡_ {A = ℕ} 0 1 = cc in absurd (omega arith)
 
-  small-refused : (a : _) → Small a → (n : ℕ) → receivedSaid p buffer a ≡ refused n → n < 15
+  pub small-refused : (a : _) → Small a → (n : ℕ) → receivedSaid p buffer a ≡ refused n → n < 15
   small-refused Idle q n f = let z : _≡_ {A = ℕ} 0 1 = cc in absurd (omega arith)
   small-refused (Duplicate k) q n f = absurd q
   small-refused (Partial k) q n f = absurd q
@@ -495,7 +495,7 @@ module _ (x : Standing) where
   stands : (b : Box) → b ≡ B → standing b (x .log) (x .buffer) ≡ x
   stands b q = ap (λ (y : Box). standing y (x .log) (x .buffer)) q
 
-  refused-all : (c : BoxCall) → isReceiving c ≡ false → isTaken (shows x c .said) ≡ false → after x c ≡ x
+  pub refused-all : (c : BoxCall) → isReceiving c ≡ false → isTaken (shows x c .said) ≡ false → after x c ≡ x
   refused-all (opening ss rs) m q = stands _ (open-refused B _ (open-left B ss rs) q)
   refused-all connect m q = clash true refl q
   refused-all (ask s content out) m q = stands _ (ask-end B s content out)

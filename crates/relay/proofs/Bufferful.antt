@@ -9,7 +9,7 @@ use Rattle.flow.specs.declared.several.ReceivedSeveral.{ReceivedSeveral}
 use Rattle.flow.specs.Answers.{Said, receivedSaid}
 use Rattle.flow.specs.Several.{receiving, receivedStops}
 use Rattle.flow.proofs.Bufferful.{received-fits}
-use Rattle.flow.proofs.several.Received.{some-packet}
+use Rattle.flow.proofs.several.Received.{some-packet, packet-local}
 use Rattle.flow.proofs.several.OneByOne.{StopFits, Fits, one-by-one}
 use Rattle.relay.specs.Bufferful.{relaying, relayOne, BoxBufferful}
 use Rattle.relay.proofs.several.Turns.{relayed-inside}
@@ -24,6 +24,7 @@ packets-fit : Fits relaying
 packets-fit =
     record {
       some-head = some-packet;
+      local = packet-local;
       stop =
           λ e s l at n.
           let r = relayOne e (take n (drop at s)) l in

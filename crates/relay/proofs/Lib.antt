@@ -14,6 +14,7 @@ pub mod Logged
 pub mod Together
 pub mod BoxCalls
 pub mod Bufferful
+pub mod Refusals
 pub mod Examples
 pub mod Ways
 pub mod Seats

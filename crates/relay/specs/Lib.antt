@@ -12,3 +12,4 @@ pub mod Agreement
 pub mod Row
 pub mod RowAgreement
 pub mod RowExamples
+pub mod Refusals

@@ -4,6 +4,7 @@ ghost use Rattle.relay.specs.Agreement.{BoxAgreement};
 ghost use Rattle.relay.specs.Bufferful.{BoxBufferful};
 ghost use Rattle.relay.specs.Calls.{BoxCalls};
 ghost use Rattle.relay.specs.Examples.{BoxExamples};
+ghost use Rattle.relay.specs.Refusals.{RefusalsLeave};
 ghost use Rattle.relay.specs.RowAgreement.{RowAgreement};
 ghost use Rattle.relay.specs.RowExamples.{RowExamples};
 
@@ -19,6 +20,11 @@ pub fn keeps_box()
 // What each call of the box changes and leaves, as a promise.
 pub fn keeps_box_calls()
     ensures { λ _. ⌜ BoxCalls ⌝ }
+{}
+
+// A refused call leaves all as it was, Receive but for a chain, as a promise.
+pub fn keeps_box_refusals()
+    ensures { λ _. ⌜ RefusalsLeave ⌝ }
 {}
 
 // A bufferful from above is so many single calls, as a promise.

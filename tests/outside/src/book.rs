@@ -66,7 +66,7 @@ impl Book {
         unsafe { ftd_book_take(self, tid, content.as_ptr(), content.len()) }
     }
 
-    /// Side 0 is selling, any other number buying.
+    /// Side 0 is buying, any other number selling.
     pub fn level(self, side: u8, place: usize) -> Listed {
         unsafe { ftd_book_level(self, side, place) }
     }
@@ -324,8 +324,8 @@ impl Books {
     ) -> Result<u8, String> {
         asked.same(what, step, Step { book: numbers(&self.model), refusal })?;
         self.library = step.book;
-        let buying = r.pick(&[1, 1, 2, 255]);
-        for (side, number) in [(Side::Selling, 0), (Side::Buying, buying)] {
+        let selling = r.pick(&[1, 1, 2, 255]);
+        for (side, number) in [(Side::Buying, 0), (Side::Selling, selling)] {
             let beyond = r.pick(&[65, 128, 1 << 32, usize::MAX]);
             let places = || (0..=MOST_LEVELS).chain([beyond]);
             let listed = places().map(|i| self.library.level(number, i)).collect();

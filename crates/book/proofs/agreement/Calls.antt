@@ -18,6 +18,7 @@ use Rattle.book.specs.declared.calls.Step.{Step}
 use Rattle.book.specs.declared.calls.Outcome.{Outcome}
 use Rattle.book.specs.declared.calls.Outcome.the-variants.{Done, Refused}
 use Rattle.book.specs.Levels.{empty, samePrice, noLevels}
+use Rattle.book.specs.Sums.{beyond}
 use Rattle.book.specs.Calls.{isCode, started, startOf, done, refusing, applied, goOn, walked, eventsOf, orKept}
 use Rattle.book.specs.Calls.{checkedThen, takeOf, freshBook}
 use Rattle.book.specs.Agreement.{Call, start, take, World, world, listAfter, made, after}
@@ -50,7 +51,15 @@ side-fresh s = record {
 }
 
 pub started-holds : (code : List ℕ) → Holds (started code) []
-started-holds code = record { buying = side-fresh true; selling = side-fresh false; turnover = refl; volume = refl }
+unfolding beyond
+started-holds code = record {
+  buying = side-fresh true;
+  selling = side-fresh false;
+  turnover = refl;
+  volume = refl;
+  turnoverWithin = refl;
+  volumeWithin = refl;
+}
 
 -- ─── Taken ───
 

@@ -50,6 +50,8 @@ pub record Holds (b : Book) (es : List Event) : Type 0 where
   pub selling : SideHolds false (b .selling) es
   pub turnover : b .sums .turnover ≡ turnoverOf es
   pub volume : b .sums .volume ≡ volumeOf es
+  pub turnoverWithin : beyond (b .sums .turnover) ≡ false
+  pub volumeWithin : beyond (b .sums .volume) ≡ false
 
 pub over-end : (f : ℤ → Event → ℤ) (q : ℤ) (es : List Event) (e : Event) → over f q (es ++ (e ∷ [])) ≡ f (over f q es) e
 over-end f q [] e = refl
@@ -57,12 +59,18 @@ over-end f q (x ∷ es) e = over-end f (f q x) es e
 
 -- ─── A side ───
 
-last-free : (l : List Level) (n : ℕ) → length l ≡ suc n → used (getD l n empty) ≡ false → lastFree l ≡ true
-last-free [] n h e = absurd (omega arith)
-last-free (y ∷ []) zero h e = rw e
-last-free (y ∷ []) (suc n) h e = absurd (omega arith)
-last-free (y ∷ z ∷ zs) zero h e = absurd (omega arith)
-last-free (y ∷ z ∷ zs) (suc n) h e = last-free (z ∷ zs) n (omega arith) e
+-- Where a place is not used, the last one is free.
+last-free : (s : Bool) (l : List Level) (n : ℕ) → Ranked s l → n < length l → used (getD l n empty) ≡ false
+    → lastFree l ≡ true
+last-free s [] n r h e = absurd (omega arith)
+last-free s (y ∷ []) zero r h e = rw e
+last-free s (y ∷ []) (suc n) r h e = absurd (omega arith)
+last-free s (y ∷ z ∷ zs) zero r h e = last-free s (z ∷ zs) zero (r .1) (omega arith) (next (used z) refl)
+  where
+    next : (t : Bool) → used z ≡ t → t ≡ false
+    next true u = absurd (false≢true (sym e ∙ r .0 .0 u .0))
+    next false u = refl
+last-free s (y ∷ z ∷ zs) (suc n) r h e = last-free s (z ∷ zs) n (r .1) (omega arith) e
 
 module _ (s : Bool) (side : Side) (es : List Event) (h : SideHolds s side es) (e : Event) where
   pub side-stays : ((r : ℤ) → changed s r (pos (look r (side .levels))) e ≡ pos (look r (side .levels)))
@@ -105,7 +113,7 @@ unfolding newOf
 new-is true old v n e = cc
 new-is false old v n e = in-range (pos old +ℤ twos v) n e
 
-same-side : (s : Bool) → sameSide s s ≡ true
+pub same-side : (s : Bool) → sameSide s s ≡ true
 same-side true = refl
 same-side false = refl
 
@@ -130,7 +138,7 @@ module _ (s : Bool) (side : Side) (es : List Event) (h : SideHolds s side es) (a
     unfolding oneMore isFull
     room m u z =
         let p : n ≡ 0 → ⊥ = λ q. omega (arith, ltb-true 0 n u) in
-        last-free (side .levels) 63 (h .places)
+        last-free s (side .levels) 63 (h .ranked) (rw (h .places) (omega arith))
         (rw (side-look s side es h (o .price), z, ne-eqb n 0 p) at m)
 
   pub side-quoted : quoteOn side absolute s o .answer ≡ Done
@@ -215,14 +223,17 @@ module _ (s : Bool) (side : Side) (es : List Event) (h : SideHolds s side es) (o
           (side-put s side es h (Match o) (o .price) (quantityAt s (o .price) side - o .quantity)
           (λ u e. absurd (z (side-look s side es h (o .price) ∙ e))) (taken-there z))
 
-added-is : (sum x n : ℤ) → addedTo sum x ≡ Within n → n ≡ sum +ℤ x
+added-is : (sum x n : ℤ) → addedTo sum x ≡ Within n → (n ≡ sum +ℤ x) × (beyond n ≡ false)
 unfolding addedTo
-added-is sum x n e = go (beyond sum) (beyond (sum +ℤ x)) e
+added-is sum x n e = go (beyond sum) (beyond (sum +ℤ x)) refl e
   where
-    go : (a b : Bool) → cond a Beyond (cond b Beyond (Within (sum +ℤ x))) ≡ Within n → n ≡ sum +ℤ x
-    go true b q = cc
-    go false true q = cc
-    go false false q = cc
+    go : (a b : Bool) → beyond (sum +ℤ x) ≡ b → cond a Beyond (cond b Beyond (Within (sum +ℤ x))) ≡ Within n
+        → (n ≡ sum +ℤ x) × (beyond n ≡ false)
+    go true b w q = absurd (let z : _≡_ {A = ℕ} 0 1 = cc in omega arith)
+    go false true w q = absurd (let z : _≡_ {A = ℕ} 0 1 = cc in omega arith)
+    go false false w q =
+        let f : n ≡ sum +ℤ x = cc in
+        (f, ap beyond f ∙ w)
 
 both-are : (a b : Total) (n : Sums) → bothOf a b ≡ Both n → (a ≡ Within (n .turnover)) × (b ≡ Within (n .volume))
 both-are Beyond b n e = absurd (let z : _≡_ {A = ℕ} 0 1 = cc in omega arith)
@@ -257,15 +268,15 @@ module _ (b : Book) (es : List Event) (h : Holds b es) (o : Level) where
       let f = check-facts b o c in
       let m = both-are (addedTo (b .sums .turnover) (o .price *ℤ pos (o .quantity)))
       (addedTo (b .sums .volume) (pos (o .quantity))) n e in
+      let x = added-is (b .sums .turnover) (o .price *ℤ pos (o .quantity)) (n .turnover) (m .0) in
+      let y = added-is (b .sums .volume) (pos (o .quantity)) (n .volume) (m .1) in
       record {
         buying = side-matched true (b .buying) es (h .buying) o (f .0);
         selling = side-matched false (b .selling) es (h .selling) o (f .1);
-        turnover =
-            added-is (b .sums .turnover) (o .price *ℤ pos (o .quantity)) (n .turnover) (m .0)
-            ∙ (rw (h .turnover, over-end moreTurnover (pos 0) es (Match o)));
-        volume =
-            added-is (b .sums .volume) (pos (o .quantity)) (n .volume) (m .1)
-            ∙ (rw (h .volume, over-end moreVolume (pos 0) es (Match o)));
+        turnover = x .0 ∙ (rw (h .turnover, over-end moreTurnover (pos 0) es (Match o)));
+        volume = y .0 ∙ (rw (h .volume, over-end moreVolume (pos 0) es (Match o)));
+        turnoverWithin = x .1;
+        volumeWithin = y .1;
       }
 
   match-holds : matchOn b o .answer ≡ Done → Holds (matchOn b o .book) (es ++ (Match o ∷ []))
@@ -285,17 +296,23 @@ applied-holds b es Nothing h a = record {
   selling = side-stays false (b .selling) es (h .selling) Nothing (λ r. refl);
   turnover = h .turnover ∙ sym (over-end moreTurnover (pos 0) es Nothing);
   volume = h .volume ∙ sym (over-end moreVolume (pos 0) es Nothing);
+  turnoverWithin = h .turnoverWithin;
+  volumeWithin = h .volumeWithin;
 }
 applied-holds b es (Quotation absolute true o) h a = record {
   buying = side-quoted true (b .buying) es (h .buying) absolute o a;
   selling = side-other false true refl (b .selling) es (h .selling) absolute o;
   turnover = h .turnover ∙ sym (over-end moreTurnover (pos 0) es (Quotation absolute true o));
   volume = h .volume ∙ sym (over-end moreVolume (pos 0) es (Quotation absolute true o));
+  turnoverWithin = h .turnoverWithin;
+  volumeWithin = h .volumeWithin;
 }
 applied-holds b es (Quotation absolute false o) h a = record {
   buying = side-other true false refl (b .buying) es (h .buying) absolute o;
   selling = side-quoted false (b .selling) es (h .selling) absolute o a;
   turnover = h .turnover ∙ sym (over-end moreTurnover (pos 0) es (Quotation absolute false o));
   volume = h .volume ∙ sym (over-end moreVolume (pos 0) es (Quotation absolute false o));
+  turnoverWithin = h .turnoverWithin;
+  volumeWithin = h .volumeWithin;
 }
 applied-holds b es (Match o) h a = match-holds b es h o a

@@ -8,6 +8,7 @@ use borrow.Author.Tests.{lt-ltb, ltb-true}
 use lib.ListN.{length, getD}
 use lib.IntN.{ℤ, pos}
 use lib.Dec.{ltb}
+use lib.Signed.{ltZ}
 use Rattle.book.specs.declared.levels.Level.{Level}
 use Rattle.book.specs.declared.levels.Side.{Side}
 use Rattle.book.specs.declared.levels.Listed.{Listed}
@@ -25,7 +26,7 @@ use Rattle.book.proofs.agreement.Calls.{started-holds, after-holds}
 
 -- ─── The places of a ranked list ───
 
-behind-at : (s : Bool) (x : Level) (l : List Level) (i : ℕ) → Behind s x l → used (getD l i empty) ≡ true
+pub behind-at : (s : Bool) (x : Level) (l : List Level) (i : ℕ) → Behind s x l → used (getD l i empty) ≡ true
     → (used x ≡ true) × (better s (x .price) (getD l i empty .price) ≡ true)
 behind-at s x [] i b u = absurd (false≢true u)
 behind-at s x (m ∷ ms) zero b u = b .0 u
@@ -142,11 +143,15 @@ module _ (b : Book) (es : List Event) (h : Holds b es) where
   book-quantities true p = (look p (b .buying .levels), h .buying .quantities p)
   book-quantities false p = (look p (b .selling .levels), h .selling .quantities p)
 
-  book-ordered : (buying : Bool) (i j : ℕ) (p : ℤ) (n : ℕ) → i < j → levelOf b buying j ≡ At p n
-      → (r : ℤ) × (m : ℕ) × (levelOf b buying i ≡ At r m) × (better buying r p ≡ true)
-  unfolding levelOf
-  book-ordered true = side-ordered true (b .buying) es (h .buying)
-  book-ordered false = side-ordered false (b .selling) es (h .selling)
+  from-highest : (i j : ℕ) (p : ℤ) (n : ℕ) → i < j → levelOf b true j ≡ At p n
+      → (r : ℤ) × (m : ℕ) × (levelOf b true i ≡ At r m) × (ltZ p r ≡ true)
+  unfolding levelOf better
+  from-highest = side-ordered true (b .buying) es (h .buying)
+
+  from-lowest : (i j : ℕ) (p : ℤ) (n : ℕ) → i < j → levelOf b false j ≡ At p n
+      → (r : ℤ) × (m : ℕ) × (levelOf b false i ≡ At r m) × (ltZ r p ≡ true)
+  unfolding levelOf better
+  from-lowest = side-ordered false (b .selling) es (h .selling)
 
   book-few : (buying : Bool) (i : ℕ) → 64 ≤ i → levelOf b buying i ≡ NoLevel
   unfolding levelOf
@@ -159,7 +164,8 @@ module _ (b : Book) (es : List Event) (h : Holds b es) where
     listed = book-listed;
     all = book-all;
     quantities = book-quantities;
-    ordered = book-ordered;
+    fromHighest = from-highest;
+    fromLowest = from-lowest;
     few = book-few;
     mean = rw (h .turnover, h .volume);
   }

@@ -109,7 +109,7 @@ module _ (l : List ℕ) (wide : length l ≡ 12) (v : Signed) (q : v ≡ floatVa
 -- ─── A quotation and a match by their places ───
 
 module _ (bytes : List ℕ) (fid i kind scale start width : ℕ) (p : itemOf fid i ≡ Item kind scale start width) where
-  item-part : start + width ≤ length bytes → itemBytes bytes fid i ≡ part bytes start width
+  pub item-part : start + width ≤ length bytes → itemBytes bytes fid i ≡ part bytes start width
   unfolding itemBytes
   item-part h = rw (p, le-leb (start + width) (length bytes) h)
 
@@ -136,35 +136,35 @@ number-part f at =
     )
 
 -- Places of the items (Appendix D).
-quotation-code : itemOf 0x000D 0 ≡ Item stringKind 0 0 10
+pub quotation-code : itemOf 0x000D 0 ≡ Item stringKind 0 0 10
 unfolding opened
 quotation-code = refl
 
-quotation-kind : itemOf 0x000D 2 ≡ Item boolFlagKind 0 11 1
+pub quotation-kind : itemOf 0x000D 2 ≡ Item boolFlagKind 0 11 1
 unfolding opened
 quotation-kind = refl
 
-quotation-side : itemOf 0x000D 3 ≡ Item boolFlagKind 0 12 1
+pub quotation-side : itemOf 0x000D 3 ≡ Item boolFlagKind 0 12 1
 unfolding opened
 quotation-side = refl
 
-quotation-price : itemOf 0x000D 4 ≡ Item floatKind 4 13 12
+pub quotation-price : itemOf 0x000D 4 ≡ Item floatKind 4 13 12
 unfolding opened
 quotation-price = refl
 
-quotation-volume : itemOf 0x000D 5 ≡ Item intKind 0 25 4
+pub quotation-volume : itemOf 0x000D 5 ≡ Item intKind 0 25 4
 unfolding opened
 quotation-volume = refl
 
-match-code : itemOf 0x000A 0 ≡ Item stringKind 0 0 10
+pub match-code : itemOf 0x000A 0 ≡ Item stringKind 0 0 10
 unfolding opened
 match-code = refl
 
-match-price : itemOf 0x000A 3 ≡ Item floatKind 4 12 12
+pub match-price : itemOf 0x000A 3 ≡ Item floatKind 4 12 12
 unfolding opened
 match-price = refl
 
-match-volume : itemOf 0x000A 4 ≡ Item intKind 0 24 4
+pub match-volume : itemOf 0x000A 4 ≡ Item intKind 0 24 4
 unfolding opened
 match-volume = refl
 

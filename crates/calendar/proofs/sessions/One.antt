@@ -11,7 +11,7 @@ use Rattle.calendar.specs.Calendar.{some, wrongSession, overlap, overlap
 use Rattle.calendar.specs.Calendar.{firstOf, lastOf}
 use Rattle.calendar.proofs.Some.{or-neither, none-at}
 
-both : (a b : Bool) → (a && b) ≡ true → (a ≡ true) × (b ≡ true)
+pub both : (a b : Bool) → (a && b) ≡ true → (a ≡ true) × (b ≡ true)
 both true b e = (refl, e)
 both false b e = absurd (false≢true e)
 

@@ -52,6 +52,19 @@ longest =
     ∷ 20240201 ∷ 20240202 ∷ 20240205 ∷ 20240206 ∷ 20240207 ∷ 20240208 ∷ 20240209 ∷ 20240212 ∷ 20240213 ∷ 20240214
     ∷ 20240215 ∷ 20240216 ∷ []
 
+-- Eight sessions of a day, the last one late, and a ninth behind them.
+abbrev pub eight : List ℕ
+eight =
+    30000 ∷ 30500 ∷ 0 ∷ 31000 ∷ 31500 ∷ 0 ∷ 32000 ∷ 32500 ∷ 0 ∷ 33000 ∷ 33500 ∷ 0 ∷ 34000 ∷ 34500 ∷ 0 ∷ 35000 ∷ 35500 ∷ 0
+    ∷ 36000 ∷ 36500 ∷ 0 ∷ 37000 ∷ 37500 ∷ 1 ∷ []
+
+abbrev pub nine : List ℕ
+nine = eight ++ (38000 ∷ 38500 ∷ 0 ∷ [])
+
+-- A calendar after one Set more.
+abbrev pub then : Calendar → List ℕ → List ℕ → Calendar
+then c sessions holidays = setOf c sessions holidays .calendar
+
 -- ─── The table ───
 
 pub record ExampleRow : Type 0 where
@@ -74,6 +87,21 @@ examples =
     ∷ row (sets [] (replicate 33 20240101) ∷ sets [] (20230229 ∷ []) ∷ sets [] (100000101 ∷ []) ∷ [])
     (27 ∷ 27 ∷ 27 ∷ [])
     ∷ row (sets (100 ∷ 100 ∷ 0 ∷ []) (20230229 ∷ []) ∷ []) (26 ∷ [])
+    -- Eight sessions are taken, nine are not.
+    ∷ row (sets eight [] ∷ sets nine [] ∷ sets (eight ++ eight) [] ∷ []) (0 ∷ 26 ∷ 26 ∷ [])
+    -- Each of the eight counts: its first second, and no longer its last; the eighth is late.
+    ∷ row (asks (with eight []) (1200 ∷ 2200 ∷ 3200 ∷ 4200 ∷ 5200 ∷ 6200 ∷ 7200 ∷ 8200 ∷ []))
+    (19700101 ∷ 19700101 ∷ 19700101 ∷ 19700101 ∷ 19700101 ∷ 19700101 ∷ 19700101 ∷ 19700102 ∷ [])
+    ∷ row (asks (with eight []) (8199 ∷ 8699 ∷ 8700 ∷ 9200 ∷ [])) (0 ∷ 19700102 ∷ 0 ∷ 0 ∷ [])
+    -- A refused Set, by 26 and by 27: the sessions and holidays that were set still count, and only they.
+    ∷ row (asks (then (with eveningAndDay festival) nine []) (1707397200 ∷ 1707483600 ∷ 1707699600 ∷ 1708308900 ∷ []))
+    (20240209 ∷ 20240219 ∷ 0 ∷ 0 ∷ [])
+    ∷ row (asks (then (with eveningAndDay festival) eight (20230229 ∷ []))
+    (1707397200 ∷ 1707483600 ∷ 1707699600 ∷ 1708308900 ∷ []))
+    (20240209 ∷ 20240219 ∷ 0 ∷ 0 ∷ [])
+    -- A Set that is taken replaces both.
+    ∷ row (asks (then (with eveningAndDay festival) (32400 ∷ 36900 ∷ 0 ∷ []) []) (1707397200 ∷ 1707699600 ∷ []))
+    (0 ∷ 20240212 ∷ [])
     -- Ask: Thursday and Friday evening before the festival, its days, Sunday, the morning behind it.
     ∷ row (asks (with eveningAndDay festival) (1707397200 ∷ 1707397199 ∷ 1707483600 ∷ 1707494399 ∷ 1707494400 ∷ []))
     (20240209 ∷ 0 ∷ 20240219 ∷ 20240219 ∷ 0 ∷ [])

@@ -164,7 +164,7 @@ times-append k (x ∷ a) b =
     more : (x y z : ℕ) → x + (y + z) ≡ x + y + z
     more x y z = omega arith
 
-in-frame : (k : ℕ) (fs : List Given) → times k (frameTags fs)
+pub in-frame : (k : ℕ) (fs : List Given) → times k (frameTags fs)
     ≡ cond (eqb 8 k) 1 0 + (cond (eqb 9 k) 1 0 + (cond (eqb 35 k) 1 0 + (times k (tagsOf fs) + (cond (eqb 10 k) 1 0 + 0))))
 in-frame k fs = rw (times-append k (tagsOf fs) (10 ∷ []))
 

@@ -5,11 +5,14 @@ use mathlib.Core.List.{List}
 use mathlib.Core.Bool.{Bool, true, false, cond}
 use native.Mathlib.Omega.{arith}
 use borrow.Author.Tests.{lt-ltb, le-ltb, leb-false}
-use lib.ListN.{length, take, drop, length-drop}
+use lib.ListN.{length, take, drop, length-drop, length-take}
+use lib.Seq.{getD-take}
 use lib.Dec.{leb}
 use Rattle.ftd.specs.Bytes.{be16Of, be32Of}
 use Rattle.ftd.specs.Runs.{front, runOf}
 use Rattle.ftd.specs.declared.refusal.Refusal.{Refusal}
+use Rattle.ftd.proofs.Lists.{byte-append}
+use Rattle.ftd.proofs.runs.Joined.{Local}
 use Rattle.ftd.proofs.runs.Heads.{be32-drop, front-short, front-whole}
 use Rattle.flow.specs.declared.sender.Sender.{Sender}
 use Rattle.flow.specs.declared.sender.PublishStep.{PublishStep}
@@ -76,6 +79,22 @@ record-published e x log r after s t p q h = rw (p, q, part-end 10 x) at h
 pub some-record : 0 < recordForm .head
 unfolding recordForm
 some-record = omega arith
+
+-- How many bytes a record takes is said by its first ten.
+pub record-local : Local recordForm
+unfolding recordForm be32Of
+record-local l r n h k =
+    let long : length (take n l) ≡ n = rw length-take (omega arith) in
+    rw (
+      byte-append (take n l) r 6 (omega arith),
+      byte-append (take n l) r 7 (omega arith),
+      byte-append (take n l) r 8 (omega arith),
+      byte-append (take n l) r 9 (omega arith),
+      getD-take {A = ℕ} n l 6 0 (omega arith),
+      getD-take {A = ℕ} n l 7 0 (omega arith),
+      getD-take {A = ℕ} n l 8 0 (omega arith),
+      getD-take {A = ℕ} n l 9 0 (omega arith),
+    )
 
 module _ (e₀ : Sender) (s l₀ : List ℕ) where
   module _ (at n : ℕ) (m : n ≡ front recordForm (drop at s)) (e : Sender) (l : List ℕ)

@@ -3,11 +3,14 @@ use Prim.Native.Nat.{ℕ, _+_, _-_, _<_, _≤_}
 use mathlib.Core.Path.{_≡_, refl, sym, ap, _∙_}
 use mathlib.Core.List.{List}
 use native.Mathlib.Omega.{arith}
-use lib.ListN.{length, take, drop}
-use Rattle.ftd.specs.Bytes.{part}
+use lib.ListN.{length, take, drop, length-take}
+use lib.Seq.{getD-take}
+use Rattle.ftd.specs.Bytes.{be16Of, part}
 use Rattle.ftd.specs.Runs.{front, runOf}
 use Rattle.ftd.specs.Packet.{span, datedOf}
 use Rattle.ftd.specs.Chain.Laws.{packetForm}
+use Rattle.ftd.proofs.Lists.{byte-append}
+use Rattle.ftd.proofs.runs.Joined.{Local}
 use Rattle.ftd.specs.declared.refusal.Refusal.{Refusal}
 use Rattle.ftd.specs.declared.tags.TradeDate.{TradeDate}
 use Rattle.ftd.specs.declared.tags.PacketPlace.{PacketPlace}
@@ -64,6 +67,20 @@ received-inside e p buffer = go (receiveOf e p buffer) (calls.receive-as e p buf
 pub some-packet : 0 < packetForm .head
 unfolding packetForm
 some-packet = omega arith
+
+-- How many bytes a packet takes is said by its first four.
+pub packet-local : Local packetForm
+unfolding packetForm be16Of
+packet-local l r n h k =
+    let long : length (take n l) ≡ n = rw length-take (omega arith) in
+    rw (
+      byte-append (take n l) r 1 (omega arith),
+      byte-append (take n l) r 2 (omega arith),
+      byte-append (take n l) r 3 (omega arith),
+      getD-take {A = ℕ} n l 1 0 (omega arith),
+      getD-take {A = ℕ} n l 2 0 (omega arith),
+      getD-take {A = ℕ} n l 3 0 (omega arith),
+    )
 
 module _ (e₀ : Receiver) (s l₀ : List ℕ) where
   module _ (at n : ℕ) (m : n ≡ front packetForm (drop at s)) (e : Receiver) (l : List ℕ)
