@@ -2,11 +2,13 @@
 # The outside tests: builds the static library, the lister and the Rust side,
 # compares the proved library with the independent reader on generated inputs and captures, and the two ends, named
 # places, the box, three boxes in a row and the order of two ends with their models on random lists of calls; the
-# reader's frames with QuickFIX where that is installed; shows that deliberate faults, wrong boxes and wrong programs
-# for named places and for the order are found, and times both sides.
+# reader's frames with QuickFIX where that is installed; breaks the lines and programs of the box on real lines
+# (tests/box); shows that deliberate faults, wrong boxes and wrong programs for named places and for the order are found,
+# and times both sides.
 # Any failure makes it fail.
 #   tests/run.sh           all of it, some minutes on top of the proofs
-#   tests/run.sh --quick   the comparison alone, on a million inputs and calls: a minute or so where the crates are proved already
+#   tests/run.sh --quick   the comparison alone, on a million inputs and calls, and 15 seconds of the box on real lines:
+#                          a minute or so where the crates are proved already
 # Needs the Rattle kit (rt) and cargo; no network. The benchmark says nothing where the machine is busy.
 set -euo pipefail
 cd "$(dirname "$0")/.."
@@ -46,6 +48,18 @@ if command -v make >/dev/null 2>&1; then
     make --no-print-directory --silent check-c LIB=target/lib/libftd.a
 else
     echo "tests from C: not run, there is no command make"
+fi
+# The box on real lines: its programs, and the test that breaks everything.
+if command -v make >/dev/null 2>&1; then
+    make --no-print-directory --silent tools LIB=target/lib/libftd.a
+    if [ "$quick" -eq 1 ]; then
+        python3 tests/box/run.py --quick
+    else
+        python3 tests/box/run.py
+        python3 tests/box/run.py --planted
+    fi
+else
+    echo "box test: not run, there is no command make"
 fi
 bash tests/quickfix/run.sh
 (cd tests/outside && cargo build --release --offline --quiet)

@@ -1,6 +1,6 @@
 #!/bin/sh
-# Builds the header's test and the examples with each compiler that is there, warnings being errors, and runs them: the
-# test has to find nothing, each example to print its file examples/NAME.out.
+# Builds the headers' tests, the examples and, as C, the tools with each compiler that is there, warnings being errors,
+# and runs them: the tests have to find nothing, each example to print its file examples/NAME.out, each tool its usage.
 #   tests/c/run.sh LIBRARY
 set -eu
 cd "$(dirname "$0")/../.."
@@ -19,13 +19,24 @@ try() { # COMPILER OPTION..
         echo "$*: not there, left out"
         return
     fi
-    "$@" -Wall -Wextra -pedantic -Werror -Iinclude tests/c/header.c -x none "$library" -o "$work/header"
-    "$work/header" >"$work/header.out" || { cat "$work/header.out"; exit 1; }
-    for example in driver frames standby; do
+    for header in header names; do
+        "$@" -Wall -Wextra -pedantic -Werror -Iinclude "tests/c/$header.c" -x none "$library" -o "$work/$header"
+        "$work/$header" >"$work/$header.out" || { cat "$work/$header.out"; exit 1; }
+    done
+    for example in first driver frames standby; do
         "$@" -Wall -Wextra -pedantic -Werror -Iinclude "examples/$example.c" -x none "$library" -o "$work/$example"
         "$work/$example" >"$work/$example.out"
         diff "examples/$example.out" "$work/$example.out"
     done
+    case "$*" in *c++*) ;; *)
+        for tool in ftdbox ftdexchange ftdseat ftddump; do
+            lines=tools/lines.c
+            [ "$tool" != ftddump ] || lines=
+            "$@" -D_POSIX_C_SOURCE=200809L -Wall -Wextra -pedantic -Werror "tools/$tool.c" $lines "$library" \
+                -o "$work/$tool"
+            "$work/$tool" --help | grep -q "^usage: $tool "
+        done ;;
+    esac
     echo "$*: ok"
 }
 
