@@ -108,8 +108,8 @@ for total, rows in tables:
 if len(tables) != 4:
     wrong.append("docs/GUIDE.md: the four tables of lines to be believed are not where they were")
 script = (root / "crates/ftdplay/stdin").read_text().count("\n")
-if numbers(re.search(r"Its stdin, ([\d,]+) lines", guide).group(1)) != [script]:
-    wrong.append(f"docs/GUIDE.md: the player's script has {script} lines")
+if numbers(re.search(r"Its stdin, ([\d,]+) lines", (root / "docs/PLAYER.md").read_text()).group(1)) != [script]:
+    wrong.append(f"docs/PLAYER.md: the player's script has {script} lines")
 
 for w in wrong:
     print(w)
