@@ -23,7 +23,7 @@ use ftd::refusal::Refusal;
 use ftd::values::is_value;
 
 // The contract's code as its item's bytes, its two sides, and the sums over the day's matches.
-#[derive(Drop)]
+#[derive(Clone, Copy)]
 pub struct Book {
     pub code: [u8; 10],
     pub buying: Side,
@@ -32,21 +32,21 @@ pub struct Book {
 }
 
 // What Start and Take answer.
-#[derive(Drop)]
+#[derive(Clone, Copy)]
 pub enum Outcome {
     Done,
     Refused(Refusal),
 }
 
 // What Start and Take leave: the book, and the answer.
-#[derive(Drop)]
+#[derive(Clone, Copy)]
 pub struct Step {
     pub book: Book,
     pub answer: Outcome,
 }
 
 // What a quotation leaves of a side.
-#[derive(Drop)]
+#[derive(Clone, Copy)]
 pub struct SideStep {
     pub side: Side,
     pub answer: Outcome,

@@ -10,7 +10,7 @@ use ftd::signed::{Signed, read_float};
 
 // A quotation of a side, absolute or an increment; a match; or nothing. Price and volume stand as a level, an increment
 // as the unsigned number in its four bytes.
-#[derive(Drop)]
+#[derive(Clone, Copy)]
 pub enum Event {
     Nothing,
     Quotation {
@@ -22,7 +22,7 @@ pub enum Event {
 }
 
 // A price that was read.
-#[derive(Drop)]
+#[derive(Clone, Copy)]
 pub enum Price {
     NoPrice,
     Units(i64),

@@ -6,20 +6,20 @@ ghost use Rattle.book.specs.Levels.{level_in, is_full, side_with};
 // A level: a price in units of 0.0001, and the quantity there. With quantity 0 the place is not used. Laid
 // out as in C: the book of C and Rust (`exports`) holds levels as they are here.
 #[repr(C)]
-#[derive(Drop)]
+#[derive(Clone, Copy)]
 pub struct Level {
     pub price: i64,
     pub quantity: u32,
 }
 
 // The levels of a side, best first; the places behind them are not used.
-#[derive(Drop)]
+#[derive(Clone, Copy)]
 pub struct Side {
     pub levels: [Level; 64],
 }
 
 // What stands at a place of a side.
-#[derive(Drop)]
+#[derive(Clone, Copy)]
 pub enum Listed {
     NoLevel,
     At { price: i64, quantity: u32 },

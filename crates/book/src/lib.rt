@@ -1,5 +1,7 @@
 // A book beside the flow (request No. 2): the price levels of one contract, from order quotations and matches, and the
 // mean match price.
+#![tactic(auto)]
+
 ghost use Rattle.book.specs.Agreement.{BookAgreement};
 ghost use Rattle.book.specs.Verdict.{BookRefusals};
 ghost use Rattle.book.specs.Refusals.{RefusalsLeave};

@@ -3,7 +3,7 @@ ghost use Rattle.std.specs.Prelude.{◌≡◌};
 ghost use Rattle.book.specs.Quantity.{new_of, lacks};
 
 // A quantity, or what is none: below 0 or above 4,294,967,295.
-#[derive(Drop)]
+#[derive(Clone, Copy)]
 pub enum Quantity {
     Wrong,
     Is(u32),

@@ -6,28 +6,28 @@ ghost use Rattle.book.specs.Sums.Laws.{MeanLaws};
 use crate::levels::Level;
 
 // The sums over the day's matches: price times volume, in units of 0.0001, and volume.
-#[derive(Drop)]
+#[derive(Clone, Copy)]
 pub struct Sums {
     pub turnover: i64,
     pub volume: i64,
 }
 
 // Both sums within their limit, or one beyond it.
-#[derive(Drop)]
+#[derive(Clone, Copy)]
 pub enum Totals {
     Over,
     Both(Sums),
 }
 
 // A sum within its limit, or beyond it.
-#[derive(Drop)]
+#[derive(Clone, Copy)]
 pub enum Total {
     Beyond,
     Within(i64),
 }
 
 // The mean match price in units of 0.0001, or none.
-#[derive(Drop)]
+#[derive(Clone, Copy)]
 pub enum Mean {
     NoMean,
     Price(i64),

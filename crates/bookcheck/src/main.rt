@@ -1,6 +1,8 @@
 // The worked examples of the book (request No. 2): makes the calls of standard input, and prints each answer with what
 // the book then shows, buying, selling and mean, in units of 0.0001. A call is a byte, a length of four bytes and that many
 // bytes: 0 and a code, or 1, a TID of four bytes and a content.
+#![tactic(auto)]
+
 use book::calls::{Book, Outcome, Step};
 use book::levels::Listed;
 use book::sums::Mean;

@@ -1,6 +1,8 @@
 // The worked examples of the box (02, No. 3), and two of its reserves (No. 11): makes their calls, and prints for each
 // what it was and what it answered. A(s,m) is Answer for series s with mark m, R(s,k,m) Receive of a packet S with
 // number k and mark m, F and L the same of these letters; f4 is one field of FID 0x7000 with 4 bytes.
+#![tactic(auto)]
+
 use flow::receiver::{Confirmed, Received};
 use flow::sender::{LoggedIn, Opened, Sent};
 use ftd::bytes::{copy_at, size8, wide16};
@@ -118,7 +120,7 @@ fn login_packet() -> [u8; 146] {
 }
 
 // The two bytes of a TID.
-#[derive(Drop)]
+#[derive(Clone, Copy)]
 struct Tid {
     high: u8,
     low: u8,

@@ -8,7 +8,7 @@ ghost use Rattle.calendar.specs.Days.Helpers.{before_year, before_month, lacking
 use ftd::gregorian::{is_leap, is_real};
 
 // A year, a month from 1, a day from 1.
-#[derive(Drop)]
+#[derive(Clone, Copy)]
 pub struct CivilDate {
     pub year: u32,
     pub month: u32,
@@ -16,7 +16,7 @@ pub struct CivilDate {
 }
 
 // What the day of a date is: none where it is no real date, or before 1970.
-#[derive(Drop)]
+#[derive(Clone, Copy)]
 pub enum DayFound {
     NoDay,
     Day(u32),

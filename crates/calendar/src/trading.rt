@@ -12,28 +12,28 @@ use crate::sessions::{in_session, wrong_sessions};
 use ftd::refusal::Refusal;
 
 // Sessions in 8 places of three numbers, holidays in 32; an unused place is 0.
-#[derive(Drop)]
+#[derive(Clone, Copy)]
 pub struct Calendar {
     pub sessions: [u32; 24],
     pub holidays: [u32; 32],
 }
 
 // What Set answers.
-#[derive(Drop)]
+#[derive(Clone, Copy)]
 pub enum SetAnswer {
     Done,
     Refused(Refusal),
 }
 
 // What Set leaves: the calendar, and its answer.
-#[derive(Drop)]
+#[derive(Clone, Copy)]
 pub struct SetStep {
     pub calendar: Calendar,
     pub answer: SetAnswer,
 }
 
 // What a time is: outside every session, or inside one, with its trade date YYYYMMDD.
-#[derive(Drop)]
+#[derive(Clone, Copy)]
 pub enum TradeTime {
     Outside,
     Inside(u32),

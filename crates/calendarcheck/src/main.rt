@@ -3,6 +3,8 @@
 // a mark and its date. S: how many numbers of sessions and how many holidays follow, then Set's answer (0, or its
 // refusal); the calendar goes on as Set leaves it. A: a time and its trade date, 0 outside. A line for each file: name,
 // number of records, number of those that differ.
+#![tactic(auto)]
+
 ghost use Rattle.std.specs.Prelude.{◌≡◌, ◌≤◌, length};
 
 use calendar::days::{CivilDate, date_of};
@@ -13,7 +15,7 @@ use ftd::values::is_date;
 use libc::STDOUT_FILENO;
 
 // What came of a file: how many records, how many that differ, and whether all its bytes are records.
-#[derive(Drop)]
+#[derive(Clone, Copy)]
 struct Tally {
     records: u64,
     differ: u64,
@@ -21,7 +23,7 @@ struct Tally {
 }
 
 // What came of a record: it is there whole, and it is right; and the calendar behind it.
-#[derive(Drop)]
+#[derive(Clone, Copy)]
 struct Compared {
     calendar: Calendar,
     whole: bool,

@@ -1,6 +1,8 @@
 // Compares the listings of captures with what they should be. Each file is a run of records: length of the capture in
 // four bytes, length of the text in four, the capture, the text. A line for each file: name, number of records, number
 // of those that differ.
+#![tactic(auto)]
+
 ghost use Rattle.std.specs.Prelude.{true, ◌≡◌, ◌≤◌};
 ghost use Rattle.listing.specs.Lines.{listing_of};
 
@@ -10,7 +12,7 @@ use libc::STDOUT_FILENO;
 use listing::{Line, write_line};
 
 // What came of a record.
-#[derive(Drop)]
+#[derive(Clone, Copy)]
 enum Record {
     // No bytes are left.
     Nothing,
@@ -21,7 +23,7 @@ enum Record {
 }
 
 // What came of a file: how many records, how many that differ, and whether all its bytes are records.
-#[derive(Drop)]
+#[derive(Clone, Copy)]
 struct Tally {
     records: u64,
     differ: u64,

@@ -27,7 +27,7 @@ use relay::relay::Relay;
 
 // A series of the day: its reserve of the log and how many bytes its entries take, and how many were published.
 #[repr(C)]
-#[derive(Drop)]
+#[derive(Clone, Copy)]
 pub struct FtdDaySeries {
     pub reserve: usize,
     pub used: usize,
@@ -37,7 +37,7 @@ pub struct FtdDaySeries {
 
 // The day below: bytes of the log in use, its series in the opening's order, how many are open, and the trade date.
 #[repr(C)]
-#[derive(Drop)]
+#[derive(Clone, Copy)]
 pub struct FtdDay {
     pub used: usize,
     pub series: [FtdDaySeries; 8],
@@ -48,7 +48,7 @@ pub struct FtdDay {
 
 // The box: the receiving end towards above, the reserves of its series, and the day below. The seats are lent.
 #[repr(C)]
-#[derive(Drop)]
+#[derive(Clone, Copy)]
 pub struct FtdBox {
     pub receiver: FtdReceiver,
     pub reserves: [usize; 8],
@@ -57,14 +57,14 @@ pub struct FtdBox {
 
 // What a call leaves: the box, and its answer.
 #[repr(C)]
-#[derive(Drop)]
+#[derive(Clone, Copy)]
 pub struct FtdBoxOpened {
     pub state: FtdBox,
     pub refusal: u8,
 }
 
 #[repr(C)]
-#[derive(Drop)]
+#[derive(Clone, Copy)]
 pub struct FtdBoxConfirmed {
     pub state: FtdBox,
     pub last: u32,
@@ -72,7 +72,7 @@ pub struct FtdBoxConfirmed {
 }
 
 #[repr(C)]
-#[derive(Drop)]
+#[derive(Clone, Copy)]
 pub struct FtdBoxReceived {
     pub state: FtdBox,
     pub content: FtdSpan,
@@ -84,7 +84,7 @@ pub struct FtdBoxReceived {
 }
 
 #[repr(C)]
-#[derive(Drop)]
+#[derive(Clone, Copy)]
 pub struct FtdBoxReceivedSeveral {
     pub state: FtdBox,
     pub content: FtdSpan,
@@ -99,7 +99,7 @@ pub struct FtdBoxReceivedSeveral {
 
 // What a call of a seat answers; the box stays.
 #[repr(C)]
-#[derive(Drop)]
+#[derive(Clone, Copy)]
 pub struct FtdBoxSent {
     pub bytes: usize,
     pub number: u32,
@@ -108,7 +108,7 @@ pub struct FtdBoxSent {
 }
 
 #[repr(C)]
-#[derive(Drop)]
+#[derive(Clone, Copy)]
 pub struct FtdBoxSentPacket {
     pub bytes: usize,
     pub number: u32,

@@ -21,7 +21,7 @@ use ftd::refusal::number;
 
 // How a frame is judged, the number expected then, and what the frame says: places, numbers, which type it is of.
 #[repr(C)]
-#[derive(Drop)]
+#[derive(Clone, Copy)]
 pub struct FtdReading {
     pub name: FtdSpan,
     pub fields: FtdSpan,
@@ -38,7 +38,7 @@ pub struct FtdReading {
 
 // A field of a frame: where its text lies, and its tag.
 #[repr(C)]
-#[derive(Drop)]
+#[derive(Clone, Copy)]
 pub struct FtdTagged {
     pub start: usize,
     pub len: usize,
@@ -48,7 +48,7 @@ pub struct FtdTagged {
 
 // A text as a number.
 #[repr(C)]
-#[derive(Drop)]
+#[derive(Clone, Copy)]
 pub struct FtdNumber {
     pub number: u32,
     pub found: u8,

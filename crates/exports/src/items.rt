@@ -15,7 +15,7 @@ use ftd::mode::{Mode, mode_of};
 
 // The value of an item: which kind it is of, and its numbers.
 #[repr(C)]
-#[derive(Drop)]
+#[derive(Clone, Copy)]
 pub struct FtdItem {
     pub start: usize,
     pub len: usize,

@@ -17,7 +17,7 @@ use ftd::tags::TradeDate;
 
 // What is kept of a series: trade date and last number.
 #[repr(C)]
-#[derive(Drop)]
+#[derive(Clone, Copy)]
 pub struct FtdCheckpointSeries {
     pub date: u32,
     pub last: u32,
@@ -28,7 +28,7 @@ pub struct FtdCheckpointSeries {
 // A place: its name as a number, the first letter in the lowest byte; how many series were open, and what is kept of
 // each.
 #[repr(C)]
-#[derive(Drop)]
+#[derive(Clone, Copy)]
 pub struct FtdCheckpoint {
     pub name: u64,
     pub count: usize,
@@ -37,7 +37,7 @@ pub struct FtdCheckpoint {
 
 // Up to four, in the order in which their names came first, and how many names are in use.
 #[repr(C)]
-#[derive(Drop)]
+#[derive(Clone, Copy)]
 pub struct FtdCheckpoints {
     pub count: usize,
     pub places: [FtdCheckpoint; 4],
@@ -45,7 +45,7 @@ pub struct FtdCheckpoints {
 
 // What keeping leaves: the checkpoints, and its answer.
 #[repr(C)]
-#[derive(Drop)]
+#[derive(Clone, Copy)]
 pub struct FtdKeptStep {
     pub checkpoints: FtdCheckpoints,
     pub refusal: u8,
@@ -53,7 +53,7 @@ pub struct FtdKeptStep {
 
 // What a return leaves: the receiving end, and its answer.
 #[repr(C)]
-#[derive(Drop)]
+#[derive(Clone, Copy)]
 pub struct FtdReturned {
     pub end: FtdReceiver,
     pub refusal: u8,

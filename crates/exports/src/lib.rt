@@ -1,6 +1,8 @@
 // The library for C and Rust: functions on numbers, byte slices, and the two ends, the box, the trading calendar and
 // the book of a contract by value. Each calls `ftd`, `flow`, `relay`, `calendar`, `book` or `fix` and gives its answer
 // as numbers; include/ftd.h says what they mean. Here: packets, fields and messages.
+#![tactic(auto)]
+
 ghost use Rattle.std.specs.Prelude.{true, ◌≡◌, ◌+◌, ◌≤◌, length};
 ghost use Rattle.ftd.specs.Bytes.{joined};
 ghost use Rattle.ftd.specs.Fields.{field_with};
@@ -50,7 +52,7 @@ pub mod frames; // frames of JR/T 0087
 
 // A part of lent bytes.
 #[repr(C)]
-#[derive(Drop)]
+#[derive(Clone, Copy)]
 pub struct FtdSpan {
     pub start: usize,
     pub len: usize,
@@ -59,7 +61,7 @@ pub struct FtdSpan {
 // What some bytes are: the packet's length, places of its parts, header values, the trade date, its place in its message,
 // which answer it is, and the number of the refusal.
 #[repr(C)]
-#[derive(Drop)]
+#[derive(Clone, Copy)]
 pub struct FtdPacket {
     pub size: usize,
     pub missing: usize,
@@ -81,7 +83,7 @@ pub struct FtdPacket {
 
 // A field: where its bytes lie, and its FID.
 #[repr(C)]
-#[derive(Drop)]
+#[derive(Clone, Copy)]
 pub struct FtdField {
     pub start: usize,
     pub len: usize,
@@ -91,7 +93,7 @@ pub struct FtdField {
 
 // A field at a known place, small enough for two registers: its bytes lie behind the six of FID and length.
 #[repr(C)]
-#[derive(Drop)]
+#[derive(Clone, Copy)]
 pub struct FtdStep {
     pub len: usize,
     pub fid: u32,
@@ -100,7 +102,7 @@ pub struct FtdStep {
 
 // What all packets of a message bear.
 #[repr(C)]
-#[derive(Drop)]
+#[derive(Clone, Copy)]
 pub struct FtdMessage {
     pub tid: u32,
     pub number: u32,
@@ -111,7 +113,7 @@ pub struct FtdMessage {
 
 // How many packets and bytes a message takes.
 #[repr(C)]
-#[derive(Drop)]
+#[derive(Clone, Copy)]
 pub struct FtdSize {
     pub packets: usize,
     pub bytes: usize,

@@ -13,7 +13,7 @@ use ftd::refusal::number;
 
 // Which answer it is, and the first number that differs, or the refusal's.
 #[repr(C)]
-#[derive(Drop)]
+#[derive(Clone, Copy)]
 pub struct FtdOrder {
     pub number: u32,
     pub answer: u8,

@@ -13,7 +13,7 @@ use ftd::refusal::number;
 
 // The contract's code, the levels of its two sides, best first, and the sums over the day's matches.
 #[repr(C)]
-#[derive(Drop)]
+#[derive(Clone, Copy)]
 pub struct FtdBook {
     pub code: [u8; 10],
     pub buying: [Level; 64],
@@ -24,7 +24,7 @@ pub struct FtdBook {
 
 // What Start and Take leave: the book, and the answer.
 #[repr(C)]
-#[derive(Drop)]
+#[derive(Clone, Copy)]
 pub struct FtdBookStep {
     pub book: FtdBook,
     pub refusal: u8,
@@ -32,7 +32,7 @@ pub struct FtdBookStep {
 
 // What stands at a place of a side.
 #[repr(C)]
-#[derive(Drop)]
+#[derive(Clone, Copy)]
 pub struct FtdListed {
     pub price: i64,
     pub quantity: u32,
@@ -41,7 +41,7 @@ pub struct FtdListed {
 
 // The mean match price, or none.
 #[repr(C)]
-#[derive(Drop)]
+#[derive(Clone, Copy)]
 pub struct FtdMean {
     pub price: i64,
     pub found: u8,

@@ -20,7 +20,7 @@ use ftd::tags::TradeDate;
 
 // A series: trade date and last number, which are kept; login and open chain, which a connection has.
 #[repr(C)]
-#[derive(Drop)]
+#[derive(Clone, Copy)]
 pub struct FtdKept {
     pub held: usize,
     pub date: u32,
@@ -35,7 +35,7 @@ pub struct FtdKept {
 
 // The receiving end: its series in the opening's order, and how many are open.
 #[repr(C)]
-#[derive(Drop)]
+#[derive(Clone, Copy)]
 pub struct FtdReceiver {
     pub series: [FtdKept; 8],
     pub count: usize,
@@ -43,14 +43,14 @@ pub struct FtdReceiver {
 
 // What a call leaves: the end, and its answer.
 #[repr(C)]
-#[derive(Drop)]
+#[derive(Clone, Copy)]
 pub struct FtdReceiverOpened {
     pub end: FtdReceiver,
     pub refusal: u8,
 }
 
 #[repr(C)]
-#[derive(Drop)]
+#[derive(Clone, Copy)]
 pub struct FtdConfirmed {
     pub end: FtdReceiver,
     pub last: u32,
@@ -58,7 +58,7 @@ pub struct FtdConfirmed {
 }
 
 #[repr(C)]
-#[derive(Drop)]
+#[derive(Clone, Copy)]
 pub struct FtdReceived {
     pub end: FtdReceiver,
     pub content: FtdSpan,

@@ -9,7 +9,7 @@ use ftd::resume::{Resume, find_resume, write_resume};
 
 // The start field of a content: which answer it is, and its values.
 #[repr(C)]
-#[derive(Drop)]
+#[derive(Clone, Copy)]
 pub struct FtdResume {
     pub number: u32,
     pub series: u16,

@@ -16,7 +16,7 @@ use ftd::refusal::number;
 // A series: the number that is sent next, how many packets of that message were written one by one, its reserve of the
 // log and how many bytes its entries take, how many were published, and whether it is logged in.
 #[repr(C)]
-#[derive(Drop)]
+#[derive(Clone, Copy)]
 pub struct FtdServed {
     pub next: u64,
     pub piece: u64,
@@ -29,7 +29,7 @@ pub struct FtdServed {
 
 // The serving end: bytes of the log in use, its series in the opening's order, how many are open, and the trade date.
 #[repr(C)]
-#[derive(Drop)]
+#[derive(Clone, Copy)]
 pub struct FtdSender {
     pub used: usize,
     pub series: [FtdServed; 8],
@@ -40,14 +40,14 @@ pub struct FtdSender {
 
 // What a call leaves: the end, and its answer.
 #[repr(C)]
-#[derive(Drop)]
+#[derive(Clone, Copy)]
 pub struct FtdSenderOpened {
     pub end: FtdSender,
     pub refusal: u8,
 }
 
 #[repr(C)]
-#[derive(Drop)]
+#[derive(Clone, Copy)]
 pub struct FtdPublished {
     pub end: FtdSender,
     pub number: u32,
@@ -55,7 +55,7 @@ pub struct FtdPublished {
 }
 
 #[repr(C)]
-#[derive(Drop)]
+#[derive(Clone, Copy)]
 pub struct FtdLoggedIn {
     pub end: FtdSender,
     pub bytes: usize,
@@ -63,7 +63,7 @@ pub struct FtdLoggedIn {
 }
 
 #[repr(C)]
-#[derive(Drop)]
+#[derive(Clone, Copy)]
 pub struct FtdSent {
     pub end: FtdSender,
     pub bytes: usize,
@@ -73,7 +73,7 @@ pub struct FtdSent {
 }
 
 #[repr(C)]
-#[derive(Drop)]
+#[derive(Clone, Copy)]
 pub struct FtdSentPacket {
     pub end: FtdSender,
     pub bytes: usize,

@@ -17,7 +17,7 @@ use ftd::refusal::number;
 
 // What a bufferful of packets leaves: the end, how many bytes were taken, and the answer.
 #[repr(C)]
-#[derive(Drop)]
+#[derive(Clone, Copy)]
 pub struct FtdReceivedSeveral {
     pub end: FtdReceiver,
     pub content: FtdSpan,
@@ -32,7 +32,7 @@ pub struct FtdReceivedSeveral {
 
 // What a bufferful of records leaves.
 #[repr(C)]
-#[derive(Drop)]
+#[derive(Clone, Copy)]
 pub struct FtdPublishedSeveral {
     pub end: FtdSender,
     pub taken: usize,

@@ -7,7 +7,7 @@ use ftd::tags::{PacketPlace, TradeDate, keep_alive, trade_date};
 
 // A trade date, or none.
 #[repr(C)]
-#[derive(Drop)]
+#[derive(Clone, Copy)]
 pub struct FtdDate {
     pub date: u32,
     pub dated: u8,

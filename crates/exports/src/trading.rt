@@ -11,7 +11,7 @@ use ftd::refusal::number;
 
 // Sessions in 8 places of three numbers, holidays in 32; an unused place is 0.
 #[repr(C)]
-#[derive(Drop)]
+#[derive(Clone, Copy)]
 pub struct FtdCalendar {
     pub sessions: [u32; 24],
     pub holidays: [u32; 32],
@@ -19,7 +19,7 @@ pub struct FtdCalendar {
 
 // What Set leaves: the calendar, and its answer.
 #[repr(C)]
-#[derive(Drop)]
+#[derive(Clone, Copy)]
 pub struct FtdCalendarStep {
     pub calendar: FtdCalendar,
     pub refusal: u8,
@@ -27,7 +27,7 @@ pub struct FtdCalendarStep {
 
 // What a time is: its trade date, and whether it is inside a session.
 #[repr(C)]
-#[derive(Drop)]
+#[derive(Clone, Copy)]
 pub struct FtdTradeTime {
     pub date: u32,
     pub inside: u8,

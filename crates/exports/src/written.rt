@@ -7,7 +7,7 @@ use ftd::write::Written;
 
 // How many bytes were written.
 #[repr(C)]
-#[derive(Drop)]
+#[derive(Clone, Copy)]
 pub struct FtdWritten {
     pub bytes: usize,
     pub refusal: u8,

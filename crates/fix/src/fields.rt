@@ -10,14 +10,14 @@ use crate::text::{Number, number_in, or_zero, plain_in, until};
 use ftd::bytes::size32;
 
 // The field directly before: its tag, and the number that its text is, or 0.
-#[derive(Drop)]
+#[derive(Clone, Copy)]
 pub(crate) struct Last {
     pub tag: u32,
     pub size: u32,
 }
 
 // A field: its tag, and place and length of its text.
-#[derive(Drop)]
+#[derive(Clone, Copy)]
 pub enum Front {
     NoField,
     Field { tag: u32, start: usize, len: usize },

@@ -15,7 +15,7 @@ pub const MOST_FRAME: usize = 4096;
 pub const MOST_BODY: usize = 4072;
 
 // One whole frame: the places of its type and of its fields.
-#[derive(Drop)]
+#[derive(Clone, Copy)]
 pub enum Frame {
     NoFrame,
     Framed { name: Span, fields: Span },

@@ -4,7 +4,7 @@ ghost use Rattle.fix.specs.Kinds.{kind_for, kind_of, session_number, logon_numbe
 ghost use Rattle.fix.specs.Kinds.{first_tag, second_tag, is_resend, is_reset, is_other};
 
 // The type of a message: one of the six, or another.
-#[derive(Drop)]
+#[derive(Clone, Copy)]
 pub enum Kind {
     Heartbeat,
     TestRequest,

@@ -1,5 +1,7 @@
 // Frames of JR/T 0087 (02, No. 12), after FIX 4.2: read with the expected number, and written. Fields are parts of the
 // lent bytes, by their places; texts are kept as they stand.
+#![tactic(auto)]
+
 ghost use Rattle.fix.specs.Examples.{FrameExamples};
 ghost use Rattle.fix.specs.RoundTrips.{RoundTrips};
 ghost use Rattle.ftd.specs.Follow.{Follows};

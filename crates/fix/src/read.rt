@@ -15,7 +15,7 @@ use ftd::refusal::Refusal;
 
 // What a frame says: its type, the place of the type's text and of the fields, the number of 34, the type's own values,
 // the text of the first, and whether 123 says Y.
-#[derive(Drop)]
+#[derive(Clone, Copy)]
 pub struct Message {
     pub kind: Kind,
     pub name: Span,
@@ -28,7 +28,7 @@ pub struct Message {
 }
 
 // How a frame is judged.
-#[derive(Drop)]
+#[derive(Clone, Copy)]
 pub enum Judged {
     Refused(Refusal),
     Next(Message),
@@ -38,7 +38,7 @@ pub enum Judged {
 }
 
 // The judgement, and the number that is expected then.
-#[derive(Drop)]
+#[derive(Clone, Copy)]
 pub struct Reading {
     pub expected: u32,
     pub answer: Judged,

@@ -12,7 +12,7 @@ use crate::text::{Number, is_yes, number_in};
 
 // How often tags occur is 0, 1, or 2 for more; of the range of a resend request the greatest first number and the least
 // last one that isn't 0.
-#[derive(Drop)]
+#[derive(Clone, Copy)]
 pub(crate) struct Tally {
     pub odd: bool,
     pub frame: bool,
@@ -30,7 +30,7 @@ pub(crate) struct Tally {
 }
 
 // Whether a run is whole fields, and its tally.
-#[derive(Drop)]
+#[derive(Clone, Copy)]
 pub(crate) struct Walked {
     pub whole: bool,
     pub tally: Tally,

@@ -7,7 +7,7 @@ ghost use Rattle.fix.specs.Text.{letter, sum_text};
 use ftd::bytes::{put8, size32, wide32};
 
 // A text as a number of 1 to 9 digits.
-#[derive(Drop)]
+#[derive(Clone, Copy)]
 pub enum Number {
     NoNumber,
     Is(u32),

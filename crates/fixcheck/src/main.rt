@@ -2,6 +2,8 @@
 // behind `->` what it answers, with every value. A call is a letter, a length of four bytes and that many bytes, of which
 // the first four are a number: `r`, an expected number and bytes to read; `w`, the length of an output, a digit, a type
 // of so many bytes and a run of fields to write; `i`, an index and a run; `t`, a tag and a run.
+#![tactic(auto)]
+
 ghost use Rattle.std.specs.Prelude.{◌≤◌, length};
 
 use fix::fields::{Front, field_text, find_field, first_field, number_at};

@@ -12,48 +12,48 @@ use ftd::tags::TradeDate;
 
 // Under a name, its letters as one number, the first in the lowest byte: the durable part of a receiving end as it was
 // when it was kept.
-#[derive(Drop)]
+#[derive(Clone, Copy)]
 pub struct Checkpoint {
     pub name: u64,
     pub kept: Kept,
 }
 
 // Up to four, in the order in which their names came first.
-#[derive(Drop)]
+#[derive(Clone, Copy)]
 pub struct Checkpoints {
     pub count: usize,
     pub places: [Checkpoint; 4],
 }
 
 // What keeping answers.
-#[derive(Drop)]
+#[derive(Clone, Copy)]
 pub enum Saved {
     Done,
     Refused(Refusal),
 }
 
 // What a return answers.
-#[derive(Drop)]
+#[derive(Clone, Copy)]
 pub enum Restored {
     Done,
     Refused(Refusal),
 }
 
 // What the calls leave: keeping the checkpoints, a return the receiving end; and the answer.
-#[derive(Drop)]
+#[derive(Clone, Copy)]
 pub struct KeepStep {
     pub checkpoints: Checkpoints,
     pub answer: Saved,
 }
 
-#[derive(Drop)]
+#[derive(Clone, Copy)]
 pub struct RestoreStep {
     pub end: Receiver,
     pub answer: Restored,
 }
 
 // Where a name stands among those in use.
-#[derive(Drop)]
+#[derive(Clone, Copy)]
 pub(crate) enum NamePlace {
     Unused,
     At(usize),

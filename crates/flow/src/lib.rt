@@ -1,4 +1,6 @@
 // The two ends of a flow (01, "The serving end", "The receiving end"): their states, and what each call answers.
+#![tactic(auto)]
+
 ghost use Rattle.flow.specs.Agreement.{Agreement};
 ghost use Rattle.flow.specs.Bench.{Bench};
 ghost use Rattle.flow.specs.Biggest.{Biggest};

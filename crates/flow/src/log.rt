@@ -13,7 +13,7 @@ use ftd::bytes::{be16, be32, copy_at, put16, put32, size32};
 use ftd::fields::is_shaped;
 
 // Where an entry lies in the log: where it starts, and how many bytes it takes, its head among them.
-#[derive(Drop)]
+#[derive(Clone, Copy)]
 pub(crate) enum EntryPlace {
     Damaged,
     At { start: usize, size: usize },
@@ -21,7 +21,7 @@ pub(crate) enum EntryPlace {
 
 // What the walk does with an entry: it is wrong; it is the one wanted; or it is passed, with its series' place and its
 // number.
-#[derive(Drop)]
+#[derive(Clone, Copy)]
 pub(crate) enum EntryStep {
     Wrong,
     Wanted,

@@ -12,7 +12,7 @@ use ftd::refusal::Refusal;
 use ftd::tags::TradeDate;
 
 // The same; the first, or the second, is a start of the other; or the first number with another TID or content.
-#[derive(Drop)]
+#[derive(Clone, Copy)]
 pub enum Order {
     Same,
     FirstStarts,
@@ -22,7 +22,7 @@ pub enum Order {
 }
 
 // The next entry of a series: none is left, or where it lies.
-#[derive(Drop)]
+#[derive(Clone, Copy)]
 pub(crate) enum NextEntry {
     Over,
     At { start: usize, size: usize },

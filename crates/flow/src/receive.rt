@@ -15,7 +15,7 @@ use ftd::refusal::Refusal;
 use ftd::tags::{PacketPlace, TradeDate};
 
 // What a packet leaves of its series, the answer, and where its content is copied.
-#[derive(Drop)]
+#[derive(Clone, Copy)]
 pub(crate) struct OneStep {
     pub kept: KeptSeries,
     pub live: LiveSeries,

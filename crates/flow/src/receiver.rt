@@ -30,7 +30,7 @@ use ftd::write::Written;
 
 // What is kept of a series, whatever happens to the line: its trade date (01: mark), none at first, and the last
 // number.
-#[derive(Drop)]
+#[derive(Clone, Copy)]
 pub struct KeptSeries {
     pub series: u16,
     pub date: TradeDate,
@@ -39,7 +39,7 @@ pub struct KeptSeries {
 
 // The durable part: how many series are open, and what is kept of each, in the opening's order. No series: not opened
 // yet.
-#[derive(Drop)]
+#[derive(Clone, Copy)]
 pub struct Kept {
     pub count: usize,
     pub series: [KeptSeries; 8],
@@ -47,7 +47,7 @@ pub struct Kept {
 
 // What a series has on this connection: logged in, and an open chain with its TID, how many bytes of it are held, and
 // how many pieces, counted up to 65,536 (02, No. 10).
-#[derive(Drop)]
+#[derive(Clone, Copy)]
 pub struct LiveSeries {
     pub login: bool,
     pub chain: bool,
@@ -56,34 +56,34 @@ pub struct LiveSeries {
     pub pieces: u32,
 }
 
-#[derive(Drop)]
+#[derive(Clone, Copy)]
 pub struct Live {
     pub series: [LiveSeries; 8],
 }
 
 // The receiving end: what it keeps, and what it has on this connection.
-#[derive(Drop)]
+#[derive(Clone, Copy)]
 pub struct Receiver {
     pub kept: Kept,
     pub live: Live,
 }
 
 // What Ask answers: how many bytes were written.
-#[derive(Drop)]
+#[derive(Clone, Copy)]
 pub enum Requested {
     Wrote(usize),
     Refused(Refusal),
 }
 
 // What Answer answers: the series' last number.
-#[derive(Drop)]
+#[derive(Clone, Copy)]
 pub enum Confirmed {
     Last(u32),
     Refused(Refusal),
 }
 
 // Where the content of a message lies that is handed on: in the packet, or in the reassembly buffer (01: chain buffer).
-#[derive(Drop)]
+#[derive(Clone, Copy)]
 pub enum Origin {
     Packet,
     Buffer,
@@ -91,7 +91,7 @@ pub enum Origin {
 
 // What Receive answers: nothing of a message; again; a fragment is held; handed on. Each but the first with the series'
 // last number.
-#[derive(Drop)]
+#[derive(Clone, Copy)]
 pub enum Received {
     Idle,
     Duplicate(u32),
@@ -107,7 +107,7 @@ pub enum Received {
 
 // Where the content of a packet is copied that Receive takes: nowhere, or to a place of the reassembly buffer, behind
 // the bytes that are held.
-#[derive(Drop)]
+#[derive(Clone, Copy)]
 pub enum Target {
     Nothing,
     At(usize),
@@ -115,7 +115,7 @@ pub enum Target {
 
 // What Receive decides before a byte is written: the end and the answer that it leaves, the packet's series, where the
 // packet's content lies in it, and where that is copied.
-#[derive(Drop)]
+#[derive(Clone, Copy)]
 pub struct Decision {
     pub end: Receiver,
     pub answer: Received,
@@ -125,19 +125,19 @@ pub struct Decision {
 }
 
 // What a call leaves: the end, and its answer. Ask leaves the end as it is, and Connect answers nothing.
-#[derive(Drop)]
+#[derive(Clone, Copy)]
 pub struct OpenStep {
     pub end: Receiver,
     pub answer: Opened,
 }
 
-#[derive(Drop)]
+#[derive(Clone, Copy)]
 pub struct ConfirmStep {
     pub end: Receiver,
     pub answer: Confirmed,
 }
 
-#[derive(Drop)]
+#[derive(Clone, Copy)]
 pub struct ReceiveStep {
     pub end: Receiver,
     pub answer: Received,

@@ -33,7 +33,7 @@ use ftd::write::Written;
 
 // A series of the day, how many messages were published in it, its reserve of the log in bytes, and how many bytes its
 // entries take (02, No. 11).
-#[derive(Drop)]
+#[derive(Clone, Copy)]
 pub struct DaySeries {
     pub series: u16,
     pub published: u32,
@@ -43,7 +43,7 @@ pub struct DaySeries {
 
 // The day: its trade date (01: mark), how many series are open, these in the opening's order, and how many bytes of the
 // log are used.
-#[derive(Drop)]
+#[derive(Clone, Copy)]
 pub struct Day {
     pub date: TradeDate,
     pub count: usize,
@@ -53,7 +53,7 @@ pub struct Day {
 
 // A seat's place in a series: logged in, the number that is sent next, and how many packets of that message were written
 // one by one: 0 where none is unfinished.
-#[derive(Drop)]
+#[derive(Clone, Copy)]
 pub struct Place {
     pub login: bool,
     pub next: u64,
@@ -61,41 +61,41 @@ pub struct Place {
 }
 
 // What one seat has of the day: its place in each series, in the opening's order.
-#[derive(Drop)]
+#[derive(Clone, Copy)]
 pub struct Seat {
     pub places: [Place; 8],
 }
 
 // The serving end: the day, and the one seat that it serves.
-#[derive(Drop)]
+#[derive(Clone, Copy)]
 pub struct Sender {
     pub day: Day,
     pub seat: Seat,
 }
 
 // What an opening answers, of either end.
-#[derive(Drop)]
+#[derive(Clone, Copy)]
 pub enum Opened {
     Done,
     Refused(Refusal),
 }
 
 // What Publish answers: the message's number.
-#[derive(Drop)]
+#[derive(Clone, Copy)]
 pub enum Published {
     Number(u32),
     Refused(Refusal),
 }
 
 // What Login answers: how many bytes were written.
-#[derive(Drop)]
+#[derive(Clone, Copy)]
 pub enum LoggedIn {
     Wrote(usize),
     Refused(Refusal),
 }
 
 // What Send answers: none left (01: "none"), or the message's number and how many bytes were written.
-#[derive(Drop)]
+#[derive(Clone, Copy)]
 pub enum Sent {
     Drained,
     Wrote { number: u32, len: usize },
@@ -104,7 +104,7 @@ pub enum Sent {
 
 // What Send answers for one packet: none left, or the message's number, how many bytes were written, and whether the
 // packet was the message's last.
-#[derive(Drop)]
+#[derive(Clone, Copy)]
 pub enum SentPacket {
     Drained,
     Wrote { number: u32, len: usize, last: bool },
@@ -112,31 +112,31 @@ pub enum SentPacket {
 }
 
 // What a call leaves: the end, and its answer.
-#[derive(Drop)]
+#[derive(Clone, Copy)]
 pub struct OpenStep {
     pub end: Sender,
     pub answer: Opened,
 }
 
-#[derive(Drop)]
+#[derive(Clone, Copy)]
 pub struct PublishStep {
     pub end: Sender,
     pub answer: Published,
 }
 
-#[derive(Drop)]
+#[derive(Clone, Copy)]
 pub struct LoginStep {
     pub end: Sender,
     pub answer: LoggedIn,
 }
 
-#[derive(Drop)]
+#[derive(Clone, Copy)]
 pub struct SendStep {
     pub end: Sender,
     pub answer: Sent,
 }
 
-#[derive(Drop)]
+#[derive(Clone, Copy)]
 pub struct SendPacketStep {
     pub end: Sender,
     pub answer: SentPacket,
@@ -144,7 +144,7 @@ pub struct SendPacketStep {
 
 // What both forms of Send find out before they write: none left, a refusal, or the message that is next: its series'
 // place, its number, and where its entry lies in the log.
-#[derive(Drop)]
+#[derive(Clone, Copy)]
 pub(crate) enum NextMessage {
     Drained,
     Refused(Refusal),

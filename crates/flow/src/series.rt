@@ -3,7 +3,7 @@ ghost use Rattle.std.specs.Prelude.{◌≡◌, drop};
 ghost use Rattle.flow.specs.Ends.{member, wrong_series};
 
 // Where a series stands among the open ones.
-#[derive(Drop)]
+#[derive(Clone, Copy)]
 pub enum SeriesPlace {
     Unknown,
     At(usize),

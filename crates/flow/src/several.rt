@@ -16,7 +16,7 @@ use ftd::refusal::Refusal;
 
 // What a bufferful of packets comes to: all taken; so many bytes are missing of the rest; a message is handed on, whose
 // content lies in the bytes of this call or in the reassembly buffer; or a packet is refused.
-#[derive(Drop)]
+#[derive(Clone, Copy)]
 pub enum ReceivedSeveral {
     End,
     Short(usize),
@@ -31,7 +31,7 @@ pub enum ReceivedSeveral {
 
 // What a bufferful of records comes to: all are in; so many bytes are missing of the rest; or a record is refused, and
 // those before it are in.
-#[derive(Drop)]
+#[derive(Clone, Copy)]
 pub enum PublishedSeveral {
     End,
     Short(usize),
@@ -40,14 +40,14 @@ pub enum PublishedSeveral {
 
 // What a call leaves: the end, its answer, and how many bytes were taken, those of a refused packet or record among
 // them.
-#[derive(Drop)]
+#[derive(Clone, Copy)]
 pub struct ReceiveSeveralStep {
     pub end: Receiver,
     pub answer: ReceivedSeveral,
     pub taken: usize,
 }
 
-#[derive(Drop)]
+#[derive(Clone, Copy)]
 pub struct PublishSeveralStep {
     pub end: Sender,
     pub answer: PublishedSeveral,
@@ -55,7 +55,7 @@ pub struct PublishSeveralStep {
 }
 
 // Behind a packet the call goes on, or stops with its answer.
-#[derive(Drop)]
+#[derive(Clone, Copy)]
 pub enum ReceiveTurn {
     On,
     Stop(ReceivedSeveral),

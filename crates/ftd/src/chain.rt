@@ -25,7 +25,7 @@ pub const MOST_PACKETS: usize = 17;
 
 // What all packets of a message bear: the trade date, if any, TID, series and number; and whether each bears its place
 // (02, No. 10).
-#[derive(Drop)]
+#[derive(Clone, Copy)]
 pub struct Message {
     pub date: TradeDate,
     pub tid: u32,
@@ -35,20 +35,20 @@ pub struct Message {
 }
 
 // How many packets a message takes, and how many bytes.
-#[derive(Drop)]
+#[derive(Clone, Copy)]
 pub struct Size {
     pub packets: usize,
     pub bytes: usize,
 }
 
-#[derive(Drop)]
+#[derive(Clone, Copy)]
 pub enum ChainSize {
     Takes(Size),
     Refused(Refusal),
 }
 
 // What is answered for one packet of a message.
-#[derive(Drop)]
+#[derive(Clone, Copy)]
 pub enum PacketWritten {
     // So many bytes stand at the start of the output; and whether it is the message's last packet.
     Bytes { len: usize, last: bool },
@@ -58,14 +58,14 @@ pub enum PacketWritten {
 }
 
 // A piece of a content by its place among the pieces: where it starts, and its cut.
-#[derive(Drop)]
+#[derive(Clone, Copy)]
 pub enum PiecePlace {
     NoPiece,
     At { at: usize, cut: Cut },
 }
 
 // Where a piece of a content ends, and how many fields it has.
-#[derive(Drop)]
+#[derive(Clone, Copy)]
 pub struct Cut {
     pub end: usize,
     pub count: usize,

@@ -198,7 +198,7 @@ const MOST: [u8; 82] = [
 ];
 
 // Up: sent by the member. Down: sent by the exchange.
-#[derive(Drop)]
+#[derive(Clone, Copy)]
 pub enum Direction {
     Up,
     Down,

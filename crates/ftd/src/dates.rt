@@ -15,7 +15,7 @@ use crate::values::{Class, all_in, is_date, two_digits, year};
 use crate::write::Written;
 
 // A value: all spaces for unused, or a day; or none where the bytes are not one.
-#[derive(Drop)]
+#[derive(Clone, Copy)]
 pub enum Date {
     NoDate,
     Unused,

@@ -20,7 +20,7 @@ pub const FIELD_CONTENT: usize = 4074;
 pub const MOST_CONTENT: usize = 32768;
 
 // A field of a content: its FID, and where its bytes lie, without FID and length.
-#[derive(Drop)]
+#[derive(Clone, Copy)]
 pub enum FieldPlace {
     NoField,
     Field { fid: u32, start: usize, len: usize },

@@ -16,7 +16,7 @@ use crate::write::Written;
 
 // The value of an item; or its bytes are none; or there is no such item, or it is not there whole. Of a text, trailing
 // spaces aside, the place within the field's bytes.
-#[derive(Drop)]
+#[derive(Clone, Copy)]
 pub enum FieldItem {
     NoItem,
     NoValue,

@@ -13,7 +13,7 @@ use crate::table::{
 use crate::values::is_value;
 
 // What a check of a content finds.
-#[derive(Drop)]
+#[derive(Clone, Copy)]
 pub enum Checked {
     Passed,
     Refused(Refusal),

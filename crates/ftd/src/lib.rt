@@ -1,5 +1,7 @@
 // FTD packets (JR/T 0016-2004, 4.1 and 4.2) and typed items (Appendices A to E): read from any bytes, with nothing
 // trusted.
+#![tactic(auto)]
+
 ghost use Rattle.ftd.specs.Demand2.{Demand2};
 ghost use Rattle.ftd.specs.Refusals.{RefusalsLeave};
 

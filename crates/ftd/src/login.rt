@@ -16,7 +16,7 @@ use crate::tags::{TradeDate, put_tags, tags_len};
 use crate::write::{Written, put_head};
 
 // What stands behind the content of a login packet that is written.
-#[derive(Drop)]
+#[derive(Clone, Copy)]
 pub enum Ending {
     Nothing,
     // The start field: a series, and the next number wanted.

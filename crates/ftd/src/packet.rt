@@ -24,14 +24,14 @@ pub const LEAST_BODY: usize = 16;
 pub const MOST_BODY: usize = 4096;
 
 // A part of a packet: where it starts, and how many bytes it has.
-#[derive(Drop)]
+#[derive(Clone, Copy)]
 pub struct Span {
     pub start: usize,
     pub len: usize,
 }
 
 // The place of a packet in the chain of a message: letters S, F, C, L.
-#[derive(Drop)]
+#[derive(Clone, Copy)]
 pub enum Chain {
     Single,
     First,
@@ -40,7 +40,7 @@ pub enum Chain {
 }
 
 // The values of a message packet's header; its version is 1.
-#[derive(Drop)]
+#[derive(Clone, Copy)]
 pub struct Header {
     pub tid: u32,
     pub chain: Chain,
@@ -50,7 +50,7 @@ pub struct Header {
 }
 
 // What the bytes from the front of a slice are.
-#[derive(Drop)]
+#[derive(Clone, Copy)]
 pub enum Packet {
     // Bytes are missing: so many for certain.
     Short(usize),
@@ -72,7 +72,7 @@ pub enum Packet {
 }
 
 // What the bytes are, and the trade date and the place in a message that it bears.
-#[derive(Drop)]
+#[derive(Clone, Copy)]
 pub struct Dated {
     pub packet: Packet,
     pub date: TradeDate,
@@ -80,7 +80,7 @@ pub struct Dated {
 }
 
 // What they are, without values and places.
-#[derive(Drop)]
+#[derive(Clone, Copy)]
 pub enum Verdict {
     TooFew,
     LinkPacket,
@@ -90,7 +90,7 @@ pub enum Verdict {
 }
 
 // A verdict, and the trade date and the place in a message that the bytes bear.
-#[derive(Drop)]
+#[derive(Clone, Copy)]
 pub struct Judged {
     pub verdict: Verdict,
     pub date: TradeDate,

@@ -6,7 +6,7 @@ use crate::bytes::size32;
 use crate::table::{KIND, LAST_FID, SCALE, WIDTH, end_of, kind_at, scale_at, start_of, width_at};
 
 // Kind (src/kinds.rt) and decimals of an item, and where it lies in its field.
-#[derive(Drop)]
+#[derive(Clone, Copy)]
 pub enum ItemPlace {
     NoItem,
     Item {

@@ -13,7 +13,7 @@ use crate::write::Written;
 pub const FID: u32 = 0x0004;
 
 // The start field of a content.
-#[derive(Drop)]
+#[derive(Clone, Copy)]
 pub enum Resume {
     // It has none.
     Absent,

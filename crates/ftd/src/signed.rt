@@ -13,7 +13,7 @@ use crate::values::{digit, is_float, is_number};
 use crate::write::Written;
 
 // A value, or none where the bytes are not one.
-#[derive(Drop)]
+#[derive(Clone, Copy)]
 pub enum Signed {
     NoValue,
     Value { negative: bool, units: u64 },
@@ -231,7 +231,7 @@ pub fn keeps_value_laws()
 // ─── As a signed integer ───
 
 // A signed number, or none.
-#[derive(Drop)]
+#[derive(Clone, Copy)]
 pub enum Integer {
     NoInteger,
     Number(i64),

@@ -12,28 +12,28 @@ use crate::bytes::{be16, be32, put8, put16, put32, size8};
 const LENGTH: [u8; 8] = [0, 4, 1, 1, 0, 4, 2, 2];
 
 // Where the data of a tag lies in the extension.
-#[derive(Drop)]
+#[derive(Clone, Copy)]
 pub enum TagPlace {
     NoTag,
     Data { start: usize, len: usize },
 }
 
 // The trade date (01: mark): tag 0x05, as a number of four bytes, or none.
-#[derive(Drop)]
+#[derive(Clone, Copy)]
 pub enum TradeDate {
     None,
     At(u32),
 }
 
 // A packet's place in its message, from 0: tag 0x70, as a number of two bytes, or none (02, No. 10).
-#[derive(Drop)]
+#[derive(Clone, Copy)]
 pub enum PacketPlace {
     NoPlace,
     Nth(u16),
 }
 
 // What the extension check finds: refusal 2, or the trade date and the packet's place.
-#[derive(Drop)]
+#[derive(Clone, Copy)]
 pub enum TagRun {
     Broken,
     Good { date: TradeDate, place: PacketPlace },

@@ -10,7 +10,7 @@ use crate::values::{Class, all_in};
 use crate::write::Written;
 
 // A String's value is its first `len` bytes; or none, where the bytes are no String.
-#[derive(Drop)]
+#[derive(Clone, Copy)]
 pub enum Text {
     NoValue,
     Value { len: usize },

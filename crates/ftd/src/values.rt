@@ -27,7 +27,7 @@ const LISTED: [u8; 80] = [
 ];
 
 // Classes of bytes.
-#[derive(Drop)]
+#[derive(Clone, Copy)]
 pub enum Class {
     Text,
     Digit,

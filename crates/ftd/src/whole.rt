@@ -11,7 +11,7 @@ use crate::values::is_listed;
 use crate::write::Written;
 
 // A value, or none where the bytes are not one.
-#[derive(Drop)]
+#[derive(Clone, Copy)]
 pub enum Whole {
     NoValue,
     Value(u32),

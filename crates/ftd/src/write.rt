@@ -16,7 +16,7 @@ use crate::refusal::Refusal;
 use crate::tags::good_tags;
 
 // What a writer answers.
-#[derive(Drop)]
+#[derive(Clone, Copy)]
 pub enum Written {
     // So many bytes stand at the start of the output.
     Bytes(usize),

@@ -1,5 +1,7 @@
 // Lists the packets of standard input (01, Lister). The text of a line is the crate listing's: here is only reading and
 // writing.
+#![tactic(auto)]
+
 use libc::{STDIN_FILENO, STDOUT_FILENO};
 use listing::Line;
 

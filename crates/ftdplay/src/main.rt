@@ -1,11 +1,13 @@
 // Plays the script of standard input: each line is a call of an end on real bytes, and prints its answer. What a line
 // says and prints is the crate play's: here is only reading and writing.
+#![tactic(auto)]
+
 use libc::{STDIN_FILENO, STDOUT_FILENO};
 use play::input::take_line;
 use play::player::Player;
 
 // The player behind some lines, and how many bytes of the next one are there.
-#[derive(Drop)]
+#[derive(Clone, Copy)]
 struct Reached {
     player: Player,
     have: usize,

@@ -1,4 +1,6 @@
 // The lister's text: a line for each packet of a capture (01, Lister).
+#![tactic(auto)]
+
 ghost use Rattle.std.specs.Prelude.{false, ◌≡◌, [], ◌∷◌, ◌++◌, ◌+◌, ◌<◌, ◌≤◌, length};
 ghost use Rattle.ftd.specs.Packet.Laws.{Inside};
 ghost use Rattle.listing.specs.Text.{WroteText, decimal_of, hex_digit, hex_of, tab, tabbed};
@@ -14,7 +16,7 @@ use ftd::tags::keep_alive;
 
 // What became of a line: too little room for it, the last one with its length, or its length and where the next packet
 // starts.
-#[derive(Drop)]
+#[derive(Clone, Copy)]
 pub enum Line {
     TooSmall,
     Last(usize),

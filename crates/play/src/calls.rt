@@ -11,7 +11,7 @@ use crate::words::{
 };
 
 // The first word of a line.
-#[derive(Drop)]
+#[derive(Clone, Copy)]
 enum Verb {
     Unknown,
     Buffers,
@@ -39,7 +39,7 @@ enum Verb {
 }
 
 // A call, with the numbers that its line says.
-#[derive(Drop)]
+#[derive(Clone, Copy)]
 pub enum Call {
     // No call.
     Bad,

@@ -4,7 +4,7 @@ ghost use Rattle.play.specs.Input.{LineLaws, line_taken, take_line_of};
 
 // How far the input was taken, how many bytes of the line there are, and whether it ended. More bytes than its buffer
 // has stand for a line that is too long.
-#[derive(Drop)]
+#[derive(Clone, Copy)]
 pub struct Taken {
     pub at: usize,
     pub have: usize,

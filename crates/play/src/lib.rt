@@ -1,5 +1,7 @@
 // The player of a script: a line is a call of an end on real bytes, of the trading calendar or of the book, and prints
 // its answer as a line.
+#![tactic(auto)]
+
 mod words; // the words of a line
 mod text; // answers as lines
 mod prices; // prices as text, and the book's answers as lines

@@ -21,7 +21,7 @@ use flow::sender::Sender;
 
 // The player: how many lines it was given, whether the buffers are laid out, their lengths, the two ends, the named
 // places of the receiving end, the calendar and the book.
-#[derive(Drop)]
+#[derive(Clone, Copy)]
 pub struct Player {
     pub lines: usize,
     pub ready: bool,
@@ -35,7 +35,7 @@ pub struct Player {
 }
 
 // What a line leaves: the player, and the length of the text that is printed.
-#[derive(Drop)]
+#[derive(Clone, Copy)]
 pub struct Played {
     pub player: Player,
     pub len: usize,

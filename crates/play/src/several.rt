@@ -21,7 +21,7 @@ use ftd::refusal::number;
 use listing::{put_byte, put_word};
 
 // What a walk leaves: the end, its answer, how many bytes were taken, and the length of the lines.
-#[derive(Drop)]
+#[derive(Clone, Copy)]
 pub(crate) struct ReceivedAll {
     end: Receiver,
     answer: ReceivedSeveral,
@@ -29,7 +29,7 @@ pub(crate) struct ReceivedAll {
     len: usize,
 }
 
-#[derive(Drop)]
+#[derive(Clone, Copy)]
 pub(crate) struct PublishedAll {
     end: Sender,
     answer: PublishedSeveral,

@@ -100,7 +100,7 @@ pub(crate) fn read_tid(word: &[u8]) -> u64
 }
 
 // A number of eight bytes, or none.
-#[derive(Drop)]
+#[derive(Clone, Copy)]
 enum Wide {
     Missing,
     Number(usize),
@@ -258,7 +258,7 @@ pub(crate) fn put_bytes(out: &mut [u8], at: usize, word: &[u8]) -> usize
 }
 
 // How many bytes two words said, one behind the other.
-#[derive(Drop)]
+#[derive(Clone, Copy)]
 pub struct Two {
     pub first: usize,
     pub second: usize,

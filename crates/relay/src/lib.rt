@@ -1,5 +1,7 @@
 // The box (02, No. 3): one receiving end joined to a serving end with 16 seats, over the contracts of `flow`; and what
 // holds of boxes in a row (02, No. 14).
+#![tactic(auto)]
+
 ghost use Rattle.relay.specs.Agreement.{BoxAgreement};
 ghost use Rattle.relay.specs.Bufferful.{BoxBufferful};
 ghost use Rattle.relay.specs.Calls.{BoxCalls};

@@ -29,7 +29,7 @@ use ftd::refusal::{Refusal, number};
 use ftd::tags::TradeDate;
 
 // The box: the receiving end towards above with the reserves of its series (02, No. 11), and the day below.
-#[derive(Drop)]
+#[derive(Clone, Copy)]
 pub struct Relay {
     pub receiver: Receiver,
     pub reserves: [usize; 8],
@@ -37,19 +37,19 @@ pub struct Relay {
 }
 
 // What a call leaves and answers. Connect leaves a box; Ask and the calls of a seat leave it as it is.
-#[derive(Drop)]
+#[derive(Clone, Copy)]
 pub struct OpenStep {
     pub end: Relay,
     pub answer: Opened,
 }
 
-#[derive(Drop)]
+#[derive(Clone, Copy)]
 pub struct ConfirmStep {
     pub end: Relay,
     pub answer: Confirmed,
 }
 
-#[derive(Drop)]
+#[derive(Clone, Copy)]
 pub struct ReceiveStep {
     pub end: Relay,
     pub answer: Received,

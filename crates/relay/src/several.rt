@@ -5,7 +5,7 @@ use crate::relay::Relay;
 use flow::several::{ReceiveTurn, ReceivedSeveral, packet_size, packets_rest, receive_turn};
 
 // What the call leaves: the box, its answer, and how many bytes were taken, those of a refused packet among them.
-#[derive(Drop)]
+#[derive(Clone, Copy)]
 pub struct ReceiveSeveralStep {
     pub end: Relay,
     pub answer: ReceivedSeveral,

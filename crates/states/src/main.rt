@@ -1,6 +1,8 @@
 // Calls of the serving end in states and on logs that a script of calls does not reach: a damaged log (20), a day that
 // is full (21), and what comes before them. Each line prints what was wrong and the number that was answered; of a Send
 // packet by packet also the bytes written, and the place then.
+#![tactic(auto)]
+
 use flow::sender::{Day, DaySeries, Place, Published, Seat, Sender, Sent, SentPacket};
 use ftd::refusal::number;
 use ftd::tags::TradeDate;
