@@ -1,6 +1,6 @@
 -- The start field (DisseminationstartField, FID 0x0004; 01, "The serving end"): the series, and the next number wanted
 -- (4.3.3.2).
-use Rattle.std.specs.Prelude.{ℕ, ◌+◌, ◌-◌, ◌≤◌, ◌≡◌, List, [], ◌∷◌, ◌++◌, true, false, cond, ◌⊎◌, ltb, eqb}
+use Rattle.std.specs.Prelude.{ℕ, ◌+◌, ◌≤◌, ◌≡◌, List, [], ◌∷◌, ◌++◌, true, false, cond, ◌⊎◌, ltb, eqb}
 use Rattle.ftd.specs.Bytes.{be16_of, be32_of, bytes16, bytes32}
 use Rattle.ftd.specs.Runs.{run_of, ended}
 use Rattle.ftd.specs.Fields.{field, fields_of, shaped, one_if, count_of, first_of}

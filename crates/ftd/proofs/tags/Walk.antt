@@ -13,7 +13,7 @@ use Rattle.ftd.specs.Runs.{front, run_of}
 use Rattle.ftd.specs.Tags.{tag, known_tags, length_right, count_kind, good_run, good_tags, tag_in, tag_place}
 use Rattle.ftd.specs.Tags.{trade_date_of, packet_place_of, tag_run_of}
 use Rattle.ftd.specs.Tags.Helpers.{data_place, SeenTag}
-use Rattle.ftd.specs.declared.tags.TagPlace.TheVariants.{NoTag, Data}
+use Rattle.ftd.specs.declared.tags.TagPlace.TheVariants.{Data}
 use Rattle.ftd.specs.declared.tags.TradeDate.{TradeDate}
 use Rattle.ftd.specs.declared.tags.TradeDate.TheVariants.{None, At}
 use Rattle.ftd.specs.declared.tags.PacketPlace.{PacketPlace}

@@ -1,5 +1,5 @@
 -- What the private functions of cutting and writing a message promise; only their contracts use it.
-use Rattle.std.specs.Prelude.{ℕ, ◌+◌, ◌-◌, ◌<◌, ◌≤◌, ◌≡◌, List, [], ◌∷◌, Bool, true, false, cond, length, drop}
+use Rattle.std.specs.Prelude.{ℕ, ◌+◌, ◌-◌, ◌<◌, ◌≤◌, ◌≡◌, List, [], ◌∷◌, true, false, cond, length, drop}
 use Rattle.ftd.specs.Bytes.{part, joined, put}
 use Rattle.ftd.specs.Runs.{run_of}
 use Rattle.ftd.specs.Fields.{field, fields_of, shapely, packet_content}

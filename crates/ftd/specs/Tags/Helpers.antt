@@ -1,5 +1,5 @@
 -- What the private functions of the tags promise; only their contracts use it.
-use Rattle.std.specs.Prelude.{ℕ, ◌+◌, ◌-◌, ◌<◌, ◌≤◌, List, map, ◌≡◌, cond, length, get_or, drop, eqb}
+use Rattle.std.specs.Prelude.{ℕ, ◌+◌, ◌<◌, ◌≤◌, List, map, ◌≡◌, cond, length, get_or, drop, eqb}
 use Rattle.ftd.specs.Tags.{KnownTag, known_tags, right_in, length_right, tag_place}
 use Rattle.ftd.specs.declared.tags.TagPlace.TheVariants.{NoTag, Data}
 

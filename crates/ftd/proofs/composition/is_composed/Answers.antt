@@ -1,0 +1,6 @@
+use Rattle.ftd.specs.Composition.{composed}
+use Rattle.ftd.proofs.composition.is_composed.Goals as goal
+
+pub returns : goal.returns
+unfolding composed
+returns c = rw (← c.direction_number.ensures) c.all_hold.ensures
