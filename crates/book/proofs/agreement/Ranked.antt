@@ -239,7 +239,8 @@ module _ (s : Bool) (x y : Level) (ys : List Level) (k : Ranked s (y ∷ ys))
       where
         same : (r : ℤ) (t : Bool) → same_price x.price r ≡ t
             → look r (y ∷ ys) ≡ cond (same_price x.price r) x.quantity (look r (y ∷ ys))
-        same r true f = rw (f, unused x u) (rw (same-equal x.price r f) at no-level)
+        same r true f =
+            rw (f, unused x u) (sym (ap (λ (p : ℤ). look p (y ∷ ys)) (same-equal x.price r f)) ∙ no-level)
         same r false f = rw f
 
   put_first-is : (used x ≡ true → look x.price (y ∷ ys) ≡ 0 → last_free (y ∷ ys) ≡ true)

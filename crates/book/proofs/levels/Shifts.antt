@@ -64,4 +64,4 @@ pull-end l i h = last l i (omega arith)
 
 -- Every value of the type has 64 places: `places s _ (c .. .good .0)`, the side being the first parameter.
 pub places : (s : Side) (vs : List Val) → Is (row the_type) s vs → length s.levels ≡ 64
-places s vs g = sym (length-map s.levels _) ∙ g.1.1.0.1.0.1
+places s vs g = g.1.1.0.1.0.1

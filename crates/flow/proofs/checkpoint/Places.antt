@@ -5,7 +5,7 @@ use mathlib.Core.Path.{◌≡◌, refl, sym, ap, ◌∙◌}
 use mathlib.Core.List.{List, [], ◌∷◌}
 use mathlib.Core.Bool.{Bool, true, false}
 use borrow.Author.Tests.{ltb-true, ltb-false, le-leb, lt-leb}
-use borrow.Author.Rules.{scaled_fits}
+use borrow.Author.Rules.{scaled_Fits}
 use mir.Val.{Fits}
 use mir.Syntax.{w64}
 use lib.ListN.{length, get_or}
@@ -39,7 +39,7 @@ name-inside c n f i g u = (name-at c n f i g u).2
 
 pub name-scaled : (c : Checkpoints) (n : ℕ) (f : NamePlace) (i size : ℕ) → FindsName c n f → f ≡ At i
     → 4 * size < 2 ^ 63 → Fits w64 (i * size)
-name-scaled c n f i size g u q = scaled_fits i 4 size (name-inside c n f i g u) q
+name-scaled c n f i size g u q = scaled_Fits i 4 size (name-inside c n f i g u) q
 
 -- Within a list no default counts.
 get_d-inside : {A : Type 0} (l : List A) (i : ℕ) (d e : A) → i < length l → get_or l i d ≡ get_or l i e

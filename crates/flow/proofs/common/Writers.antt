@@ -1,7 +1,7 @@
 -- What a writer of ftd answers and leaves, where nothing is wrong with the values. Assumes nothing.
 use Prim.Native.Nat.{ℕ}
 use native.Mathlib.Omega.{arith}
-use mathlib.Core.Path.{◌≡◌}
+use mathlib.Core.Path.{◌≡◌, refl}
 use mathlib.Core.Logic.{inl, inr}
 use mathlib.Core.List.{List, [], ◌∷◌}
 use mathlib.Core.Bool.{cond}
@@ -30,8 +30,7 @@ module _ (v : Verdict) (f : v ≡ fine) (bytes out : List ℕ) where
 
 -- An answer of the writer other than how many bytes were written.
 abbrev pub Otherwise : Written → Type 0
-Otherwise w = OneOf (1 ∷ 2 ∷ []) (tag_of the_type w)
+Otherwise w = (n : ℕ) → w ≡ Bytes n → ⊥
 
 pub not-bytes : (n : ℕ) → Otherwise (Bytes n) → ⊥
-not-bytes n (inl h) = omega arith
-not-bytes n (inr h) = omega arith
+not-bytes n h = h n refl

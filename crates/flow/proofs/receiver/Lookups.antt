@@ -6,7 +6,7 @@ use lib.ListN.{length, length-map, get_or, take}
 use lib.Seq.{length-take-le, take_all}
 use mir.Val.{Val, Fits}
 use mir.Syntax.{w64}
-use borrow.Author.Rules.{scaled_fits}
+use borrow.Author.Rules.{scaled_Fits}
 use denote.Laws.{Is}
 use denote.Struct.Declared.{row}
 use Rattle.ftd.specs.declared.tags.TradeDate.{TradeDate}
@@ -29,8 +29,8 @@ kept_number x = x.series
 pub eight : (e : Receiver) (vs : List Val) → Is (row the_type) e vs → Eight e
 eight e vs g =
     record {
-      kept = unmapped _ _ _ e.kept.series 8 g.1.1.0.1.1.1.0.1.0.1;
-      live = unmapped _ _ _ e.live.series 8 g.1.1.1.0.1.1.0.1.0.1;
+      kept = g.1.1.0.1.1.1.0.1.0.1;
+      live = g.1.1.1.0.1.1.0.1.0.1;
     }
 
 -- What `find` answered, where it is a place.
@@ -43,7 +43,7 @@ found_inside e s f i g u = (found_at e s f i g u).2
 -- The place scaled by an element's size.
 pub found-scaled : (e : Receiver) (s : ℕ) (f : SeriesPlace) (i size : ℕ) → FindsKept e s f → f ≡ At i
     → 8 * size < 2 ^ 63 → Fits w64 (i * size)
-found-scaled e s f i size g u q = scaled_fits i 8 size (found_inside e s f i g u) q
+found-scaled e s f i size g u q = scaled_Fits i 8 size (found_inside e s f i g u) q
 
 -- The place i is the one that `find` answers for the series s.
 module _ (e : Receiver) (s i : ℕ) (at : i ≡ index_of s (kept_series e)) where

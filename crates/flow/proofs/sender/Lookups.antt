@@ -22,13 +22,13 @@ use Rattle.flow.proofs.ends.SenderLookups.{Eight}
 pub eight : (e : Sender) (vs : List Val) → Is (row the_type) e vs → Eight e
 eight e vs g =
     record {
-      series = unmapped _ _ _ e.day.series 8 g.1.1.0.1.1.1.1.0.1.0.1;
-      places = unmapped _ _ _ e.seat.places 8 g.1.1.1.0.1.1.0.1.0.1;
+      series = g.1.1.0.1.1.1.1.0.1.0.1;
+      places = g.1.1.1.0.1.1.0.1.0.1;
     }
 
 -- The same of a day: `places-eight d _ (c .. .good .0)`.
 pub places-eight : (d : Day) (vs : List Val) → Is (row day-type) d vs → length d.series ≡ 8
-places-eight d vs g = unmapped _ _ _ d.series 8 g.1.1.1.1.0.1.0.1
+places-eight d vs g = g.1.1.1.1.0.1.0.1
 
 -- What `find` answered, where it is a place.
 pub found_at : (e : Sender) (s : ℕ) (f : SeriesPlace) (i : ℕ) → Finds e s f → f ≡ At i → Finds e s (At i)

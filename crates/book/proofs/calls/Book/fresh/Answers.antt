@@ -1,0 +1,6 @@
+use borrow.Author.Rules.{rules}
+use borrow.Author.Rules.{rules}
+use Rattle.book.proofs.calls.Book.fresh.Goals as goal
+
+pub returns : goal.returns
+returns c = simp (c.no_sums.ensures, c.no_levels-2.ensures, c.no_levels.ensures)

@@ -1,0 +1,13 @@
+use borrow.Author.Rules.{rules}
+use mathlib.Core.Path.{◌≡◌, refl, sym, ap, ◌∙◌}
+use Rattle.book.specs.Calls.{level_of}
+use borrow.Author.Rules.{rules}
+use Rattle.book.proofs.calls.Book.level.Goals as goal
+
+pub returns-then-buying : goal.returns-then-buying
+unfolding level_of
+returns-then-buying c = rw c.if-buying.true c.level_in.ensures
+
+pub returns : goal.returns
+unfolding level_of
+returns c = rw c.if-buying.false c.level_in-2.ensures

@@ -1,0 +1,6 @@
+use borrow.Author.Rules.{rules}
+use borrow.Author.Rules.{rules}
+use Rattle.book.proofs.calls.take_match.Goals as goal
+
+pub returns : goal.returns
+returns c = simp (c.lower-2.ensures, c.lower.ensures)

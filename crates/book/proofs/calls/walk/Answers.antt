@@ -1,0 +1,34 @@
+use borrow.Author.Rules.{rules}
+use native.Mathlib.Omega.{arith}
+use Prim.Native.Nat.{◌-◌, ◌≤◌}
+use mathlib.Core.Path.{◌≡◌, refl, sym, ap, ◌∙◌}
+use mathlib.Core.List.{map}
+use lib.ListN.{length, drop}
+use Rattle.ftd.specs.Runs.{run_of}
+use Rattle.ftd.specs.Fields.{field}
+use Rattle.book.specs.Event.{event_of}
+use Rattle.book.specs.Calls.{walked, events_of}
+use Rattle.book.proofs.calls.Fields.{walk-over, walk_refused, walk_turn}
+use Rattle.book.proofs.calls.walk.Goals as goal
+
+pub loop-code-init : goal.loop-code-init
+unfolding events_of
+loop-code-init c = (search rules, search rules, refl)
+
+pub returns-then-n-eq0 : goal.returns-then-n-eq0
+returns-then-n-eq0 c = walk-over c.args.book.code c.args.tid c.args.content.now c.loop-code.at _ c.field_size-n.ensures.0 c.loop-code.current _ c.loop-code.invariant.2 c.if-n-eq0.true
+
+pub apply-step-requires : goal.apply-step-requires
+apply-step-requires c = c.event_of.ensures.1
+
+pub returns-in-Refused : goal.returns-in-Refused
+returns-in-Refused c = walk_refused c.args.book.code c.args.tid c.args.content.now c.loop-code.at _ c.field_size-n.ensures.0 c.loop-code.current _ c.loop-code.invariant.2 c.if-n-eq0.false _
+    c.event_of.ensures.0 _ c.apply-step.ensures _ c.in-Refused.is
+
+pub loop-code-preserved : goal.loop-code-preserved
+loop-code-preserved c = (
+  search rules,
+  search rules,
+  walk_turn c.args.book.code c.args.tid c.args.content.now c.loop-code.at _ c.field_size-n.ensures.0 c.loop-code.current _ c.loop-code.invariant.2 c.if-n-eq0.false _
+      c.event_of.ensures.0 _ c.apply-step.ensures c.in-Done.is,
+)

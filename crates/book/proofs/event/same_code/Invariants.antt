@@ -1,0 +1,17 @@
+use Rattle.book.proofs.event.Reading.{ten, ten-byte}
+use borrow.Author.Rules.{rules}
+use native.Mathlib.Omega.{arith}
+use Prim.Native.Nat.{ℕ, ◌+◌, ◌-◌, ◌≤◌}
+use mathlib.Core.Path.{◌≡◌, refl, sym, ◌∙◌}
+use lib.ListN.{length, get_or, drop, length-drop}
+use Rattle.ftd.specs.Bytes.{part}
+use Rattle.book.specs.Event.{same_bytes}
+use Rattle.book.proofs.event.Reading.{same_turn, same_stop, same_end}
+use Rattle.book.proofs.event.same_code.Given as goal
+
+abbrev pub invariant-loop-i : goal.invariant-loop-i
+invariant-loop-i l =
+    (l.i ≤ 10) × (same_bytes (drop l.i (part l.field l.at 10)) (drop l.i l.code) ≡ same_bytes (part l.field l.at 10) l.code)
+
+abbrev pub decreases-loop-i : goal.decreases-loop-i
+decreases-loop-i l = 10 - l.i

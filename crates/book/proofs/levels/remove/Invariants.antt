@@ -1,0 +1,16 @@
+use Rattle.book.specs.Levels.{empty, side_with}
+use Rattle.book.proofs.levels.Shifts.{places}
+use borrow.Author.Rules.{rules}
+use native.Mathlib.Omega.{arith}
+use Prim.Native.Nat.{◌≤◌, ◌-◌, ◌+◌}
+use mathlib.Core.Path.{◌≡◌, refl, ap, sym, ◌∙◌}
+use lib.ListN.{length, drop, length-set}
+use Rattle.book.specs.Levels.{removed}
+use Rattle.book.proofs.levels.Shifts.{pull-turn, pull-end}
+use Rattle.book.proofs.levels.remove.Given as goal
+
+abbrev pub invariant-loop-i : goal.invariant-loop-i
+invariant-loop-i l = (l.i ≤ 63) × (length l.levels ≡ 64) × (removed l.i l.levels ≡ removed l.initial.i l.initial.levels)
+
+abbrev pub decreases-loop-i : goal.decreases-loop-i
+decreases-loop-i l = 63 - l.i

@@ -1,0 +1,13 @@
+use borrow.Author.Rules.{rules}
+use native.Mathlib.Omega.{arith}
+use lib.IntN.{pos}
+use Rattle.book.proofs.sums.Limits.{added-plain, volume-small}
+use borrow.Author.Rules.{rules}
+use Rattle.book.proofs.sums.add_volume.Goals as goal
+
+pub added-requires : goal.added-requires
+added-requires c = volume-small _ _ c.requires c.signed_volume.ensures
+
+pub returns : goal.returns
+returns c = added-plain c.args.sum (pos c.args.volume) _ _ c.ranges.sum c.signed_volume.ensures (omega (arith, c.requires))
+    c.added.ensures

@@ -1,0 +1,13 @@
+use Prim.Native.Nat.{◌+◌, ◌-◌, ◌≤◌}
+use mathlib.Core.Path.{◌≡◌}
+use borrow.Author.Rules.{rules}
+use Rattle.calendar.specs.Calendar.{trading_from, next_trading}
+use Rattle.calendar.proofs.holidays.Near.{search-here, search-turn, search-start}
+use Rattle.calendar.proofs.holidays.next_trading.Given as goal
+
+abbrev pub invariant-loop-day : goal.invariant-loop-day
+invariant-loop-day l =
+    (trading_from l.s (l.day + 48 - l.next) l.next ≡ next_trading l.s l.day) × (l.day + 1 ≤ l.next) × (l.next ≤ l.day + 47)
+
+abbrev pub decreases-loop-day : goal.decreases-loop-day
+decreases-loop-day l = l.day + 48 - l.next

@@ -1,0 +1,38 @@
+use native.Mathlib.Omega.{arith}
+use borrow.Author.Rules.{rules}
+use Rattle.ftd.specs.declared.refusal.Refusal.TheVariants.{NotOneFrame, RequiredTag, TooSmall}
+use Rattle.fix.specs.Frame.{body_length}
+use Rattle.fix.proofs.write.Answers.{kept, no_name, long-name, long-run, long-body, not-whole, odd-numbers, no_room}
+use Rattle.fix.proofs.write.Answers.{odd-tags, all_right, all-put}
+use Rattle.fix.proofs.write.write.Goals as goal
+
+pub returns-then-name-gt-MOST_BODY : goal.returns-then-name-gt-MOST_BODY
+returns-then-name-gt-MOST_BODY c = record { answer = search (rules, long-name); output = kept _ _ _ NotOneFrame (search (rules, long-name)) }
+
+pub returns-then-run-gt-MOST_BODY : goal.returns-then-run-gt-MOST_BODY
+returns-then-run-gt-MOST_BODY c = record { answer = search (rules, long-run); output = kept _ _ _ NotOneFrame (search (rules, long-run)) }
+
+pub returns-then-size-gt-MOST_BODY : goal.returns-then-size-gt-MOST_BODY
+returns-then-size-gt-MOST_BODY c = record { answer = search (rules, long-body); output = kept _ _ _ NotOneFrame (search (rules, long-body)) }
+
+pub returns-then-numbers_wrong : goal.returns-then-numbers_wrong
+returns-then-numbers_wrong c = record { answer = search (rules, odd-numbers); output = kept _ _ _ NotOneFrame (search (rules, odd-numbers)) }
+
+pub returns-then-out-n : goal.returns-then-out-n
+returns-then-out-n c = record { answer = search (rules, no_room); output = kept _ _ _ TooSmall (search (rules, no_room)) }
+
+pub returns-then-tags_wrong : goal.returns-then-tags_wrong
+returns-then-tags_wrong c = record { answer = search (rules, odd-tags); output = kept _ _ _ RequiredTag (search (rules, odd-tags)) }
+
+pub put_frame-requires : goal.put_frame-requires
+unfolding body_length
+put_frame-requires c = search rules
+
+pub returns-then-whole : goal.returns-then-whole
+returns-then-whole c = record { answer = search (rules, all_right); output = search (rules, all-put) }
+
+pub returns-else-whole : goal.returns-else-whole
+returns-else-whole c = record { answer = search (rules, not-whole); output = kept _ _ _ NotOneFrame (search (rules, not-whole)) }
+
+pub returns-else-is_name : goal.returns-else-is_name
+returns-else-is_name c = record { answer = search (rules, no_name); output = kept _ _ _ NotOneFrame (search (rules, no_name)) }

@@ -1,0 +1,5 @@
+use Rattle.flow.proofs.Agreement.{agreement}
+use Rattle.flow.proofs.keeps_agreement.Goals as goal
+
+pub returns : goal.returns
+returns c = agreement

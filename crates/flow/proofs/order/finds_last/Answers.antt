@@ -1,0 +1,12 @@
+use borrow.Author.Rules.{rules}
+use Rattle.flow.proofs.order.Read.{last_none, last-damaged, last-there}
+use Rattle.flow.proofs.order.finds_last.Goals as goal
+
+pub returns-then-published-eq0 : goal.returns-then-published-eq0
+returns-then-published-eq0 c = search (rules, last_none)
+
+pub returns-in-Damaged : goal.returns-in-Damaged
+returns-in-Damaged c = search (rules, last-damaged)
+
+pub returns-in-At : goal.returns-in-At
+returns-in-At c = search (rules, last-there)

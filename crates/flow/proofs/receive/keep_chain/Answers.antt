@@ -1,0 +1,5 @@
+use borrow.Author.Rules.{rules}
+use Rattle.flow.proofs.receive.keep_chain.Goals as goal
+
+pub returns : goal.returns
+returns c = rw c.one_more.ensures

@@ -1,0 +1,25 @@
+use Prim.Native.Nat.{◌-◌, ◌≤◌}
+use mathlib.Core.Path.{◌≡◌}
+use borrow.Author.Rules.{rules}
+use lib.ListN.{length, drop}
+use Rattle.ftd.specs.Runs.{run_of}
+use Rattle.ftd.specs.Chain.Laws.{packet_form}
+use Rattle.flow.specs.Several.{receiving, walk_over, receive_several_of}
+use Rattle.flow.proofs.several.Received.{some-packet, answer-in, stop-turn, on-turn}
+use Rattle.flow.proofs.several.Walks.{start-turn, rest-turn}
+use Rattle.flow.proofs.receiver.Receiver.receive_several.Goals as goal
+
+pub loop-end-init : goal.loop-end-init
+loop-end-init c = (search rules, search rules, search (rules, start-turn receiving))
+
+pub returns-then-n-eq0 : goal.returns-then-n-eq0
+returns-then-n-eq0 c = search (rules, rest-turn receiving some-packet)
+
+pub receive_turn-turn-requires : goal.receive_turn-turn-requires
+receive_turn-turn-requires c = (search (rules, answer-in), search rules)
+
+pub returns-in-Stop : goal.returns-in-Stop
+returns-in-Stop c = search (rules, stop-turn)
+
+pub loop-end-preserved : goal.loop-end-preserved
+loop-end-preserved c = (search rules, search rules, search (rules, on-turn))

@@ -1,0 +1,14 @@
+use Prim.Native.Nat.{◌-◌, ◌≤◌}
+use mathlib.Core.Path.{◌≡◌, refl}
+use mathlib.Core.List.{map}
+use borrow.Author.Rules.{rules}
+use lib.ListN.{length, take}
+use Rattle.flow.specs.Ends.{filled, new_kept}
+use Rattle.flow.proofs.series.Filled.{filled-turn, filled-end}
+use Rattle.flow.proofs.receiver.new_kept.Given as goal
+
+abbrev pub invariant-loop-i : goal.invariant-loop-i
+invariant-loop-i l = (l.i ≤ length l.series) × (l.all ≡ filled (new_kept 0) (map new_kept (take l.i l.series)))
+
+abbrev pub decreases-loop-i : goal.decreases-loop-i
+decreases-loop-i l = length l.series - l.i

@@ -1,0 +1,18 @@
+use Prim.Native.Nat.{◌+◌, ◌-◌, ◌<◌, ◌≤◌}
+use mathlib.Core.Path.{◌≡◌, refl}
+use native.Mathlib.Omega.{arith}
+use borrow.Author.Rules.{rules}
+use lib.ListN.{get_or, drop}
+use lib.Dec.{ltb}
+use Rattle.flow.specs.Ends.{no_series, sum_of}
+use Rattle.flow.specs.ShareHelpers.{shares_in}
+use Rattle.flow.proofs.room.Places.{shares, share-over, share-fits, used-fits, share-turn, shares-all, shares-end}
+use Rattle.flow.proofs.sender.Lookups.{places-eight}
+use Rattle.flow.proofs.room.over_shares.Given as goal
+
+abbrev pub invariant-loop-i : goal.invariant-loop-i
+invariant-loop-i l =
+    (l.i ≤ 8) × (l.left ≤ l.room) × (ltb l.left (sum_of (drop l.i (shares l.day l.at l.more))) ≡ ltb l.room (shares_in l.day l.at l.more))
+
+abbrev pub decreases-loop-i : goal.decreases-loop-i
+decreases-loop-i l = 8 - l.i

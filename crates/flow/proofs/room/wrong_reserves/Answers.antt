@@ -1,0 +1,24 @@
+use Prim.Native.Nat.{◌-◌}
+use mathlib.Core.Path.{◌≡◌}
+use borrow.Author.Rules.{rules}
+use lib.ListN.{length, drop}
+use lib.Dec.{ltb}
+use Rattle.flow.specs.Ends.{sum_of}
+use Rattle.flow.specs.Serving.{wrong_reserves}
+use Rattle.flow.proofs.room.Sums.{reserves-count, reserves-else, sum_over, sum-turn, sum-end}
+use Rattle.flow.proofs.room.wrong_reserves.Goals as goal
+
+pub returns-then-reserves-series : goal.returns-then-reserves-series
+returns-then-reserves-series c = search (rules, reserves-count)
+
+pub loop-i-init : goal.loop-i-init
+loop-i-init c = search (rules, reserves-else)
+
+pub returns-then-left-one : goal.returns-then-left-one
+returns-then-left-one c = search (rules, sum_over)
+
+pub loop-i-preserved : goal.loop-i-preserved
+loop-i-preserved c = search (rules, sum-turn)
+
+pub returns : goal.returns
+returns c = search (rules, sum-end)

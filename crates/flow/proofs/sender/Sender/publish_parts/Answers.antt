@@ -1,0 +1,11 @@
+use mathlib.Core.Path.{sym, ◌∙◌}
+use borrow.Author.Rules.{rules}
+use Rattle.flow.proofs.sender.Publishing.{publish-content}
+use Rattle.flow.proofs.sender.Sender.publish_parts.Goals as goal
+
+pub publish_passed-requires : goal.publish_passed-requires
+publish_passed-requires c =
+    sym c.check_parts.ensures ∙ c.in-Passed.is
+
+pub returns-in-Refused : goal.returns-in-Refused
+returns-in-Refused c = search (rules, publish-content)

@@ -1,0 +1,11 @@
+use borrow.Author.Rules.{rules}
+use Rattle.flow.proofs.sender.Lookups.{found_at}
+use Rattle.flow.proofs.sender.Publishing.{publish-unknown}
+use Rattle.flow.proofs.sender.Sender.publish_passed.Goals as goal
+
+pub publish_at-requires : goal.publish_at-requires
+publish_at-requires c =
+    (c.requires, found_at _ _ _ _ c.find.ensures c.in-At.is)
+
+pub returns-in-Unknown : goal.returns-in-Unknown
+returns-in-Unknown c = search (rules, publish-unknown)

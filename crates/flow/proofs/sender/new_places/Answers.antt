@@ -1,0 +1,16 @@
+use Prim.Native.Nat.{◌-◌, ◌≤◌}
+use mathlib.Core.Path.{◌≡◌, refl}
+use borrow.Author.Rules.{rules}
+use lib.ListN.{length, take}
+use Rattle.flow.specs.Ends.{filled, no_series, opened_series}
+use Rattle.flow.proofs.sender.Opening.{places-turn, places-end}
+use Rattle.flow.proofs.sender.new_places.Goals as goal
+
+pub loop-i-init : goal.loop-i-init
+loop-i-init c = (search rules, refl)
+
+pub loop-i-preserved : goal.loop-i-preserved
+loop-i-preserved c = (search rules, search (rules, places-turn))
+
+pub returns : goal.returns
+returns c = search (rules, places-end)

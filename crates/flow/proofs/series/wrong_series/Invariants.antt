@@ -1,0 +1,14 @@
+use Prim.Native.Nat.{◌-◌}
+use mathlib.Core.Path.{◌≡◌}
+use borrow.Author.Rules.{rules}
+use lib.ListN.{length, drop}
+use Rattle.flow.specs.Ends.{wrong_series}
+use Rattle.flow.proofs.series.Rule.{against, wrong-none, wrong-many, wrong-else}
+use Rattle.flow.proofs.series.Rule.{against-zero, against-twice, against-turn, against-end}
+use Rattle.flow.proofs.series.wrong_series.Given as goal
+
+abbrev pub invariant-loop-i : goal.invariant-loop-i
+invariant-loop-i l = against (drop l.i l.series) ≡ wrong_series l.series
+
+abbrev pub decreases-loop-i : goal.decreases-loop-i
+decreases-loop-i l = length l.series - l.i

@@ -1,0 +1,20 @@
+use native.Mathlib.Omega.{arith}
+use borrow.Author.Rules.{rules}
+use Rattle.listing.specs.Lines.{link_text}
+use Rattle.listing.proofs.put_link.Goals as goal
+
+pub returns-then-is_heart : goal.returns-then-is_heart
+unfolding link_text
+returns-then-is_heart c =
+    rw (
+      ← c.is_heart.ensures,
+      c.if-is_heart.true,
+    ) (c.put_word.ensures, omega arith)
+
+pub returns : goal.returns
+unfolding link_text
+returns c =
+    rw (
+      ← c.is_heart.ensures,
+      c.if-is_heart.false,
+    ) (c.put_word-2.ensures, omega arith)
