@@ -39,7 +39,7 @@ use Rattle.flow.proofs.calls.Serving.{packet-missing, packet-small, packet-taken
 use Rattle.flow.specs.Helpers.{Finds}
 use mir.Val.{Fits}
 use mir.Syntax.{w64}
-use borrow.Author.Rules.{scaled_fits}
+use borrow.Author.Rules.{scaled_Fits}
 use Rattle.flow.proofs.sender.Lookups.{place_at, found_inside}
 use Rattle.relay.specs.declared.relay.Relay.{Relay}
 use Rattle.relay.specs.State.{Box, box_for, place_written, seat_for, seats_for}
@@ -67,7 +67,7 @@ keep_at ns i s e f j h q =
 -- The place scaled by an element's size.
 pub served-scaled : (e : Sender) (s : ℕ) (f : SeriesPlace) (i size : ℕ) → Finds e s f → f ≡ At i
     → 8 * size < 2 ^ 63 → Fits w64 (i * size)
-served-scaled e s f i size g u q = scaled_fits i 8 size (found_inside e s f i g u) q
+served-scaled e s f i size g u q = scaled_Fits i 8 size (found_inside e s f i g u) q
 
 -- ─── What a seat's call leaves of the serving end: all of it, or, where it wrote, the series' place stepped on ───
 

@@ -1,0 +1,32 @@
+use borrow.Author.Rules.{rules}
+use Rattle.play.specs.Calls.{verb_of}
+use Rattle.play.proofs.calls.Rows.{found, passed}
+use Rattle.play.proofs.calls.verb_of.Goals as goal
+
+pub returns-then-is_word : goal.returns-then-is_word
+unfolding verb_of
+returns-then-is_word c = search (rules, found, passed) depth 9 fits 12000
+
+pub returns-then-is_word-2 : goal.returns-then-is_word-2
+unfolding verb_of
+returns-then-is_word-2 c = search (rules, found, passed) depth 9 fits 12000
+
+pub returns-then-is_word-3 : goal.returns-then-is_word-3
+unfolding verb_of
+returns-then-is_word-3 c = search (rules, found, passed) depth 9 fits 12000
+
+pub returns-then-is_word-4 : goal.returns-then-is_word-4
+unfolding verb_of
+returns-then-is_word-4 c = search (rules, found, passed) depth 9 fits 12000
+
+pub returns-then-is_word-5 : goal.returns-then-is_word-5
+unfolding verb_of
+returns-then-is_word-5 c = search (rules, found, passed) depth 9 fits 12000
+
+pub returns-then-is_word-6 : goal.returns-then-is_word-6
+unfolding verb_of
+returns-then-is_word-6 c = search (rules, found, passed) depth 9 fits 12000
+
+pub returns : goal.returns
+unfolding verb_of
+returns c = search (rules, found, passed) depth 9 fits 12000

@@ -1,0 +1,17 @@
+use borrow.Author.Rules.{rules}
+use native.Mathlib.Omega.{arith}
+use Prim.Native.Nat.{◌+◌, ◌-◌, ◌*◌, ◌≤◌}
+use mathlib.Core.Path.{◌≡◌, refl}
+use lib.ListN.{length}
+use Rattle.listing.specs.Text.{WroteText}
+use Rattle.play.specs.State.{checkpoint_at, lines_up_to, all_checkpoints}
+use Rattle.play.proofs.state.Turns.{lines-first, lines-turn, lines-over}
+use Rattle.play.proofs.state.put_checkpoints.Given as goal
+
+abbrev pub invariant-loop-i : goal.invariant-loop-i
+invariant-loop-i l =
+    (l.i ≤ l.count) × (l.to ≤ l.at + 1048 * l.i) × (length l.out ≡ length l.initial.out)
+    × WroteText l.initial.out l.at (lines_up_to (checkpoint_at l.checkpoints.places) l.i) l.out l.to
+
+abbrev pub decreases-loop-i : goal.decreases-loop-i
+decreases-loop-i l = l.count - l.i

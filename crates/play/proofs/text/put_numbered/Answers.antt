@@ -1,0 +1,21 @@
+use native.Mathlib.Omega.{arith}
+use borrow.Author.Rules.{rules}
+use Rattle.listing.proofs.Numbers.{digits-most}
+use Rattle.listing.proofs.Texts.{wrote-both}
+use Rattle.play.specs.Lines.{numbered}
+use Rattle.play.proofs.text.put_numbered.Goals as goal
+
+pub put_decimal-requires : goal.put_decimal-requires
+put_decimal-requires c =
+    omega (arith, digits-most 19 c.args.x (omega arith))
+
+pub returns : goal.returns
+unfolding numbered
+returns c =
+    let a =
+    c.args in (
+      wrote-both (omega arith)
+          (wrote-both (omega arith) c.put_word-n.ensures c.put_byte-n.ensures)
+          c.put_decimal.ensures,
+      omega (arith, digits-most 19 a.x (omega arith)),
+    )

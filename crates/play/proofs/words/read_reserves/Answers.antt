@@ -1,0 +1,23 @@
+use borrow.Author.Rules.{rules}
+use native.Mathlib.Omega.{arith}
+use Prim.Native.Nat.{◌-◌, ◌≤◌}
+use mathlib.Core.Path.{◌≡◌, refl}
+use mathlib.Core.List.{◌++◌}
+use lib.ListN.{length, length-set, drop}
+use Rattle.play.specs.Words.{reserve_at, reserves_from}
+use Rattle.play.proofs.words.Arguments.{list-first, list-turn, list_over}
+use Rattle.play.proofs.words.read_reserves.Goals as goal
+
+pub loop-k-init : goal.loop-k-init
+loop-k-init c = (search rules, refl, search (rules, list-first))
+
+pub loop-k-preserved : goal.loop-k-preserved
+loop-k-preserved c = (
+  search rules,
+  search (rules, length-set),
+  list-turn (reserve_at c.args.line.now) c.args.list.now c.args.i c.loop-k.list c.loop-k.k c.loop-k.invariant.2 _ c.loop-k.invariant.1 (omega arith)
+      c.reserve_at.ensures,
+)
+
+pub returns : goal.returns
+returns c = search (rules, list_over)

@@ -1,0 +1,12 @@
+use borrow.Author.Rules.{rules}
+use Prim.Native.Nat.{◌+◌, ◌-◌, ◌≤◌}
+use mathlib.Core.Path.{◌≡◌}
+use Rattle.play.specs.Words.{shares_behind, share_count}
+use Rattle.play.proofs.words.Arguments.{share-first, share-more, share-end, share-wrong, share-over}
+use Rattle.play.proofs.words.share_count.Given as goal
+
+abbrev pub invariant-loop-n : goal.invariant-loop-n
+invariant-loop-n l = (l.n ≤ 65) × (shares_behind l.line l.i l.n (65 - l.n) ≡ share_count l.line l.i)
+
+abbrev pub decreases-loop-n : goal.decreases-loop-n
+decreases-loop-n l = 65 - l.n

@@ -1,0 +1,31 @@
+use Rattle.relay.proofs.relay.Towards.{confirm-late, confirm-taken, confirm-refused}
+use borrow.Author.Rules.{rules}
+use Rattle.relay.proofs.relay.Relay.confirm_login.Reads as reads
+use Rattle.relay.proofs.relay.Relay.confirm_login.Lts as lts
+use Rattle.flow.proofs.receiver.Receiver.confirm_login.Reads as confirm-login-reads
+use Rattle.ftd.proofs.packet.read_dated.Reads as read-dated-reads
+use Rattle.relay.proofs.relay.Relay.confirmed.Reads as confirmed-reads
+use Rattle.relay.proofs.relay.Relay.with_receiver.Reads as with-receiver-reads
+use Rattle.relay.proofs.relay.is_late.Reads as is-late-reads
+use Rattle.relay.proofs.relay.Relay.confirm_login.Goals as goal
+
+-- src/relay.rt:329:13
+pub returns-then-is_late : goal.returns-then-is_late
+returns-then-is_late c =
+    confirm-late c.args.self c.args.places.now c.args.series c.args.packet.now c.args.log.now c.confirm_login-step.result
+    c.confirm_login-step.ensures c.read_dated-d.result c.read_dated-d.ensures c.is_late.result
+    c.is_late.ensures c.if-is_late.true
+
+-- src/relay.rt:310:5
+pub returns-in-Last : goal.returns-in-Last
+returns-in-Last c =
+    confirm-taken c.args.self c.args.places.now c.args.series c.args.packet.now c.args.log.now c.confirm_login-step.result
+    c.confirm_login-step.ensures c.read_dated-d.result c.read_dated-d.ensures c.is_late.result
+    c.is_late.ensures c.if-is_late.false _ c.in-Last.is _ _ c.confirmed.ensures
+
+-- src/relay.rt:310:5
+pub returns-in-Refused : goal.returns-in-Refused
+returns-in-Refused c =
+    confirm-refused c.args.self c.args.places.now c.args.series c.args.packet.now c.args.log.now c.confirm_login-step.result
+    c.confirm_login-step.ensures c.read_dated-d.result c.read_dated-d.ensures c.is_late.result
+    c.is_late.ensures c.if-is_late.false _ c.in-Refused.is _ c.with_receiver.ensures

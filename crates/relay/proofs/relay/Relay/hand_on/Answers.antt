@@ -1,0 +1,32 @@
+use Rattle.relay.proofs.relay.Handing.{hands-lie, handed-is, refused-is}
+use borrow.Author.Rules.{rules}
+use Rattle.relay.proofs.relay.Relay.hand_on.Reads as reads
+use Rattle.relay.proofs.relay.Relay.hand_on.Lts as lts
+use Rattle.flow.proofs.receiver.Receiver.drop_chain.Reads as drop-chain-reads
+use Rattle.relay.proofs.relay.Relay.keep.Reads as keep-reads
+use Rattle.relay.proofs.relay.Relay.publish_below.Reads as publish-below-reads
+use Rattle.relay.proofs.relay.Relay.with_receiver.Reads as with-receiver-reads
+use Rattle.relay.proofs.relay.Relay.hand_on.Goals as goal
+
+-- src/relay.rt:436:13
+pub publish_below-step-requires : goal.publish_below-step-requires
+publish_below-step-requires c = (
+  hands-lie c.args.d c.args.buffer.now c.args.tid c.args.origin c.args.all c.args.d.answer
+      c.requires.1 c.requires.0.3,
+  c.requires.0.2,
+)
+
+-- src/relay.rt:421:5
+pub returns-in-Number : goal.returns-in-Number
+returns-in-Number c =
+    handed-is c.args.self c.args.packet.now c.args.log.now c.args.buffer.now c.args.d c.requires.0
+    c.args.tid c.args.origin c.args.all c.requires.1 c.publish_below-step.result _
+    c.publish_below-step.ensures _ c.in-Number.is _ _ c.keep.ensures
+
+-- src/relay.rt:421:5
+pub returns-in-Refused : goal.returns-in-Refused
+returns-in-Refused c =
+    refused-is c.args.self c.args.packet.now c.args.log.now c.args.buffer.now c.args.d c.requires.0
+    c.args.tid c.args.origin c.args.all c.requires.1 c.publish_below-step.result _
+    c.publish_below-step.ensures _ c.in-Refused.is _ c.drop_chain-end.ensures _
+    c.with_receiver.ensures

@@ -1,0 +1,24 @@
+use Rattle.relay.proofs.relay.Towards.{open-short, few-reserves, open-taken, open-refused}
+use borrow.Author.Rules.{rules}
+use Rattle.relay.proofs.relay.Relay.open.Reads as reads
+use Rattle.relay.proofs.relay.Relay.open.Lts as lts
+use Rattle.flow.proofs.receiver.Receiver.open.Reads as open-reads
+use Rattle.relay.proofs.relay.Relay.with_receiver.Reads as with-receiver-reads
+use Rattle.relay.proofs.relay.all_reserves.Reads as all-reserves-reads
+use Rattle.relay.proofs.relay.Relay.open.Goals as goal
+
+-- src/relay.rt:184:13
+pub returns-then-reserves-series : goal.returns-then-reserves-series
+returns-then-reserves-series c = search (rules, open-short)
+
+-- src/relay.rt:198:31
+pub all_reserves-requires : goal.all_reserves-requires
+all_reserves-requires c = search (rules, few-reserves)
+
+-- src/relay.rt:180:5
+pub returns-in-Done : goal.returns-in-Done
+returns-in-Done c = search (rules, open-taken)
+
+-- src/relay.rt:180:5
+pub returns-in-Refused : goal.returns-in-Refused
+returns-in-Refused c = search (rules, open-refused)

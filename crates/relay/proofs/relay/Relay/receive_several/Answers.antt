@@ -1,0 +1,32 @@
+use Prim.Native.Nat.{◌-◌, ◌≤◌}
+use mathlib.Core.Path.{◌≡◌}
+use borrow.Author.Rules.{rules}
+use lib.ListN.{length}
+use Rattle.relay.proofs.several.Turns.{Left, start-box, rest-box, answer-in, stop-box, on-box}
+use Rattle.relay.proofs.relay.Relay.receive_several.Reads as reads
+use Rattle.relay.proofs.relay.Relay.receive_several.Lts as lts
+use Rattle.flow.proofs.several.packet_size.Reads as packet-size-reads
+use Rattle.flow.proofs.several.packets_rest.Reads as packets-rest-reads
+use Rattle.flow.proofs.several.receive_turn.Reads as receive-turn-reads
+use Rattle.relay.proofs.relay.Relay.receive.Reads as receive-reads
+use Rattle.relay.proofs.relay.Relay.receive_several.Goals as goal
+
+-- src/several.rt:30:9
+pub loop-end-init : goal.loop-end-init
+loop-end-init c = (search rules, search rules, search rules, search (rules, start-box))
+
+-- src/several.rt:33:17
+pub returns-then-n-eq0 : goal.returns-then-n-eq0
+returns-then-n-eq0 c = search (rules, rest-box)
+
+-- src/several.rt:44:17
+pub receive_turn-turn-requires : goal.receive_turn-turn-requires
+receive_turn-turn-requires c = (search (rules, answer-in), search rules)
+
+-- src/several.rt:47:21
+pub returns-in-Stop : goal.returns-in-Stop
+returns-in-Stop c = search (rules, stop-box)
+
+-- src/several.rt:30:9
+pub loop-end-preserved : goal.loop-end-preserved
+loop-end-preserved c = (search rules, search rules, search rules, search (rules, on-box))

@@ -1,0 +1,37 @@
+use mathlib.Core.Path.{refl}
+use borrow.Author.Rules.{rules}
+use Rattle.flow.proofs.sender.Lookups.{eight}
+use Rattle.relay.proofs.relay.AtSeats.{packet-as, packet-none}
+use Rattle.relay.proofs.relay.Relay.send_packet.Reads as reads
+use Rattle.relay.proofs.relay.Relay.send_packet.Lts as lts
+use Rattle.flow.proofs.sender.Sender.send_packet.Reads as send-packet-reads
+use Rattle.relay.proofs.places.seat_at.Reads as seat-at-reads
+use Rattle.relay.proofs.relay.Relay.server.Reads as server-reads
+use Rattle.relay.proofs.relay.keep_place.Reads as keep-place-reads
+use Rattle.relay.proofs.relay.Relay.send_packet.Goals as goal
+
+-- src/relay.rt:409:13
+pub returns-then-seat-gt15 : goal.returns-then-seat-gt15
+returns-then-seat-gt15 c =
+    packet-none c.args.self c.args.places.now c.args.seat c.args.series c.if-seat-gt15.true c.args.log.now c.args.out.now
+
+-- src/relay.rt:397:5
+pub returns-in-Wrote : goal.returns-in-Wrote
+returns-in-Wrote c =
+    packet-as c.args.self c.args.places.now c.args.seat c.args.series c.if-seat-gt15.false c.seat_at.result
+    c.server-server.result c.seat_at.ensures c.server-server.ensures (eight c.server-server.result _ c.server-server.type_inv) c.args.log.now c.args.out.now
+    c.send_packet-step.result _ _ _ c.send_packet-step.ensures c.in-Wrote.is c.keep_place.ensures
+
+-- src/relay.rt:397:5
+pub returns-in-Drained : goal.returns-in-Drained
+returns-in-Drained c =
+    packet-as c.args.self c.args.places.now c.args.seat c.args.series c.if-seat-gt15.false c.seat_at.result
+    c.server-server.result c.seat_at.ensures c.server-server.ensures (eight c.server-server.result _ c.server-server.type_inv) c.args.log.now c.args.out.now
+    c.send_packet-step.result _ _ _ c.send_packet-step.ensures c.in-Drained.is (refl)
+
+-- src/relay.rt:397:5
+pub returns-in-Refused : goal.returns-in-Refused
+returns-in-Refused c =
+    packet-as c.args.self c.args.places.now c.args.seat c.args.series c.if-seat-gt15.false c.seat_at.result
+    c.server-server.result c.seat_at.ensures c.server-server.ensures (eight c.server-server.result _ c.server-server.type_inv) c.args.log.now c.args.out.now
+    c.send_packet-step.result _ _ _ c.send_packet-step.ensures c.in-Refused.is (refl)

@@ -1,0 +1,10 @@
+use Rattle.relay.proofs.relay.Towards.{past_is}
+use borrow.Author.Rules.{rules}
+use Rattle.relay.proofs.relay.confirm_past.Reads as reads
+use Rattle.relay.proofs.relay.confirm_past.Lts as lts
+use Rattle.ftd.proofs.refusal.number.Reads as number-reads
+use Rattle.relay.proofs.relay.confirm_past.Goals as goal
+
+-- src/relay.rt:88:1
+pub returns-in-Refused : goal.returns-in-Refused
+returns-in-Refused c = search (rules, past_is)

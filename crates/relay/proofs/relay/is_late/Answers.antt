@@ -1,0 +1,10 @@
+use Rattle.relay.proofs.relay.Towards.{late-past, late-not}
+use borrow.Author.Rules.{rules}
+use Rattle.relay.proofs.relay.is_late.Reads as reads
+use Rattle.relay.proofs.relay.is_late.Lts as lts
+use Rattle.relay.proofs.relay.confirm_past.Reads as confirm-past-reads
+use Rattle.relay.proofs.relay.is_late.Goals as goal
+
+-- src/relay.rt:102:9
+pub returns-then-confirm_past : goal.returns-then-confirm_past
+returns-then-confirm_past c = search (rules, late-past)
