@@ -2,42 +2,45 @@
 // writing.
 #![tactic(auto)]
 
-use libc::{STDIN_FILENO, STDOUT_FILENO};
 use listing::Line;
+use std::io;
+use std::io::Read;
+use streams::read_full;
 
-// Standard input has a byte more.
-fn goes_on() -> bool {
+// The input has a byte more.
+fn goes_on<R: Read>(input: &mut R) -> io::Result<bool> {
     let mut one = [0u8; 1];
-    io::read_full(STDIN_FILENO, &mut one) == 1
+    let n = read_full(input, &mut one)?;
+    Ok(n == 1)
 }
 
 // Prints the lines of a capture; `more` says that the input goes on behind it.
-fn print_lines(capture: &[u8], more: bool) {
+fn print_lines(output: &impl Print, capture: &[u8], more: bool) -> io::Result<()> {
     let mut out = [0u8; 64];
     let mut at: usize = 0;
     loop {
         match listing::write_line(capture, more, at, &mut out) {
             Line::TooSmall => {
-                return;
+                return Ok(());
             }
             Line::Last(len) => {
-                io::write_all(STDOUT_FILENO, &out[..len]);
-                return;
+                return output.write_all(&out[..len]);
             }
             Line::More { len, next } => {
-                io::write_all(STDOUT_FILENO, &out[..len]);
+                output.write_all(&out[..len])?;
                 at = next;
             }
         }
     }
 }
 
-fn main() {
+fn main(rt: HostRuntime) -> io::Result<()> {
+    let mut stdin = rt.reader();
     let mut input = [0; 65536];
-    let n = io::read_full(STDIN_FILENO, &mut input);
+    let n = read_full(&mut stdin, &mut input)?;
     if n < 65536 {
-        print_lines(&input[..n], false);
-        return;
+        return print_lines(&rt, &input[..n], false);
     }
-    print_lines(&input, goes_on());
+    let more = goes_on(&mut stdin)?;
+    print_lines(&rt, &input, more)
 }

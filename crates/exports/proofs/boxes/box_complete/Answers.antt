@@ -1,0 +1,5 @@
+use borrow.Author.Rules.{rules}
+use Rattle.exports.proofs.boxes.box_complete.Goals as goal
+
+pub returns : goal.returns
+returns c = rw (c.span.ensures, c.origin_number.ensures)

@@ -1,0 +1,6 @@
+use borrow.Author.Rules.{rules}
+use Rattle.exports.proofs.boxes.Calls.{fresh-numbers}
+use Rattle.exports.proofs.boxes.ftd_box_fresh.Goals as goal
+
+pub returns : goal.returns
+returns c = fresh-numbers c.fresh.result _ c.fresh.ensures c.box_numbers.ensures

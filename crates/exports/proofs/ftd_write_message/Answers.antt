@@ -1,0 +1,6 @@
+use borrow.Author.Rules.{rules}
+use Rattle.exports.proofs.ftd_write_message.Goals as goal
+
+pub returns : goal.returns
+returns c =
+    rw (← c.message_for.ensures) record { answer = rw (← c.write_chain.ensures.answer) c.written.ensures; output = c.write_chain.ensures.output }

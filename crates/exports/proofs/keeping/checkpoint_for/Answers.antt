@@ -1,0 +1,24 @@
+use Prim.Native.Nat.{◌-◌, ◌≤◌}
+use mathlib.Core.Path.{◌≡◌, refl}
+use mathlib.Core.List.{map}
+use borrow.Author.Rules.{rules}
+use lib.ListN.{length}
+use Rattle.flow.proofs.common.Filled.{Filled, mapped-turn, mapped_end}
+use Rattle.flow.proofs.series.Places.{unmapped}
+use Rattle.exports.specs.Keeping.{kept_series_for}
+use Rattle.exports.proofs.keeping.checkpoint_for.Goals as goal
+
+pub loop-i-init : goal.loop-i-init
+loop-i-init c = (search rules, (refl, refl))
+
+pub loop-i-preserved : goal.loop-i-preserved
+loop-i-preserved c =
+    let n : length c.args.x.series ≡ 8 = search (rules, unmapped) in (
+      search rules,
+      rw c.date_for.ensures (mapped-turn 8 kept_series_for c.args.x.series n c.loop-i.all c.loop-i.i _ c.loop-i.invariant.1 (search rules)),
+    )
+
+pub returns : goal.returns
+returns c =
+    let n : length c.args.x.series ≡ 8 = search (rules, unmapped) in
+    rw (mapped_end 8 kept_series_for c.args.x.series n c.loop-i.all c.loop-i.i c.loop-i.invariant.1 (search rules))

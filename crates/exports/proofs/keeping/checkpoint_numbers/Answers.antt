@@ -1,0 +1,26 @@
+use Prim.Native.Nat.{◌-◌, ◌≤◌}
+use mathlib.Core.Path.{◌≡◌, refl}
+use mathlib.Core.List.{map}
+use borrow.Author.Rules.{rules}
+use lib.ListN.{length}
+use Rattle.flow.proofs.common.Filled.{Filled, mapped-turn, mapped_end}
+use Rattle.flow.proofs.series.Places.{unmapped}
+use Rattle.exports.specs.Keeping.{kept_series_numbers}
+use Rattle.exports.proofs.keeping.checkpoint_numbers.Goals as goal
+
+pub loop-i-init : goal.loop-i-init
+loop-i-init c = (search rules, (refl, refl))
+
+pub loop-i-preserved : goal.loop-i-preserved
+loop-i-preserved c =
+    let s = c.args.x.kept.series in
+    let n : length s ≡ 8 = search (rules, unmapped) in (
+      search rules,
+      rw c.series_numbers.ensures (mapped-turn 8 kept_series_numbers s n c.loop-i.all c.loop-i.i _ c.loop-i.invariant.1 (search rules)),
+    )
+
+pub returns : goal.returns
+returns c =
+    let s = c.args.x.kept.series in
+    let n : length s ≡ 8 = search (rules, unmapped) in
+    rw (mapped_end 8 kept_series_numbers s n c.loop-i.all c.loop-i.i c.loop-i.invariant.1 (search rules))

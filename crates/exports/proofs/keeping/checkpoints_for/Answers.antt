@@ -1,0 +1,25 @@
+use Prim.Native.Nat.{◌-◌, ◌≤◌}
+use mathlib.Core.Path.{◌≡◌, refl}
+use mathlib.Core.List.{map}
+use borrow.Author.Rules.{rules}
+use lib.ListN.{length}
+use Rattle.flow.proofs.common.Filled.{Filled, mapped-turn, mapped_end}
+use Rattle.flow.proofs.series.Places.{unmapped}
+use Rattle.exports.specs.Keeping.{checkpoint_for, checkpoints_for}
+use Rattle.exports.proofs.keeping.checkpoints_for.Goals as goal
+
+pub loop-i-init : goal.loop-i-init
+loop-i-init c = (search rules, (refl, refl))
+
+pub loop-i-preserved : goal.loop-i-preserved
+loop-i-preserved c =
+    let n : length c.args.c.places ≡ 4 = search (rules, unmapped) in (
+      search rules,
+      rw c.checkpoint_for.ensures (mapped-turn 4 checkpoint_for c.args.c.places n c.loop-i.all c.loop-i.i _ c.loop-i.invariant.1 (search rules)),
+    )
+
+pub returns : goal.returns
+unfolding checkpoints_for
+returns c =
+    let n : length c.args.c.places ≡ 4 = search (rules, unmapped) in
+    rw (mapped_end 4 checkpoint_for c.args.c.places n c.loop-i.all c.loop-i.i c.loop-i.invariant.1 (search rules))

@@ -1,0 +1,14 @@
+use Rattle.exports.specs.Numbers.{link_numbers}
+use borrow.Author.Rules.{rules}
+use Rattle.exports.proofs.link.Goals as goal
+
+pub returns : goal.returns
+unfolding link_numbers
+returns c =
+    rw (
+      c.span.ensures,
+      c.date.ensures,
+      c.place.ensures,
+      c.dated.ensures,
+      c.placed.ensures,
+    )

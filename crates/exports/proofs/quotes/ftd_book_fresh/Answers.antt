@@ -1,0 +1,5 @@
+use borrow.Author.Rules.{rules}
+use Rattle.exports.proofs.quotes.ftd_book_fresh.Goals as goal
+
+pub returns : goal.returns
+returns c = rw c.fresh.ensures at c.book_numbers.ensures

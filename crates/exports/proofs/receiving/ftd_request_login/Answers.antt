@@ -1,0 +1,7 @@
+use borrow.Author.Rules.{rules}
+use Rattle.exports.proofs.receiving.ftd_request_login.Goals as goal
+
+pub returns : goal.returns
+returns c =
+    let g = rw c.receiver_for.ensures at c.request_login.ensures in
+    record { answer = rw (← g.0.1) c.requested.ensures; output = g.1 }

@@ -1,0 +1,15 @@
+use Prim.Native.Nat.{◌-◌, ◌≤◌}
+use mathlib.Core.Path.{refl}
+use borrow.Author.Rules.{rules}
+use mathlib.Core.List.{map}
+use Rattle.flow.proofs.series.Places.{unmapped}
+use Rattle.exports.specs.Receiving.{kept_for, live_for, receiver_for}
+use Rattle.flow.proofs.common.Filled.{Filled, mapped-turn, mapped_end}
+use Rattle.exports.proofs.receiving.receiver_for.Given as goal
+
+abbrev pub invariant-loop-i : goal.invariant-loop-i
+invariant-loop-i l =
+    (l.i ≤ 8) × Filled 8 l.i (map kept_for l.s.series) l.kept × Filled 8 l.i (map live_for l.s.series) l.live
+
+abbrev pub decreases-loop-i : goal.decreases-loop-i
+decreases-loop-i l = 8 - l.i

@@ -1,0 +1,5 @@
+use borrow.Author.Rules.{rules}
+use Rattle.exports.proofs.resume.ftd_write_resume.Goals as goal
+
+pub returns : goal.returns
+returns c = record { answer = rw (← c.write_resume.ensures.answer) c.written.ensures; output = c.write_resume.ensures.output }

@@ -1,0 +1,5 @@
+use borrow.Author.Rules.{rules}
+use Rattle.exports.proofs.serving.ftd_sender_fresh.Goals as goal
+
+pub returns : goal.returns
+returns c = rw (← c.fresh.ensures) c.sender_numbers.ensures

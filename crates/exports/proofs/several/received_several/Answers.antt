@@ -1,0 +1,14 @@
+use borrow.Author.Rules.{rules}
+use Rattle.exports.proofs.several.received_several.Goals as goal
+
+pub returns-in-End : goal.returns-in-End
+returns-in-End c = rw c.in-End.is c.stopped.ensures
+
+pub returns-in-Short : goal.returns-in-Short
+returns-in-Short c = rw c.in-Short.is c.stopped-in-Short.ensures
+
+pub returns-in-Complete : goal.returns-in-Complete
+returns-in-Complete c = rw c.in-Complete.is c.handed.ensures
+
+pub returns-in-Refused : goal.returns-in-Refused
+returns-in-Refused c = rw (c.in-Refused.is, ← c.number.ensures) c.stopped-in-Refused.ensures

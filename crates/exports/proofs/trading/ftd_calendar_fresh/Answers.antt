@@ -1,0 +1,5 @@
+use borrow.Author.Rules.{rules}
+use Rattle.exports.proofs.trading.ftd_calendar_fresh.Goals as goal
+
+pub returns : goal.returns
+returns c = rw c.fresh.ensures at c.calendar_numbers.ensures
