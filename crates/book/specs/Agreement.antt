@@ -7,7 +7,6 @@ use Rattle.book.specs.declared.event.Event.TheVariants.{Nothing, Quotation, Matc
 use Rattle.book.specs.declared.calls.Book.{Book}
 use Rattle.book.specs.declared.calls.Outcome.{Outcome}
 use Rattle.book.specs.declared.calls.Outcome.TheVariants.{Done, Refused}
-use Rattle.book.specs.declared.calls.Step.{Step}
 use Rattle.book.specs.Levels.{same_price}
 use Rattle.book.specs.Quantity.{twos}
 use Rattle.book.specs.Sums.{mean_of}

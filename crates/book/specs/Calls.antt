@@ -1,5 +1,5 @@
 -- The book of a contract and its calls (request No. 2): Start, Take, Level and Mean.
-use Rattle.std.specs.Prelude.{ℕ, ◌-◌, ◌≤◌, ◌≡◌, List, [], ◌∷◌, map, Bool, true, false, cond, ◌&&◌, ◌||◌, length, replicate, ℤ, ltb, eqb}
+use Rattle.std.specs.Prelude.{ℕ, ◌-◌, ◌≤◌, ◌≡◌, List, [], ◌∷◌, map, Bool, true, false, cond, ◌&&◌, length, replicate, ℤ, ltb, eqb}
 use Rattle.ftd.specs.Fields.{fields_of, most_content}
 use Rattle.ftd.specs.Content.{content_check}
 use Rattle.ftd.specs.Table.{string_kind}

@@ -1,5 +1,5 @@
 -- The price levels of a side (request No. 2): at most 64, best first; the places behind them are not used.
-use Rattle.std.specs.Prelude.{ℕ, suc, List, [], ◌∷◌, ◌++◌, Bool, true, false, cond, not, ◌&&◌, get_or, take, drop, replicate, ℤ, pos, ltb}
+use Rattle.std.specs.Prelude.{ℕ, suc, List, [], ◌∷◌, ◌++◌, Bool, true, false, cond, ◌&&◌, get_or, take, drop, replicate, ℤ, pos, ltb}
 use Rattle.std.specs.Int.Signed.{lt_z}
 use Rattle.book.specs.declared.levels.Level.{Level}
 use Rattle.book.specs.declared.levels.Side.{Side}

@@ -1,6 +1,6 @@
 -- A run of fields (002, 5.2.5, 5.2.6): TAG=TEXT and SOH, one behind the other. The text of a data field (5.1.5) has the
 -- length that the field directly before it says, and may hold SOH; every other text goes up to the next SOH.
-use Rattle.std.specs.Prelude.{ℕ, zero, suc, ◌+◌, List, [], ◌∷◌, map, Bool, true, false, cond, ◌||◌, length, get_or, take, drop, ltb, eqb}
+use Rattle.std.specs.Prelude.{ℕ, zero, suc, ◌+◌, List, [], ◌∷◌, map, Bool, false, cond, ◌||◌, length, get_or, take, drop, ltb, eqb}
 use Rattle.ftd.specs.Bytes.{part}
 use Rattle.fix.specs.declared.text.Number.{Number}
 use Rattle.fix.specs.declared.text.Number.TheVariants.{NoNumber, Is}

@@ -1,5 +1,5 @@
 -- What one walk over the fields keeps, for the code: nothing that is promised of a frame names it.
-use Rattle.std.specs.Prelude.{ℕ, ◌≤◌, ◌≡◌, List, [], ◌∷◌, Bool, true, false, cond, ◌&&◌, ◌||◌, not, ltb, eqb}
+use Rattle.std.specs.Prelude.{ℕ, List, [], ◌∷◌, Bool, true, false, cond, ◌&&◌, ◌||◌, not, ltb, eqb}
 use Rattle.fix.specs.declared.text.Number.{Number}
 use Rattle.fix.specs.declared.text.Number.TheVariants.{NoNumber, Is}
 use Rattle.fix.specs.declared.kinds.Kind.{Kind}

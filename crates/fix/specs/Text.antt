@@ -1,5 +1,5 @@
 -- Texts of JR/T 0087 (002, 5.1): the separators, numbers of 1 to 9 digits, and the sum of bytes.
-use Rattle.std.specs.Prelude.{ℕ, zero, suc, ◌+◌, ◌*◌, ◌-◌, ◌/◌, ◌%◌, List, [], ◌∷◌, Bool, true, false, cond, ◌&&◌, length, get_or, take, drop, ltb, eqb}
+use Rattle.std.specs.Prelude.{ℕ, suc, ◌+◌, ◌*◌, ◌-◌, ◌/◌, ◌%◌, List, [], ◌∷◌, Bool, true, false, cond, ◌&&◌, length, get_or, drop, ltb, eqb}
 use Rattle.fix.specs.declared.text.Number.{Number}
 use Rattle.fix.specs.declared.text.Number.TheVariants.{NoNumber, Is}
 

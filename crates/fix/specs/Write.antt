@@ -1,5 +1,5 @@
 -- A frame written (02, No. 12): the type, and the fields as one run of bytes TAG=TEXT SOH.
-use Rattle.std.specs.Prelude.{ℕ, List, ◌++◌, Bool, cond, length, drop, ltb}
+use Rattle.std.specs.Prelude.{ℕ, List, ◌++◌, cond, length, drop, ltb}
 use Rattle.ftd.specs.declared.refusal.Refusal.TheVariants.{NotOneFrame, RequiredTag, TooSmall}
 use Rattle.ftd.specs.declared.write.Written.{Written}
 use Rattle.ftd.specs.declared.write.Written.TheVariants.{Bytes, Refused, NotPlain}

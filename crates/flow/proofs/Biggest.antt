@@ -12,7 +12,6 @@ use Rattle.ftd.specs.Bytes.{joined}
 use Rattle.ftd.specs.Tags.{tags_for, place_tag, extension_bytes}
 use Rattle.ftd.specs.Fields.{shaped, most_content}
 use Rattle.ftd.specs.Chain.{packets_of, pieces_of, overhead_of, overhead, most_packets, most_packet, most_output}
-use Rattle.ftd.specs.Chain.Laws.{piece_at_place}
 use Rattle.ftd.specs.Refusal.{number_of}
 use Rattle.ftd.specs.declared.chain.Message.{Message}
 use Rattle.ftd.specs.declared.refusal.Refusal.TheVariants.{TooSmall}

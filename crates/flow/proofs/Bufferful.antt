@@ -4,7 +4,6 @@ use mathlib.Core.Path.{◌≡◌, refl, ap, sym}
 use mathlib.Core.List.{List, []}
 use native.Mathlib.Omega.{arith}
 use lib.ListN.{length, take, drop, length-take}
-use lib.Dec.{T}
 use Rattle.ftd.specs.Bytes.{be16_of, be32_of}
 use Rattle.ftd.specs.Runs.{front, run_of}
 use Rattle.ftd.specs.Packet.{missing_of, said_length, not_one_packet, read_of, with_tags, dated_of, wrong_body}

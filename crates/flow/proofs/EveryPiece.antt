@@ -13,12 +13,12 @@ use Rattle.ftd.specs.Packet.{dated_of}
 use Rattle.ftd.specs.Bench.{all_same}
 use Rattle.ftd.specs.declared.tags.PacketPlace.TheVariants.{Nth}
 use Rattle.flow.specs.Ends.{most_pieces}
-use Rattle.flow.specs.Receiving.{misplaced, one_more}
+use Rattle.flow.specs.Receiving.{misplaced}
 use Rattle.flow.specs.World.{Event, Transmission, start, run}
 use Rattle.flow.specs.EveryPiece.{example_rows, Tagged, EveryPiece}
 use Rattle.flow.proofs.common.Extends.{place_kept}
 use Rattle.flow.proofs.common.Lists.{every-at}
-use Rattle.flow.proofs.packets.Genuine.{headed, BegunIn}
+use Rattle.flow.proofs.packets.Genuine.{BegunIn}
 use Rattle.flow.proofs.pieces.Takes.{PacketAt, take-place}
 use Rattle.flow.proofs.source.Sources.{run-source}
 use Rattle.flow.proofs.single.Pieces.{packet-tags, compared, unplaced, agreeing, repeated, as_before, counts, full}

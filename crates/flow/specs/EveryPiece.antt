@@ -1,6 +1,6 @@
 -- Every piece counted (02, No. 10): what the packets on the line bear, and how far pieces are counted. That the line may
 -- lose, repeat and reorder single packets is demand 3 (Agreement): its first half has no condition on what is received.
-use Rattle.std.specs.Prelude.{ℕ, ◌+◌, ◌<◌, ◌≤◌, ◌≡◌, ◌↔◌, List, [], ◌∷◌, ◌++◌, Bool, true, false, cond, not, ◌&&◌, length, take, replicate, T, ltb, eqb}
+use Rattle.std.specs.Prelude.{ℕ, ◌+◌, ◌<◌, ◌≤◌, ◌≡◌, ◌↔◌, List, [], ◌∷◌, ◌++◌, Bool, true, false, cond, not, ◌&&◌, length, take, T, ltb, eqb}
 use Rattle.std.proofs.Math.Option.{some}
 use Rattle.std.proofs.Math.ListN.{get_elem?}
 use Rattle.ftd.specs.Tags.{good_tags}

@@ -1,6 +1,6 @@
 -- A share of the log for each series (02, No. 11): what the rule of row 18 comes to, and what a reserve promises. The
 -- quotations are the request's words.
-use Rattle.std.specs.Prelude.{ℕ, ◌+◌, ◌≤◌, ◌<◌, ◌≡◌, ◌↔◌, List, [], ◌∷◌, ◌++◌, map, Bool, true, false, cond, not, ◌||◌, length, take, replicate, T, eqb}
+use Rattle.std.specs.Prelude.{ℕ, ◌+◌, ◌≤◌, ◌<◌, ◌≡◌, ◌↔◌, List, [], ◌∷◌, map, Bool, true, false, cond, not, ◌||◌, length, take, T, eqb}
 use Rattle.std.proofs.Math.Option.{some}
 use Rattle.std.proofs.Math.ListN.{get_elem?}
 use Rattle.ftd.specs.Fields.{most_content}

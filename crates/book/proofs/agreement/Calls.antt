@@ -3,7 +3,7 @@ use Prim.Native.Nat.{ℕ, zero, suc}
 use mathlib.Core.Path.{◌≡◌, refl, sym, ap, ◌∙◌}
 use mathlib.Core.List.{List, [], ◌∷◌, ◌++◌, append-nil, append_assoc}
 use mathlib.Core.Bool.{Bool, true, false, cond, ◌&&◌, false≢true}
-use lib.ListN.{length, replicate}
+use lib.ListN.{replicate}
 use lib.IntN.{ℤ, pos}
 use Rattle.ftd.specs.Fields.{most_content}
 use Rattle.ftd.specs.Content.{content_check}
@@ -19,9 +19,9 @@ use Rattle.book.specs.declared.calls.Outcome.{Outcome}
 use Rattle.book.specs.declared.calls.Outcome.TheVariants.{Done, Refused}
 use Rattle.book.specs.Levels.{empty, same_price, no_levels}
 use Rattle.book.specs.Sums.{beyond}
-use Rattle.book.specs.Calls.{is_code, started, start_of, done, refusing, applied, go_on, walked, events_of, or_kept}
-use Rattle.book.specs.Calls.{checked_then, take_of, fresh_book}
-use Rattle.book.specs.Agreement.{Call, start, take, World, world, list_after, made, after}
+use Rattle.book.specs.Calls.{is_code, started, start_of, applied, go_on, walked, events_of, or_kept}
+use Rattle.book.specs.Calls.{take_of}
+use Rattle.book.specs.Agreement.{Call, start, take, World, list_after, made, after}
 use Rattle.book.proofs.agreement.Ranked.{Behind, Ranked, look}
 use Rattle.book.proofs.agreement.Events.{SideHolds, Holds, applied-holds, not_done}
 

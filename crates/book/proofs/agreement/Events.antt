@@ -1,14 +1,13 @@
 -- What holds of a book against the events taken is kept by each event that is not refused. Assumes nothing.
-use Prim.Native.Nat.{ℕ, zero, suc, ◌+◌, ◌-◌, ◌<◌, ◌≤◌}
+use Prim.Native.Nat.{ℕ, zero, suc, ◌-◌, ◌<◌, ◌≤◌}
 use mathlib.Core.Path.{◌≡◌, refl, sym, ap, ◌∙◌}
 use mathlib.Core.List.{List, [], ◌∷◌, ◌++◌}
-use mathlib.Core.Bool.{Bool, true, false, cond, not, ◌&&◌, false≢true}
+use mathlib.Core.Bool.{Bool, true, false, cond, false≢true}
 use native.Mathlib.Omega.{arith}
 use native.Mathlib.Nat.{add-zero}
 use borrow.Author.Tests.{lt-ltb, le-ltb, ltb-true, ltb-false, ne_eqb, eqb-true, eqb-false}
-use lib.ListN.{length, get_or, take, drop, replicate}
-use lib.IntN.{ℤ, pos, negsuc, neg_ℤ, ◌+ℤ◌, ◌-ℤ◌, ◌*ℤ◌}
-use lib.Signed.{lt_z}
+use lib.ListN.{length, get_or}
+use lib.IntN.{ℤ, pos, negsuc, ◌+ℤ◌, ◌-ℤ◌, ◌*ℤ◌}
 use lib.Dec.{ltb, leb, eqb}
 use Rattle.ftd.specs.declared.refusal.Refusal.{Refusal}
 use Rattle.ftd.specs.declared.refusal.Refusal.TheVariants.{Quantity, Levels, Volume}
@@ -26,14 +25,14 @@ use Rattle.book.specs.declared.sums.Totals.TheVariants.{Over, Both}
 use Rattle.book.specs.declared.calls.Book.{Book}
 use Rattle.book.specs.declared.calls.Outcome.{Outcome}
 use Rattle.book.specs.declared.calls.Outcome.TheVariants.{Done, Refused}
-use Rattle.book.specs.Levels.{empty, used, same_price, place_in, held_by, quantity_at, put_at, placed, is_full}
+use Rattle.book.specs.Levels.{empty, used, same_price, quantity_at, put_at, placed, is_full}
 use Rattle.book.specs.Quantity.{twos, in_range, new_of, lacks}
 use Rattle.book.specs.Sums.{beyond, added_to, both_of, summed_with}
 use Rattle.book.specs.Calls.{one_more, quote_with, quote_on, quotation_on, lowered, match_check, match_with, match_summed}
 use Rattle.book.specs.Calls.{checked_match, match_on, applied}
 use Rattle.book.specs.Agreement.{same_side, changed, over, quantity_of, more_turnover, more_volume, turnover_of, volume_of}
 use Rattle.book.proofs.agreement.Prices.{same-equal}
-use Rattle.book.proofs.agreement.Ranked.{Ranked, look, place-look, last_free, Put, put-level}
+use Rattle.book.proofs.agreement.Ranked.{Ranked, look, place-look, last_free, put-level}
 
 pub not_done : (r : Refusal) → Refused r ≡ Done → ⊥
 not_done r e = let z : ◌≡◌ {A = ℕ} 0 1 = cc in omega arith

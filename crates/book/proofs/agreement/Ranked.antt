@@ -1,16 +1,16 @@
 -- The levels of a side in their order, and the quantity that they have at a price. Assumes nothing.
-use Prim.Native.Nat.{ℕ, zero, suc, ◌+◌, ◌<◌, ◌≤◌}
+use Prim.Native.Nat.{ℕ, suc}
 use mathlib.Core.Path.{◌≡◌, refl, sym, ap, ◌∙◌}
 use mathlib.Core.List.{List, [], ◌∷◌, ◌++◌}
 use mathlib.Core.Bool.{Bool, true, false, cond, not, ◌&&◌, false≢true}
 use native.Mathlib.Omega.{arith}
-use borrow.Author.Tests.{lt-ltb, le-ltb, ltb-true, ltb-false}
+use borrow.Author.Tests.{ltb-false}
 use lib.ListN.{length, get_or, take, drop}
 use lib.IntN.{ℤ, pos}
 use lib.Dec.{ltb}
 use Rattle.book.specs.Levels.{empty, used, better, same_price, place_in, held_by, pushed, put_first}
 use Rattle.book.specs.declared.levels.Level.{Level}
-use Rattle.book.proofs.agreement.Prices.{same-equal, same_self, better-self, better-trans, better-other, better-one}
+use Rattle.book.proofs.agreement.Prices.{same-equal, better-trans, better-other, better-one}
 
 -- ─── Order ───
 

@@ -2,22 +2,20 @@
 use Prim.Native.Nat.{ℕ, zero, suc, ◌<◌, ◌≤◌}
 use mathlib.Core.Path.{◌≡◌, refl, sym, ap, ◌∙◌}
 use mathlib.Core.List.{List, [], ◌∷◌}
-use mathlib.Core.Bool.{Bool, true, false, cond, ◌&&◌, false≢true}
+use mathlib.Core.Bool.{Bool, true, false, cond, false≢true}
 use native.Mathlib.Omega.{arith}
-use borrow.Author.Tests.{lt-ltb, ltb-true}
-use lib.ListN.{length, get_or}
+use borrow.Author.Tests.{ltb-true}
+use lib.ListN.{get_or}
 use lib.IntN.{ℤ, pos}
-use lib.Dec.{ltb}
 use lib.Signed.{lt_z}
 use Rattle.book.specs.declared.levels.Level.{Level}
 use Rattle.book.specs.declared.levels.Side.{Side}
-use Rattle.book.specs.declared.levels.Listed.{Listed}
 use Rattle.book.specs.declared.levels.Listed.TheVariants.{NoLevel, At}
 use Rattle.book.specs.declared.event.Event.{Event}
 use Rattle.book.specs.declared.calls.Book.{Book}
 use Rattle.book.specs.Levels.{empty, used, better, same_price, level_in}
 use Rattle.book.specs.Calls.{fresh_book, level_of, book_mean}
-use Rattle.book.specs.Agreement.{quantity_of, Call, world, after, Shows, BookAgreement}
+use Rattle.book.specs.Agreement.{quantity_of, world, after, Shows, BookAgreement}
 use Rattle.book.proofs.levels.Search.{level-behind}
 use Rattle.book.proofs.agreement.Prices.{same-equal, same_self, better-other}
 use Rattle.book.proofs.agreement.Ranked.{Behind, Ranked, look}

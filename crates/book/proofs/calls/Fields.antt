@@ -1,9 +1,9 @@
 -- The walk over a message's fields, one field a turn. Assumes nothing.
 use Prim.Native.Nat.{ℕ, ◌+◌, ◌-◌}
-use mathlib.Core.Path.{◌≡◌, refl, sym, ap, ◌∙◌}
+use mathlib.Core.Path.{◌≡◌, sym, ap, ◌∙◌}
 use mathlib.Core.List.{List, map}
 use native.Mathlib.Omega.{arith}
-use lib.ListN.{length, take, drop}
+use lib.ListN.{take, drop}
 use Rattle.ftd.specs.Runs.{front, run_of}
 use Rattle.ftd.specs.Fields.{field}
 use Rattle.ftd.specs.declared.refusal.Refusal.{Refusal}

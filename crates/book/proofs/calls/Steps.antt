@@ -1,13 +1,11 @@
 -- The steps of the calls, case by case. Assumes nothing.
 use Prim.Native.Nat.{ℕ, ◌-◌, ◌<◌, ◌≤◌}
-use mathlib.Core.Path.{◌≡◌, refl, sym, ap, ◌∙◌}
+use mathlib.Core.Path.{◌≡◌, sym, ◌∙◌}
 use mathlib.Core.List.{List, append-nil}
-use mathlib.Core.Bool.{Bool, true, false, cond}
-use native.Mathlib.Omega.{arith}
+use mathlib.Core.Bool.{Bool, true, false}
 use borrow.Author.Tests.{lt-ltb, le-ltb, eq-eqb, ne_eqb, ltb-false}
 use lib.ListN.{length, get_or, replicate}
 use lib.IntN.{ℤ, pos, ◌*ℤ◌}
-use lib.Dec.{eqb, ltb}
 use Rattle.ftd.specs.Bytes.{put}
 use Rattle.ftd.specs.Table.{string_kind}
 use Rattle.ftd.specs.Values.{is_value}
@@ -35,9 +33,9 @@ use Rattle.book.specs.declared.calls.Outcome.{Outcome}
 use Rattle.book.specs.declared.calls.Outcome.TheVariants.{Done, Refused}
 use Rattle.book.specs.declared.calls.Step.{Step}
 use Rattle.book.specs.declared.calls.SideStep.{SideStep}
-use Rattle.book.specs.Levels.{empty, held_by, place_in, quantity_at, is_full, placed, put_at, no_levels}
+use Rattle.book.specs.Levels.{empty, held_by, place_in, quantity_at, is_full, placed, put_at}
 use Rattle.book.specs.Quantity.{new_of, lacks}
-use Rattle.book.specs.Sums.{no_sums, added_to, summed_with}
+use Rattle.book.specs.Sums.{added_to, summed_with}
 use Rattle.book.specs.Calls.{one_more, quote_on, with_buying, with_selling, quotation_on, lowered, match_check, Takes}
 use Rattle.book.specs.Calls.{matched_with, match_summed, match_on, applied, walked, events_of, done, refusing, started}
 use Rattle.book.specs.Calls.{start_of, take_of}

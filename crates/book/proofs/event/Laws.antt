@@ -1,30 +1,27 @@
 -- What a field says to the book, whatever its values. Assumes nothing.
-use Prim.Native.Nat.{ℕ, zero, suc, ◌+◌, ◌-◌, ◌<◌, ◌≤◌}
+use Prim.Native.Nat.{ℕ, zero, suc, ◌+◌, ◌≤◌}
 use mathlib.Core.Path.{◌≡◌, refl, sym, ap, ◌∙◌}
 use mathlib.Core.List.{List, [], ◌∷◌, ◌++◌}
 use mathlib.Core.Bool.{Bool, true, false, cond, ◌&&◌, false≢true}
 use native.Mathlib.Omega.{arith}
 use borrow.Author.Tests.{eq-eqb, ne_eqb, eqb-true}
 use lib.ListN.{length, get_or, take, drop, length-append}
-use lib.Seq.{drop-append-add, take-append_seam, drop-append_seam}
+use lib.Seq.{drop-append-add, take-append_seam}
 use lib.Dec.{eqb}
 use Rattle.ftd.specs.Bytes.{part, be32_of, bytes32}
-use Rattle.ftd.specs.Fields.{field_with, fid_of, bytes_of}
+use Rattle.ftd.specs.Fields.{field_with, fid_of}
 use Rattle.ftd.specs.Table.{string_kind, int_kind, float_kind, bool_flag_kind, width_of}
-use Rattle.ftd.specs.Signed.{float_value}
 use Rattle.ftd.specs.Signed.Write.{float_bytes, float_fits}
 use Rattle.ftd.specs.Signed.Integer.{signed_units}
-use Rattle.ftd.specs.declared.signed.Signed.TheVariants.{Value}
 use Rattle.ftd.proofs.values.Laws.{value-laws}
 use Rattle.ftd.proofs.signed.Stores.{float-length}
 use Rattle.ftd.proofs.write.Puts.{length-field}
 use Rattle.ftd.proofs.fields.Laws.{fid-back, bytes_back}
 use Rattle.ftd.proofs.bytes.Numbers.{back32}
 use Rattle.book.specs.declared.levels.Level.{Level}
-use Rattle.book.specs.declared.event.Event.{Event}
 use Rattle.book.specs.declared.event.Event.TheVariants.{Nothing, Quotation, Match}
 use Rattle.book.specs.declared.event.Price.TheVariants.{Units}
-use Rattle.book.specs.Event.{quoted, matched, same_bytes, price_of, units_of, priced, faced, sided, quotation_in, match_in}
+use Rattle.book.specs.Event.{same_bytes, price_of, units_of, priced, faced, sided, quotation_in, match_in}
 use Rattle.book.specs.Event.{is_field, event_of}
 use Rattle.book.specs.Event.Laws.{quotation_with, match_with, EventLaws}
 use Rattle.book.proofs.event.Reading.{item-part, quotation-code, quotation-kind, quotation-side, quotation-price}

@@ -1,10 +1,10 @@
 -- A quantity after a quotation, case by case. Assumes nothing.
 use Prim.Native.Nat.{ℕ, suc, ◌+◌, ◌-◌, ◌<◌, ◌≤◌}
-use mathlib.Core.Path.{◌≡◌, refl, ap, ◌∙◌}
+use mathlib.Core.Path.{◌≡◌}
 use mathlib.Core.Bool.{Bool, true, false}
 use native.Mathlib.Omega.{arith}
 use borrow.Author.Tests.{lt-ltb, le-ltb, le-leb, lt-leb}
-use lib.IntN.{pos, negsuc, neg_ℤ}
+use lib.IntN.{pos, negsuc}
 use Rattle.book.specs.Quantity.{twos, new_of}
 use Rattle.book.specs.declared.quantity.Quantity.TheVariants.{Wrong, Is}
 

@@ -1,27 +1,24 @@
 -- The answer to an event is its verdict, where the book holds what was taken. Assumes nothing.
-use Prim.Native.Nat.{ℕ, zero, suc, ◌≤◌}
+use Prim.Native.Nat.{ℕ, ◌≤◌}
 use mathlib.Core.Path.{◌≡◌, refl, sym, ap, ◌∙◌}
 use mathlib.Core.List.{List, [], ◌∷◌, ◌++◌}
-use mathlib.Core.Bool.{Bool, true, false, cond, not, ◌&&◌, ◌||◌, false≢true}
+use mathlib.Core.Bool.{Bool, true, false, cond, not, ◌&&◌, ◌||◌}
 use native.Mathlib.Omega.{arith}
-use borrow.Author.Tests.{lt-ltb, le-ltb, ltb-true, ltb-false, leb-true, leb-false, le-leb, eqb-true, eqb-false}
+use borrow.Author.Tests.{lt-ltb, le-ltb, leb-true, leb-false, le-leb, eqb-true, eqb-false}
 use lib.ListN.{length}
 use lib.IntN.{ℤ, pos, negsuc, ◌+ℤ◌, ◌*ℤ◌}
 use lib.Signed.{lt_z}
 use lib.Dec.{ltb, leb, eqb}
-use Rattle.ftd.specs.declared.refusal.Refusal.{Refusal}
 use Rattle.ftd.specs.declared.refusal.Refusal.TheVariants.{Quantity, Levels, Volume}
 use Rattle.book.specs.declared.levels.Level.{Level}
 use Rattle.book.specs.declared.levels.Side.{Side}
 use Rattle.book.specs.declared.quantity.Quantity.TheVariants.{Wrong, Is}
 use Rattle.book.specs.declared.event.Event.{Event}
 use Rattle.book.specs.declared.event.Event.TheVariants.{Nothing, Quotation, Match}
-use Rattle.book.specs.declared.sums.Total.{Total}
 use Rattle.book.specs.declared.sums.Total.TheVariants.{Beyond, Within}
 use Rattle.book.specs.declared.calls.Book.{Book}
 use Rattle.book.specs.declared.calls.Step.{Step}
 use Rattle.book.specs.declared.calls.SideStep.{SideStep}
-use Rattle.book.specs.declared.calls.Outcome.{Outcome}
 use Rattle.book.specs.declared.calls.Outcome.TheVariants.{Done, Refused}
 use Rattle.book.specs.Levels.{is_full, quantity_at, placed}
 use Rattle.book.specs.Quantity.{twos, in_range, new_of, lacks}
@@ -29,9 +26,8 @@ use Rattle.book.specs.Sums.{beyond, added_to, both_of, summed_with}
 use Rattle.book.specs.Calls.{one_more, quote_with, quote_on, quotation_on, match_check, match_with, match_summed}
 use Rattle.book.specs.Calls.{checked_match, match_on, applied}
 use Rattle.book.specs.Agreement.{changed, quantity_of, more_turnover, more_volume, turnover_of, volume_of}
-use Rattle.book.specs.Verdict.{no_quantity, quotation_verdict, is_short, too_far, match_verdict, prices_of, verdict_of, Wide}
+use Rattle.book.specs.Verdict.{quotation_verdict, is_short, too_far, prices_of, verdict_of, Wide}
 use Rattle.book.proofs.agreement.Prices.{same_self}
-use Rattle.book.proofs.agreement.Ranked.{look}
 use Rattle.book.proofs.agreement.Events.{SideHolds, Holds, over-end, side-look, same-side}
 use Rattle.book.proofs.verdict.Full.{full_is}
 

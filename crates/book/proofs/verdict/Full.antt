@@ -1,20 +1,18 @@
 -- All 64 places of a side are used exactly if 64 prices are above zero. Assumes nothing.
 use Prim.Native.Nat.{ℕ, zero, suc, ◌<◌, ◌≤◌}
 use mathlib.Core.Path.{◌≡◌, refl, sym, ap, ◌∙◌}
-use mathlib.Core.Logic.{◌⊎◌, inl, inr}
+use mathlib.Core.Logic.{inl, inr}
 use mathlib.Core.List.{List, [], ◌∷◌}
 use mathlib.Core.Bool.{Bool, true, false, cond, ◌&&◌, false≢true}
 use native.Mathlib.Omega.{arith}
 use borrow.Author.Tests.{lt-ltb, ltb-true, leb-true, le-leb}
 use lib.ListN.{length, get_or}
-use lib.IntN.{ℤ, pos}
-use lib.Signed.{lt_z}
-use lib.Dec.{ltb, leb}
+use lib.IntN.{ℤ}
+use lib.Dec.{leb}
 use Rattle.book.specs.declared.levels.Level.{Level}
 use Rattle.book.specs.declared.levels.Side.{Side}
 use Rattle.book.specs.declared.event.Event.{Event}
 use Rattle.book.specs.Levels.{empty, used, better, same_price, is_full}
-use Rattle.book.specs.Agreement.{quantity_of}
 use Rattle.book.specs.Verdict.{above_zero, prices_of, Among, Differ, Exactly}
 use Rattle.book.proofs.agreement.Prices.{same-equal, same_self, better-self}
 use Rattle.book.proofs.agreement.Ranked.{Behind, Ranked, look}

@@ -1,6 +1,6 @@
 -- After every list of calls events and messages are answered by their verdicts. Assumes nothing.
 use Prim.Native.Nat.{ℕ}
-use mathlib.Core.Path.{◌≡◌, refl, sym, ap, ◌∙◌}
+use mathlib.Core.Path.{◌≡◌, refl, sym, ◌∙◌}
 use mathlib.Core.List.{List, [], ◌∷◌, ◌++◌}
 use Rattle.ftd.specs.Fields.{most_content}
 use Rattle.ftd.specs.Content.{content_check}
@@ -15,7 +15,7 @@ use Rattle.book.specs.declared.calls.Outcome.{Outcome}
 use Rattle.book.specs.declared.calls.Outcome.TheVariants.{Done, Refused}
 use Rattle.book.specs.Calls.{fresh_book, applied, go_on, walked, events_of, or_kept, checked_then, take_of}
 use Rattle.book.specs.Agreement.{Call, world, after}
-use Rattle.book.specs.Verdict.{verdict_of, or_else, verdicts_of, after_check, BookRefusals}
+use Rattle.book.specs.Verdict.{or_else, verdicts_of, after_check, BookRefusals}
 use Rattle.book.proofs.agreement.Events.{Holds, applied-holds}
 use Rattle.book.proofs.agreement.Calls.{started-holds, after_holds}
 use Rattle.book.proofs.verdict.Once.{prices-exactly}

@@ -2,15 +2,14 @@
 use Prim.Native.Nat.{ℕ, zero, suc, ◌+◌, ◌-◌, ◌*◌, ◌/◌, ◌%◌, ◌<◌, ◌≤◌}
 use native.Mathlib.Omega.{arith}
 use native.Mathlib.Nat.{mul-mod_right}
-use mathlib.Core.Path.{◌≡◌, refl, sym, ap, ◌∙◌}
+use mathlib.Core.Path.{◌≡◌, refl}
 use mathlib.Core.List.{List, [], ◌∷◌}
-use mathlib.Core.Bool.{Bool, true, false, cond, not, ◌&&◌, ◌||◌, false≢true}
+use mathlib.Core.Bool.{Bool, true, false, cond, ◌&&◌, false≢true}
 use borrow.Author.Tests.{lt-ltb, le-ltb, eqb-true, eqb-false}
 use lib.ListN.{length, get_or, take}
-use lib.Dec.{eqb, ltb, leb}
+use lib.Dec.{eqb}
 use Rattle.ftd.specs.Gregorian.{leap_year, months_by, months}
-use Rattle.calendar.specs.declared.days.CivilDate.{CivilDate}
-use Rattle.calendar.specs.Days.{date, total, year_days, month_in, year_in, years_days, date_of}
+use Rattle.calendar.specs.Days.{date, total, year_days, month_in, year_in, years_days}
 use Rattle.calendar.specs.Days.Helpers.{before_year, before_month}
 
 -- ─── Tests of all numbers below a number ───

@@ -1,13 +1,12 @@
 -- The year and the month that the code finds, and the date made of them. Assumes nothing.
-use Prim.Native.Nat.{ℕ, zero, suc, ◌+◌, ◌-◌, ◌*◌, ◌/◌, ◌<◌, ◌≤◌}
+use Prim.Native.Nat.{ℕ, suc, ◌+◌, ◌-◌, ◌*◌, ◌/◌, ◌<◌, ◌≤◌}
 use native.Mathlib.Omega.{arith}
 use mathlib.Core.Path.{◌≡◌, refl, sym, ap, ◌∙◌}
 use mathlib.Core.Bool.{Bool, true, false, cond}
 use borrow.Author.Tests.{lt-ltb, le-ltb, le-leb, lt-leb, leb-true, leb-false, ltb-true, ltb-false}
-use lib.ListN.{length, get_or, take}
+use lib.ListN.{get_or, take}
 use lib.Dec.{ltb, leb}
 use Rattle.ftd.specs.Gregorian.{leap_year, months_by, months}
-use Rattle.calendar.specs.declared.days.CivilDate.{CivilDate}
 use Rattle.calendar.specs.Days.{date, total, year_days, month_in, year_in, years_days, date_of}
 use Rattle.calendar.specs.Days.Helpers.{before_year, before_month, lacking_at}
 use Rattle.calendar.proofs.days.Counting.{total-more, month-at, before-month, year-on, years-on, years-many}

@@ -1,20 +1,20 @@
 -- What holds of days and dates, for every day. Assumes nothing.
-use Prim.Native.Nat.{ℕ, zero, suc, ◌+◌, ◌-◌, ◌*◌, ◌<◌, ◌≤◌}
+use Prim.Native.Nat.{ℕ, zero, suc, ◌+◌, ◌-◌, ◌<◌, ◌≤◌}
 use native.Mathlib.Omega.{arith}
 use mathlib.Core.Path.{◌≡◌, refl, sym, ap, ◌∙◌}
 use mathlib.Core.List.{List, [], ◌∷◌}
-use mathlib.Core.Bool.{Bool, true, false, cond}
+use mathlib.Core.Bool.{Bool, true, false}
 use borrow.Author.Tests.{leb-true, leb-false}
-use lib.ListN.{length, get_or, take}
+use lib.ListN.{get_or, take}
 use lib.Dec.{leb}
 use Rattle.ftd.specs.Gregorian.{leap_year, months_by, months, month_days}
 use Rattle.ftd.proofs.gregorian.Laws.{month-most}
 use Rattle.calendar.specs.declared.days.CivilDate.{CivilDate}
-use Rattle.calendar.specs.Days.{date, total, year_days, month_in, year_in, years_days, date_of, day_of, date_number}
+use Rattle.calendar.specs.Days.{date, total, year_days, years_days, date_of, day_of, date_number}
 use Rattle.calendar.specs.Days.Laws.{Civil, DayLaws}
 use Rattle.calendar.specs.Days.Helpers.{before_year, before_month}
 use Rattle.calendar.proofs.days.Counting.{month-at, years-on, years-many, year-at}
-use Rattle.calendar.proofs.days.Found.{Year, Month, Found, found, month-made, date-made, year-start}
+use Rattle.calendar.proofs.days.Found.{found, month-made, date-made, year-start}
 
 -- The parts of a day's date.
 record Dated (n : ℕ) : Type 0 where

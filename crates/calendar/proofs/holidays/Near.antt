@@ -5,7 +5,7 @@ use native.Mathlib.Omega.{arith}
 use native.Mathlib.Nat.{mod-mod, suc-mod}
 use mathlib.Core.Path.{◌≡◌, refl, sym, ap, ◌∙◌}
 use mathlib.Core.List.{List}
-use mathlib.Core.Bool.{Bool, true, false, cond, not, ◌&&◌, ◌||◌, false≢true}
+use mathlib.Core.Bool.{Bool, true, false, cond, not, ◌||◌, false≢true}
 use borrow.Author.Tests.{eqb-true, eqb-false, ne_eqb, leb-true, ltb-true, ltb-false}
 use lib.ListN.{get_or}
 use lib.Dec.{eqb, ltb, leb}
@@ -13,9 +13,8 @@ use Rattle.calendar.specs.Days.{date_number}
 use Rattle.calendar.specs.Calendar.{some, weekday, stands_at, is_holiday, is_trading, trading_from, next_trading}
 use Rattle.calendar.specs.Calendar.{furthest}
 use Rattle.calendar.specs.Calendar.Laws.{Next}
-use Rattle.calendar.proofs.days.Counting.{below, below_at}
+use Rattle.calendar.proofs.days.Counting.{below_at}
 use Rattle.calendar.proofs.days.Laws.{day-laws}
-use Rattle.calendar.proofs.Some.{or-neither}
 
 -- ─── Counting days with a property ───
 

@@ -1,10 +1,10 @@
 -- Of sessions that Set takes at most one has a second. Assumes nothing.
-use Prim.Native.Nat.{ℕ, ◌+◌, ◌*◌, ◌/◌, ◌%◌, ◌<◌, ◌≤◌}
+use Prim.Native.Nat.{ℕ, ◌/◌, ◌%◌, ◌<◌}
 use native.Mathlib.Omega.{arith}
 use mathlib.Core.Path.{◌≡◌, refl, sym, ◌∙◌}
 use mathlib.Core.List.{List}
-use mathlib.Core.Bool.{Bool, true, false, not, ◌&&◌, ◌||◌, false≢true}
-use borrow.Author.Tests.{lt-ltb, leb-true, leb-false, ltb-true, ltb-false, eqb-true, eqb-false}
+use mathlib.Core.Bool.{Bool, true, false, not, ◌&&◌, false≢true}
+use borrow.Author.Tests.{lt-ltb, leb-true, ltb-true, ltb-false}
 use lib.ListN.{length}
 use lib.Dec.{eqb, ltb, leb}
 use Rattle.calendar.specs.Calendar.{some, wrong_session, overlap, overlaps_before, wrong_sessions, holds}

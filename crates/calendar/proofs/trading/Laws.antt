@@ -1,10 +1,10 @@
 -- The calendar: what holds of it, and its calls test by test. Assumes nothing.
-use Prim.Native.Nat.{ℕ, zero, suc, ◌+◌, ◌-◌, ◌*◌, ◌/◌, ◌%◌, ◌<◌, ◌≤◌}
+use Prim.Native.Nat.{ℕ, zero, suc, ◌+◌, ◌-◌, ◌/◌, ◌%◌, ◌≤◌}
 use native.Mathlib.Omega.{arith}
 use native.Mathlib.Nat.{sub-zero, suc-sub-suc}
-use mathlib.Core.Path.{◌≡◌, refl, sym, ap, ◌∙◌}
+use mathlib.Core.Path.{◌≡◌, refl, sym, ◌∙◌}
 use mathlib.Core.List.{List, ◌++◌}
-use mathlib.Core.Bool.{Bool, true, false, cond, not, ◌&&◌, false≢true}
+use mathlib.Core.Bool.{Bool, true, false, not, ◌&&◌, false≢true}
 use borrow.Author.Tests.{ltb-false, eqb-true, eqb-false, not-false}
 use lib.ListN.{length, drop, replicate}
 use lib.Dec.{ltb, eqb}
@@ -13,7 +13,7 @@ use Rattle.calendar.specs.declared.trading.Calendar.{Calendar}
 use Rattle.calendar.specs.declared.trading.SetAnswer.TheVariants.{Done, Refused}
 use Rattle.calendar.specs.declared.trading.TradeTime.TheVariants.{Outside, Inside}
 use Rattle.calendar.specs.Days.{date_number}
-use Rattle.calendar.specs.Calendar.{wrong_sessions, wrong_holidays, padded, step, set_of, is_trading, next_trading}
+use Rattle.calendar.specs.Calendar.{wrong_sessions, wrong_holidays, step, set_of, is_trading, next_trading}
 use Rattle.calendar.specs.Calendar.{china_day, china_second, in_session, trade_day, ask_of}
 use Rattle.calendar.specs.Calendar.Laws.{CalendarLaws}
 use Rattle.calendar.proofs.Some.{or-neither}

@@ -1,25 +1,22 @@
 -- What Set takes and refuses, by the numbers given. Assumes nothing.
-use Prim.Native.Nat.{ℕ, zero, suc, ◌+◌, ◌*◌, ◌/◌, ◌%◌, ◌<◌, ◌≤◌}
+use Prim.Native.Nat.{ℕ, ◌/◌, ◌%◌, ◌<◌}
 use native.Mathlib.Omega.{arith}
-use mathlib.Core.Path.{◌≡◌, refl, sym, ap, ◌∙◌}
+use mathlib.Core.Path.{◌≡◌, refl, sym, ◌∙◌}
 use mathlib.Core.Logic.{◌↔◌}
 use mathlib.Core.List.{List}
-use mathlib.Core.Bool.{Bool, true, false, cond, not, ◌&&◌, ◌||◌, false≢true}
+use mathlib.Core.Bool.{Bool, true, false, cond, not, ◌&&◌, false≢true}
 use borrow.Author.Tests.{le-ltb, lt-leb, eq-eqb, ltb-true, ltb-false, leb-true, leb-false, eqb-true, not-false}
-use lib.ListN.{length, get_or}
+use lib.ListN.{length}
 use lib.Dec.{leb, ltb, eqb}
-use Rattle.ftd.specs.Gregorian.{real_date}
-use Rattle.ftd.specs.declared.refusal.Refusal.{Refusal}
 use Rattle.ftd.specs.declared.refusal.Refusal.TheVariants.{Sessions, Holiday}
 use Rattle.calendar.specs.declared.trading.Calendar.{Calendar}
 use Rattle.calendar.specs.declared.trading.SetAnswer.{SetAnswer}
 use Rattle.calendar.specs.declared.trading.SetAnswer.TheVariants.{Done, Refused}
 use Rattle.calendar.specs.Calendar.{some, first_of, last_of, wrong_session, overlap, overlaps_before, wrong_sessions}
 use Rattle.calendar.specs.Calendar.{real_number, unreal, wrong_holidays, padded, step, set_of}
-use Rattle.calendar.specs.Calendar.Times.{Has}
 use Rattle.calendar.specs.Calendar.Taken.{Sound, Dated, SetLaws}
 use Rattle.calendar.proofs.Some.{or-neither, some-found, none-at}
-use Rattle.calendar.proofs.sessions.One.{one-alone, both}
+use Rattle.calendar.proofs.sessions.One.{one-alone}
 use Rattle.calendar.proofs.trading.Times.{says-has}
 
 none-some : (p : ℕ → Bool) (n : ℕ) → ((i : ℕ) → i < n → p i ≡ false) → some n p ≡ false

@@ -4,16 +4,15 @@ use native.Mathlib.Omega.{arith}
 use mathlib.Core.Path.{◌≡◌, refl, sym, ap, ◌∙◌}
 use mathlib.Core.List.{List, [], ◌∷◌, ◌++◌}
 use mathlib.Core.Bool.{Bool, true, false, cond, not, ◌&&◌, ◌||◌, false≢true}
-use borrow.Author.Tests.{lt-ltb, le-leb, eq-eqb, ne_eqb, leb-true, ltb-true, ltb-false, eqb-true, eqb-false, not-false}
+use borrow.Author.Tests.{lt-ltb, le-leb, eq-eqb, ne_eqb, leb-true, ltb-true, ltb-false, eqb-true, not-false}
 use lib.ListN.{length, get_or, replicate, get_or-eq_default}
 use lib.Dec.{leb, ltb, eqb}
-use Rattle.ftd.specs.declared.refusal.Refusal.{Refusal}
 use Rattle.ftd.specs.declared.refusal.Refusal.TheVariants.{Sessions, Holiday}
 use Rattle.calendar.specs.declared.trading.Calendar.{Calendar}
 use Rattle.calendar.specs.declared.trading.SetAnswer.TheVariants.{Done, Refused}
 use Rattle.calendar.specs.declared.trading.SetStep.{SetStep}
 use Rattle.calendar.specs.declared.trading.TradeTime.TheVariants.{Outside, Inside}
-use Rattle.calendar.specs.Days.{date_number, date_of}
+use Rattle.calendar.specs.Days.{date_number}
 use Rattle.calendar.specs.Calendar.{some, holds, first_of, last_of, is_late, counts, in_session, weekday, stands_at}
 use Rattle.calendar.specs.Calendar.{is_holiday, is_trading, next_trading, china_day, china_second, trade_day, ask_of}
 use Rattle.calendar.specs.Calendar.{wrong_sessions, wrong_holidays, padded, step, set_of, mark_date}

@@ -1,5 +1,5 @@
 -- What holds of days and dates.
-use Rattle.std.specs.Prelude.{ℕ, suc, ◌≤◌, ◌≡◌}
+use Rattle.std.specs.Prelude.{ℕ, ◌≤◌, ◌≡◌}
 use Rattle.ftd.specs.Gregorian.{month_days}
 use Rattle.calendar.specs.declared.days.CivilDate.{CivilDate}
 use Rattle.calendar.specs.Days.{date, date_of, day_of, date_number}

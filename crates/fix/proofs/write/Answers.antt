@@ -1,17 +1,16 @@
 -- What the writer answers, by what its tests gave, over plain variables. Assumes nothing.
 use Prim.Native.Nat.{ℕ, ◌+◌, ◌/◌, ◌<◌, ◌≤◌}
 use mathlib.Core.Path.{◌≡◌, refl, sym, ap, ◌∙◌}
-use mathlib.Core.List.{List, [], ◌∷◌, ◌++◌}
-use mathlib.Core.Bool.{Bool, true, false, cond, ◌&&◌, not}
+use mathlib.Core.List.{List, [], ◌∷◌}
+use mathlib.Core.Bool.{Bool, true, false, cond}
 use native.Mathlib.Omega.{arith}
 use borrow.Author.Tests.{lt-ltb, le-ltb}
-use lib.ListN.{length, drop, length-append}
+use lib.ListN.{length, length-append}
 use lib.Dec.{ltb}
 use Rattle.ftd.specs.Bytes.{put}
 use Rattle.ftd.proofs.bytes.Put.{put-zero}
 use Rattle.ftd.specs.declared.refusal.Refusal.{Refusal}
 use Rattle.ftd.specs.declared.refusal.Refusal.TheVariants.{NotOneFrame, RequiredTag, TooSmall}
-use Rattle.ftd.specs.declared.write.Written.{Written}
 use Rattle.ftd.specs.declared.write.Written.TheVariants.{Bytes, Refused}
 use Rattle.fix.specs.declared.kinds.Kind.{Kind}
 use Rattle.fix.specs.declared.tally.Walked.{Walked}
@@ -19,9 +18,9 @@ use Rattle.fix.specs.Text.{letter, length_text, sum_of}
 use Rattle.fix.specs.Kinds.{kind_of}
 use Rattle.fix.specs.Fields.{fields_of, is_whole}
 use Rattle.fix.specs.Check.{wrong_numbers, wrong_tags}
-use Rattle.fix.specs.Frame.{most_frame, is_name, is_framed, body_length, summed, trailer, frame_bytes}
+use Rattle.fix.specs.Frame.{is_name, is_framed, body_length, summed, trailer, frame_bytes}
 use Rattle.fix.specs.Tally.{no_tally, tallied_from, walked_of, numbers_wrong, tags_wrong}
-use Rattle.fix.specs.Write.{write_answer, output_of, write_output}
+use Rattle.fix.specs.Write.{write_answer, write_output}
 use Rattle.fix.proofs.frame.Puts.{length-summed, length-trailer}
 use Rattle.fix.proofs.tally.Links.{links-numbers, links-tags}
 

@@ -1,13 +1,13 @@
 -- What a return brings back of a series, by its place. Assumes nothing.
 use Prim.Native.Nat.{ℕ}
-use mathlib.Core.Path.{◌≡◌, refl}
+use mathlib.Core.Path.{◌≡◌}
 use lib.ListN.{get_or}
 use Rattle.flow.specs.declared.series.SeriesPlace.{SeriesPlace}
 use Rattle.flow.specs.declared.series.SeriesPlace.TheVariants.{Unknown, At}
 use Rattle.ftd.specs.declared.tags.TradeDate.TheVariants.{None}
 use Rattle.flow.specs.declared.receiver.KeptSeries.{KeptSeries}
 use Rattle.flow.specs.declared.receiver.Receiver.{Receiver}
-use Rattle.flow.specs.Ends.{new_kept, is_open}
+use Rattle.flow.specs.Ends.{new_kept}
 use Rattle.flow.specs.Helpers.{FindsKept}
 use Rattle.flow.specs.CheckpointHelpers.{brought_from}
 use Rattle.flow.proofs.receiver.Lookups.{found_at, kept_at}

@@ -1,9 +1,9 @@
 -- An array of n places filled one by one with the places of a list, or of another one through a function. Assumes
 -- nothing.
-use Prim.Native.Nat.{ℕ, zero, suc, ◌+◌, ◌<◌, ◌≤◌}
+use Prim.Native.Nat.{ℕ, suc, ◌+◌, ◌<◌, ◌≤◌}
 use native.Mathlib.Omega.{arith}
-use mathlib.Core.Path.{◌≡◌, refl, sym, ap, ◌∙◌}
-use mathlib.Core.List.{List, [], ◌∷◌, ◌++◌, map}
+use mathlib.Core.Path.{◌≡◌, refl, sym, ◌∙◌}
+use mathlib.Core.List.{List, map}
 use lib.ListN.{length, length-map, length-set, get_or, take, set, get_or-map}
 use lib.Seq.{take_all, take-suc, take-suc-set}
 

@@ -3,7 +3,7 @@ use Prim.Native.Nat.{ℕ, zero, suc, ◌≤◌}
 use mathlib.Core.Path.{◌≡◌, refl, ap, ◌∙◌}
 use mathlib.Core.List.{List, [], ◌∷◌, ◌++◌, append_assoc}
 use lib.Seq.{drop-append_seam, drop-length, drop-append-le}
-use mathlib.Core.Option.{Option, some, none-ne-some}
+use mathlib.Core.Option.{some, none-ne-some}
 use lib.ListN.{get_elem?, length, drop, length-append}
 use Rattle.flow.specs.World.{InSeries, in_series}
 use Rattle.flow.specs.Agreement.{since, in_that}

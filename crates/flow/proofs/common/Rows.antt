@@ -1,6 +1,6 @@
 -- How a claim goes along a row of tests, and along what is found at a place. Assumes nothing.
 use mathlib.Core.Path.{◌≡◌, refl}
-use mathlib.Core.Bool.{Bool, true, false, not}
+use mathlib.Core.Bool.{Bool, true, false}
 use Rattle.flow.specs.Ends.{◌when◌else◌}
 use mathlib.Core.Option.{Option, none, some}
 use Rattle.flow.specs.World.{World, with}

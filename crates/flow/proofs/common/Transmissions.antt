@@ -1,19 +1,19 @@
 -- The transmissions on the line as a list: at most one of a series is unfinished, a packet more goes to it, and all
 -- others stay as they are. Assumes nothing.
-use Prim.Native.Nat.{ℕ, zero, suc, ◌+◌, ◌≤◌}
+use Prim.Native.Nat.{ℕ, zero, suc, ◌≤◌}
 use native.Mathlib.Omega.{arith}
 use mathlib.Core.Path.{◌≡◌, refl, sym, ap, ◌∙◌}
 use mathlib.Core.List.{List, [], ◌∷◌, ◌++◌, map}
 use mathlib.Core.Bool.{Bool, true, false, cond, ◌&&◌}
 use mathlib.Core.Option.{some}
-use borrow.Author.Tests.{eqb-true, eqb-false, ne_eqb, eq-eqb}
+use borrow.Author.Tests.{eqb-true, ne_eqb, eq-eqb}
 use lib.ListN.{length, get_elem?}
 use lib.Dec.{eqb}
-use Rattle.flow.specs.World.{Standing, going, whole, broken, is_going, Transmission, transmission, goes_on, broken_off}
+use Rattle.flow.specs.World.{going, whole, is_going, Transmission, transmission, goes_on, broken_off}
 use Rattle.flow.specs.World.{ended_in, ended_all, so_far, standing, with_packet}
 use Rattle.flow.proofs.common.Bools.{and_both, clash}
 use Rattle.flow.proofs.common.Lists.{Every}
-use Rattle.flow.proofs.common.Extends.{Extends, extends-same, extends-append, none-some, place-append}
+use Rattle.flow.proofs.common.Extends.{Extends, extends-same, extends-append, none-some}
 
 -- How many of a series are unfinished.
 abbrev pub goings : ℕ → List Transmission → ℕ

@@ -1,16 +1,11 @@
 -- What a writer of ftd answers and leaves, where nothing is wrong with the values. Assumes nothing.
 use Prim.Native.Nat.{ℕ}
-use native.Mathlib.Omega.{arith}
 use mathlib.Core.Path.{◌≡◌, refl}
-use mathlib.Core.Logic.{inl, inr}
-use mathlib.Core.List.{List, [], ◌∷◌}
+use mathlib.Core.List.{List}
 use mathlib.Core.Bool.{cond}
-use types.Run.{OneOf}
-use denote.Enum.Declared.{tag_of}
 use lib.ListN.{length}
 use lib.Dec.{ltb}
 use Rattle.ftd.specs.Write.{Verdict, fine, written_answer, written_output}
-use Rattle.ftd.specs.contracts.write.Written.{the_type}
 use Rattle.ftd.specs.declared.refusal.Refusal.TheVariants.{TooSmall}
 use Rattle.ftd.specs.declared.write.Written.{Written}
 use Rattle.ftd.specs.declared.write.Written.TheVariants.{Bytes}

@@ -1,36 +1,29 @@
 -- Receive of any single packet of any transmission keeps what holds of the receiving end's side. Assumes nothing.
-use Prim.Native.Nat.{ℕ, zero, suc, ◌+◌, ◌<◌}
-use native.Mathlib.Omega.{arith}
-use mathlib.Core.Path.{◌≡◌, refl, sym, ap, ◌∙◌}
+use Prim.Native.Nat.{ℕ, suc}
+use mathlib.Core.Path.{◌≡◌, refl, sym, ◌∙◌}
 use mathlib.Core.List.{List, [], ◌∷◌, ◌++◌, map}
 use mathlib.Core.Bool.{Bool, true, false}
 use mathlib.Core.Option.{some}
 use borrow.Author.Tests.{eqb-true, eqb-false}
-use lib.ListN.{length, get_elem?}
+use lib.ListN.{get_elem?}
 use lib.Dec.{eqb}
 use Rattle.ftd.specs.Packet.{dated_of}
-use Rattle.ftd.specs.Chain.{packets_of, pieces_of}
-use Rattle.ftd.specs.Fields.{shaped, most_content}
 use Rattle.ftd.specs.declared.tags.TradeDate.{TradeDate}
 use Rattle.ftd.specs.declared.tags.TradeDate.TheVariants.{None, At}
 use Rattle.flow.specs.declared.receiver.Receiver.{Receiver}
 use Rattle.flow.specs.declared.receiver.Received.{Received}
-use Rattle.flow.specs.Ends.{Wrote, day_of, live_of}
+use Rattle.flow.specs.Ends.{Wrote, day_of}
 use Rattle.flow.specs.Answers.{Message, received_said, message_in, report_in}
 use Rattle.flow.specs.Receiving.{receive_of}
-use Rattle.flow.specs.World.{came, borne, Dated, dated, latest_of, other, series_in, whole, Transmission}
-use Rattle.flow.specs.World.{ReceiverSide, continues, after_receive}
+use Rattle.flow.specs.World.{borne, Dated, dated, latest_of, series_in, Transmission}
+use Rattle.flow.specs.World.{ReceiverSide, after_receive}
 use Rattle.flow.proofs.steps.Moves.{Moves}
 use Rattle.flow.proofs.pieces.Outcomes.{Delivered, keeps, reports, hands}
 use Rattle.flow.proofs.right.End.{EndRight, receive-delivers, receive-right}
-use Rattle.flow.proofs.pieces.Completes.{Wants}
-use Rattle.flow.proofs.packets.Genuine.{headed, Begun}
-use Rattle.flow.proofs.pieces.Takes.{PacketAt, Before, take_within, take-series, take-date, take-holds}
-use Rattle.flow.proofs.pieces.Takes.{take-opens, take-delivers, take-completes}
+use Rattle.flow.proofs.packets.Genuine.{Begun}
+use Rattle.flow.proofs.pieces.Takes.{PacketAt, take-series, take-date}
 use Rattle.flow.proofs.first.Safe.{Safe}
-use Rattle.flow.proofs.common.Extends.{Extends, same_some, place_kept}
-use Rattle.flow.proofs.pieces.Pieces.{first_pieces}
-use Rattle.flow.proofs.pieces.Chained.{Chain-open}
+use Rattle.flow.proofs.common.Extends.{place_kept}
 use Rattle.flow.proofs.steps.Turns.{receive-turn, turn-eight}
 use Rattle.flow.specs.Agreement.{EachDated}
 use Rattle.flow.proofs.common.Histories.{each_append, each_at}

@@ -1,6 +1,6 @@
 -- A login packet that Ask wrote, as Login reads it: of the row of tests only those of the answer's content, the series,
 -- the trade dates, the output and the start are left. Assumes nothing.
-use Prim.Native.Nat.{ℕ, ◌+◌, ◌≤◌}
+use Prim.Native.Nat.{ℕ, ◌≤◌}
 use native.Mathlib.Omega.{arith}
 use mathlib.Core.Path.{◌≡◌, refl, ◌∙◌}
 use mathlib.Core.List.{List, [], ◌∷◌, ◌++◌}

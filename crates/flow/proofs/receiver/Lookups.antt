@@ -18,7 +18,6 @@ use Rattle.flow.specs.declared.receiver.LiveSeries.{LiveSeries}
 use Rattle.flow.specs.declared.receiver.Receiver.{Receiver}
 use Rattle.flow.specs.Ends.{index_of, new_kept, no_live, kept_series, kept_of, live_of, with_series, part_start, all_parts}
 use Rattle.flow.specs.Helpers.{FindsKept, series_at}
-use Rattle.flow.proofs.series.Places.{unmapped}
 use Rattle.flow.proofs.ends.ReceiverLookups.{Eight}
 
 -- The number of a series kept.

@@ -1,17 +1,16 @@
 -- The names in use are the names that were kept: so which refusal keeping and return give, exactly if. Assumes nothing.
-use Prim.Native.Nat.{ℕ, zero, suc, ◌+◌, ◌<◌, ◌≤◌}
+use Prim.Native.Nat.{ℕ, zero, suc, ◌<◌, ◌≤◌}
 use native.Mathlib.Omega.{arith}
 use mathlib.Core.Path.{◌≡◌, refl, sym, ap, subst, ◌∙◌}
 use mathlib.Core.Logic.{◌⊎◌, inl, inr, ◌↔◌}
 use mathlib.Core.List.{List, [], ◌∷◌, ◌++◌, map}
-use mathlib.Core.Bool.{Bool, true, false, cond, not, ◌&&◌, ◌||◌}
+use mathlib.Core.Bool.{Bool, true, false, not, ◌&&◌, ◌||◌}
 use mathlib.Core.Option.{some, none-ne-some}
 use borrow.Author.Tests.{eqb-true, eqb-false, eq-eqb, ne_eqb, ltb-false, le-ltb, leb-true, leb-false, le-leb, not-true}
 use borrow.Author.Tests.{not-false}
 use lib.ListN.{length, get_elem?, length-map, replicate}
 use lib.Dec.{ltb, leb, eqb}
 use Rattle.ftd.specs.Refusal.{number_of}
-use Rattle.ftd.specs.declared.refusal.Refusal.{Refusal}
 use Rattle.ftd.specs.declared.refusal.Refusal.TheVariants.{WrongName, FifthName, UnknownName}
 use Rattle.flow.specs.declared.receiver.Kept.{Kept}
 use Rattle.flow.specs.declared.receiver.Receiver.{Receiver}

@@ -1,6 +1,6 @@
 -- The second half of demand 3 with named places: behind the last return the login packets asked for are timed again; and
 -- while none is taken, keeping and refused returns are calls that do nothing. Assumes nothing.
-use Prim.Native.Nat.{ℕ, ◌+◌, ◌≤◌}
+use Prim.Native.Nat.{ℕ, ◌≤◌}
 use native.Mathlib.Omega.{arith}
 use mathlib.Core.Path.{◌≡◌, refl, sym, ap, ◌∙◌}
 use mathlib.Core.List.{List, [], ◌∷◌, ◌++◌, map}

@@ -8,7 +8,6 @@ use mathlib.Core.List.{List, ◌++◌}
 use mathlib.Core.Bool.{true, false}
 use mathlib.Core.Option.{some}
 use lib.ListN.{length, get_elem?}
-use Rattle.ftd.specs.Bytes.{part}
 use Rattle.ftd.specs.Fields.{shaped, most_content}
 use Rattle.ftd.proofs.chain.Pieces.{shaped-facts}
 use Rattle.ftd.specs.declared.tags.TradeDate.{TradeDate}
@@ -16,14 +15,14 @@ use Rattle.ftd.specs.declared.tags.TradeDate.TheVariants.{At}
 use Rattle.flow.specs.declared.receiver.KeptSeries.{KeptSeries}
 use Rattle.flow.specs.declared.receiver.LiveSeries.{LiveSeries}
 use Rattle.flow.specs.declared.receiver.Receiver.{Receiver}
-use Rattle.flow.specs.Ends.{kept_of, live_of, part_start}
+use Rattle.flow.specs.Ends.{kept_of, live_of}
 use Rattle.flow.specs.Answers.{Message}
 use Rattle.flow.specs.World.{Dated}
 use Rattle.flow.specs.Agreement.{of}
 use Rattle.flow.proofs.common.Bools.{clash}
 use Rattle.flow.proofs.common.Extends.{place-append, same_some}
 use Rattle.flow.proofs.common.Histories.{of-append}
-use Rattle.flow.proofs.pieces.Pieces.{first_pieces, first-inside, first-same}
+use Rattle.flow.proofs.pieces.Pieces.{first_pieces, first-inside}
 use Rattle.flow.proofs.pieces.Chained.{Chain-open, Held, Holding}
 use Rattle.flow.proofs.pieces.Others.{Elsewhere}
 

@@ -1,7 +1,7 @@
 -- A receiving end that is right for a source, of each series: what it handed on and reported, and what its chains hold.
 -- Each of its calls keeps it so, in any state and of any bytes, if Receive is handed packets of published messages, in any
 -- order and number. Assumes nothing.
-use Prim.Native.Nat.{ℕ, suc, ◌+◌}
+use Prim.Native.Nat.{ℕ, suc}
 use native.Mathlib.Omega.{arith}
 use mathlib.Core.Path.{◌≡◌, refl, ap}
 use mathlib.Core.List.{List, [], ◌∷◌, ◌++◌, map, append-nil}

@@ -15,7 +15,6 @@ use Rattle.flow.specs.declared.sender.Sender.{Sender}
 use Rattle.flow.specs.Ends.{index_of, no_series, no_place, sender, day_series, published_of, reserve_of}
 use Rattle.flow.specs.Ends.{used_of, place_of, grown_series, with_entry, with_place}
 use Rattle.flow.specs.Helpers.{Finds, placed_at}
-use Rattle.flow.proofs.series.Places.{unmapped}
 use Rattle.flow.proofs.ends.SenderLookups.{Eight}
 
 -- Both arrays of every value of the type have 8 places: `eight e _ (c .. .good .0)`, the end being the first parameter.

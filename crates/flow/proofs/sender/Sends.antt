@@ -5,13 +5,13 @@ use native.Mathlib.Omega.{arith}
 use mathlib.Core.Path.{◌≡◌, refl, sym, ap, ◌∙◌}
 use mathlib.Core.List.{List, []}
 use mathlib.Core.Bool.{Bool, true, false, cond}
-use mathlib.Core.Option.{Option, none, some}
+use mathlib.Core.Option.{none, some}
 use borrow.Author.Tests.{ltb-true, ltb-false, lt-ltb, le-ltb, le-leb, lt-leb}
 use lib.ListN.{length, get_or, take, drop, length-take, length-drop}
 use lib.Dec.{ltb, eqb}
-use Rattle.ftd.specs.Bytes.{part, joined}
+use Rattle.ftd.specs.Bytes.{joined}
 use Rattle.ftd.specs.Chain.{packets_of, chain_verdict, packet_answer, output_left, packet_output}
-use Rattle.ftd.specs.Fields.{shaped, most_content}
+use Rattle.ftd.specs.Fields.{most_content}
 use Rattle.ftd.specs.Write.{fine, written_answer, written_output}
 use Rattle.ftd.proofs.chain.Laws.{chain_laws}
 use Rattle.ftd.proofs.chain.Pieces.{shaped-facts}
@@ -32,13 +32,12 @@ use Rattle.flow.specs.declared.sender.Sender.{Sender}
 use Rattle.flow.specs.declared.sender.Sent.{Sent}
 use Rattle.flow.specs.declared.sender.Sent.TheVariants.{Wrote as Message-sent}
 use Rattle.flow.specs.declared.sender.Sent.TheVariants.{Refused as NotSent}
-use Rattle.flow.specs.declared.sender.SentPacket.{SentPacket}
 use Rattle.flow.specs.declared.sender.SentPacket.TheVariants.{Wrote as Packet-sent}
 use Rattle.flow.specs.declared.sender.SentPacket.TheVariants.{Refused as NotPacket}
 use Rattle.flow.specs.declared.sender.NextMessage.{NextMessage}
 use Rattle.flow.specs.declared.sender.NextMessage.TheVariants.{Drained, Refused, Entry}
 use Rattle.flow.specs.Answers.{Said}
-use Rattle.flow.specs.Ends.{◌when◌else◌, Wrote, wrote, over, no_series, no_place, is_served, published_of, place_of}
+use Rattle.flow.specs.Ends.{Wrote, wrote, over, no_series, no_place, is_served, published_of, place_of}
 use Rattle.flow.specs.Ends.{with_place}
 use Rattle.flow.specs.Log.{entry_of}
 use Rattle.flow.specs.Serving.{is_none_left, send_packets, send_bytes, send_entry, send_of, next_packet, no_packet}

@@ -12,7 +12,7 @@ use Rattle.flow.specs.World.{Dated, Event, open_sender, publish, login, send, se
 use Rattle.flow.specs.World.{confirm_login, receive, World, step, run}
 use Rattle.flow.specs.Agreement.{of, latest, reported, since}
 use Rattle.flow.specs.Bufferful.{unheard, heard}
-use Rattle.flow.proofs.common.Bools.{and_both, clash}
+use Rattle.flow.proofs.common.Bools.{clash}
 use Rattle.flow.proofs.common.Extends.{Extends, extends-same, extends-append}
 use Rattle.flow.proofs.common.Histories.{of-append}
 use Rattle.flow.proofs.common.Rows.{by-given}

@@ -31,7 +31,7 @@ use Rattle.flow.specs.declared.several.ReceiveTurn.TheVariants.{On, Stop}
 use Rattle.flow.specs.Ends.{Wrote, wrote}
 use Rattle.flow.specs.Receiving.{receive_of}
 use Rattle.flow.specs.Promises.{Receives, ReceivesSeveral}
-use Rattle.flow.specs.Several.{Took, walk_over, received_stops, receiving}
+use Rattle.flow.specs.Several.{walk_over, received_stops, receiving}
 use Rattle.flow.specs.Several.{placed_from, receive_several_of}
 use Rattle.flow.specs.SeveralHelpers.{LiesIn, AnswerIn, turn_stop}
 use Rattle.flow.proofs.calls.Receive as calls

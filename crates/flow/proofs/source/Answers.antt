@@ -21,7 +21,7 @@ use Rattle.ftd.specs.declared.tags.TradeDate.{TradeDate}
 use Rattle.ftd.specs.declared.tags.TradeDate.TheVariants.{At}
 use Rattle.flow.specs.Ends.{up_to}
 use Rattle.flow.specs.Serving.{no_login}
-use Rattle.flow.specs.World.{InSeries, in_series, SenderSide, start, run}
+use Rattle.flow.specs.World.{InSeries, in_series, SenderSide}
 use Rattle.flow.proofs.common.Bools.{or-neither}
 use Rattle.flow.proofs.common.Days.{up_to-self}
 use Rattle.flow.proofs.common.Extends.{place-last}

@@ -8,7 +8,7 @@ use mathlib.Core.List.{List, [], ◌∷◌, ◌++◌}
 use mathlib.Core.Bool.{Bool, true, false, cond}
 use mathlib.Core.Option.{some}
 use borrow.Author.Tests.{eqb-true, eqb-false, leb-true, leb-false}
-use lib.ListN.{length, take, drop, get_or, get_elem?}
+use lib.ListN.{length, take, get_or, get_elem?}
 use lib.Seq.{take-suc}
 use lib.Dec.{eqb, leb}
 use Rattle.ftd.specs.Chain.{packets_of}
@@ -35,7 +35,7 @@ use Rattle.flow.proofs.common.Transmissions.{goings, none_going, ended_here, end
 use Rattle.flow.proofs.common.Transmissions.{whole-goings, whole-far, last-here, more-goings, more-far}
 use Rattle.flow.proofs.common.Transmissions.{packet-goings, packet-far}
 use Rattle.flow.proofs.source.Moves.{Move, stays, opens, publishes, logs-in, sends, sends-packet, sent_side}
-use Rattle.flow.proofs.source.Served.{Served, ServedSide}
+use Rattle.flow.proofs.source.Served.{ServedSide}
 use Rattle.flow.proofs.source.Kept.{published-count}
 use Rattle.flow.proofs.source.Entries.{NextEntry, next-entry, packets-sent}
 

@@ -1,7 +1,7 @@
 -- The source: a serving end that is right, with all that it put on the line genuine. Every call keeps it so, of any
 -- packet and any bytes. Assumes nothing.
 use mathlib.Core.List.{List, []}
-use Prim.Native.Nat.{ℕ, ◌≤◌}
+use Prim.Native.Nat.{ℕ}
 use native.Mathlib.Omega.{arith}
 use mathlib.Core.Path.{refl}
 use mathlib.Core.Bool.{false}

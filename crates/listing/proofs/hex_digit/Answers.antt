@@ -1,4 +1,3 @@
-use borrow.Author.Rules.{rules}
 use Rattle.ftd.proofs.Tests.{tests}
 use Rattle.listing.specs.Text.{hex_digit}
 use Rattle.listing.proofs.hex_digit.Goals as goal

@@ -1,7 +1,6 @@
 use Prim.Native.Nat.{◌+◌, ◌-◌}
 use mathlib.Core.Path.{◌≡◌}
 use native.Mathlib.Omega.{arith}
-use borrow.Author.Rules.{rules}
 use Rattle.ftd.proofs.Tests.{tests}
 use Rattle.listing.specs.Lines.{is_heart}
 use Rattle.listing.proofs.is_heart.Goals as goal

@@ -1,5 +1,4 @@
 use native.Mathlib.Omega.{arith}
-use borrow.Author.Rules.{rules}
 use Rattle.ftd.proofs.packet.Laws.{inside}
 use Rattle.listing.proofs.Lines.{next_fits, inside-more, inside-last}
 use Rattle.listing.proofs.line_inside.Goals as goal

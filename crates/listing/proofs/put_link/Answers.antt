@@ -1,5 +1,4 @@
 use native.Mathlib.Omega.{arith}
-use borrow.Author.Rules.{rules}
 use Rattle.listing.specs.Lines.{link_text}
 use Rattle.listing.proofs.put_link.Goals as goal
 

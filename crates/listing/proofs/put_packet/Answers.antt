@@ -1,5 +1,4 @@
 use native.Mathlib.Omega.{arith}
-use borrow.Author.Rules.{rules}
 use Rattle.listing.proofs.put_packet.Goals as goal
 
 pub put_link-requires : goal.put_link-requires

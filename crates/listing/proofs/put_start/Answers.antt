@@ -1,5 +1,4 @@
 use native.Mathlib.Omega.{arith}
-use borrow.Author.Rules.{rules}
 use Rattle.listing.specs.Lines.{start_text}
 use Rattle.listing.proofs.Texts.{wrote-both}
 use Rattle.listing.proofs.put_start.Goals as goal

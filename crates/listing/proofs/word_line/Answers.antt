@@ -1,5 +1,4 @@
 use native.Mathlib.Omega.{arith}
-use borrow.Author.Rules.{rules}
 use Rattle.listing.specs.Lines.{line_with}
 use Rattle.listing.proofs.Texts.{wrote-both}
 use Rattle.listing.proofs.word_line.Goals as goal

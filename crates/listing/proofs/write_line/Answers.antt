@@ -1,4 +1,3 @@
-use borrow.Author.Rules.{rules}
 use Rattle.listing.proofs.Lines.{too_small, long-line, end_line}
 use Rattle.listing.proofs.write_line.Goals as goal
 

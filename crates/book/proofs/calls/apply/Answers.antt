@@ -1,7 +1,4 @@
-use borrow.Author.Rules.{rules}
-use Rattle.book.specs.Event.{Inside}
 use Rattle.book.proofs.calls.Steps.{applied-nothing, applied-quotation, applied-match}
-use borrow.Author.Rules.{rules}
 use Rattle.book.proofs.calls.apply.Goals as goal
 
 pub apply_match-requires : goal.apply_match-requires

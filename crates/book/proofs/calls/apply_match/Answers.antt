@@ -1,6 +1,4 @@
-use borrow.Author.Rules.{rules}
 use Rattle.book.proofs.calls.Steps.{takes-done, match-refused, match-taken}
-use borrow.Author.Rules.{rules}
 use Rattle.book.proofs.calls.apply_match.Goals as goal
 
 pub sum_match-requires : goal.sum_match-requires

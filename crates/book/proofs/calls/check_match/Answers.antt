@@ -1,7 +1,4 @@
-use borrow.Author.Rules.{rules}
-use native.Mathlib.Omega.{arith}
 use Rattle.book.proofs.calls.Steps.{check-buying, check-selling, check-volume, check_done}
-use borrow.Author.Rules.{rules}
 use Rattle.book.proofs.calls.check_match.Goals as goal
 
 pub returns-then-is_lacking : goal.returns-then-is_lacking

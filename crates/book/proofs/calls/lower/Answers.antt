@@ -1,6 +1,4 @@
-use borrow.Author.Rules.{rules}
 use Rattle.book.proofs.calls.Steps.{lower-none, lower-fits, lower-some}
-use borrow.Author.Rules.{rules}
 use Rattle.book.proofs.calls.lower.Goals as goal
 
 pub returns-then-old-eq0 : goal.returns-then-old-eq0

@@ -1,6 +1,4 @@
-use borrow.Author.Rules.{rules}
 use Rattle.book.proofs.calls.Steps.{quote-wrong, quote-full, quote-put}
-use borrow.Author.Rules.{rules}
 use Rattle.book.proofs.calls.quote.Goals as goal
 
 pub returns-then-one_more : goal.returns-then-one_more

@@ -1,6 +1,4 @@
-use borrow.Author.Rules.{rules}
 use Rattle.book.proofs.calls.Steps.{match-over, match-both}
-use borrow.Author.Rules.{rules}
 use Rattle.book.proofs.calls.sum_match.Goals as goal
 
 pub returns-in-Over : goal.returns-in-Over

@@ -1,5 +1,3 @@
-use borrow.Author.Rules.{rules}
-use borrow.Author.Rules.{rules}
 use Rattle.book.proofs.calls.take_match.Goals as goal
 
 pub returns : goal.returns

@@ -1,13 +1,6 @@
 use borrow.Author.Rules.{rules}
-use native.Mathlib.Omega.{arith}
-use Prim.Native.Nat.{◌-◌, ◌≤◌}
-use mathlib.Core.Path.{◌≡◌, refl, sym, ap, ◌∙◌}
-use mathlib.Core.List.{map}
-use lib.ListN.{length, drop}
-use Rattle.ftd.specs.Runs.{run_of}
-use Rattle.ftd.specs.Fields.{field}
-use Rattle.book.specs.Event.{event_of}
-use Rattle.book.specs.Calls.{walked, events_of}
+use mathlib.Core.Path.{refl}
+use Rattle.book.specs.Calls.{events_of}
 use Rattle.book.proofs.calls.Fields.{walk-over, walk_refused, walk_turn}
 use Rattle.book.proofs.calls.walk.Goals as goal
 

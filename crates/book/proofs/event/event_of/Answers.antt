@@ -1,8 +1,6 @@
-use borrow.Author.Rules.{rules}
 use mathlib.Core.Path.{sym, ◌∙◌}
 use Rattle.book.proofs.event.Reading.{quotation-field, quotation-strange, quotation-long, other-message, match-field, match-strange}
 use Rattle.book.proofs.event.Reading.{match-long}
-use borrow.Author.Rules.{rules}
 use Rattle.book.proofs.event.event_of.Goals as goal
 
 pub returns-then-be32-eq13 : goal.returns-then-be32-eq13

@@ -1,6 +1,4 @@
-use borrow.Author.Rules.{rules}
 use Rattle.book.proofs.event.Reading.{match-other, match_none, match-some}
-use borrow.Author.Rules.{rules}
 use Rattle.book.proofs.event.match_in.Goals as goal
 
 pub returns-in-NoPrice : goal.returns-in-NoPrice

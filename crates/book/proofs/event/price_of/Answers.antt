@@ -1,5 +1,4 @@
 use borrow.Author.Rules.{rules}
-use native.Mathlib.Omega.{arith}
 use Rattle.book.proofs.event.Reading.{price-none, price-small, price-fits, price-below, price-above}
 use borrow.Author.Rules.{rules}
 use Rattle.book.proofs.event.price_of.Goals as goal

@@ -1,9 +1,7 @@
 use Rattle.ftd.proofs.Tests.{tests}
-use borrow.Author.Rules.{rules}
 use mathlib.Core.Path.{◌∙◌}
 use Rattle.book.specs.Event.{sided}
 use borrow.Author.Tests.{eq-eqb, ne_eqb}
-use borrow.Author.Rules.{rules}
 use Rattle.book.proofs.event.quotation.Goals as goal
 
 pub returns-then-kind-eq0 : goal.returns-then-kind-eq0

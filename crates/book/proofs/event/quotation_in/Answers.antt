@@ -1,6 +1,4 @@
-use borrow.Author.Rules.{rules}
 use Rattle.book.proofs.event.Reading.{quotation-other, quotation-none, quotation-some}
-use borrow.Author.Rules.{rules}
 use Rattle.book.proofs.event.quotation_in.Goals as goal
 
 pub returns-in-NoPrice : goal.returns-in-NoPrice

@@ -1,11 +1,9 @@
 use Rattle.book.proofs.event.Reading.{ten, ten-byte}
 use borrow.Author.Rules.{rules}
 use native.Mathlib.Omega.{arith}
-use Prim.Native.Nat.{ℕ, ◌+◌, ◌-◌, ◌≤◌}
 use mathlib.Core.Path.{◌≡◌, refl, sym, ◌∙◌}
-use lib.ListN.{length, get_or, drop, length-drop}
+use lib.ListN.{length}
 use Rattle.ftd.specs.Bytes.{part}
-use Rattle.book.specs.Event.{same_bytes}
 use Rattle.book.proofs.event.Reading.{same_turn, same_stop, same_end}
 use Rattle.book.proofs.event.same_code.Goals as goal
 

@@ -1,12 +1,8 @@
-use Rattle.book.proofs.event.Reading.{ten, ten-byte}
-use borrow.Author.Rules.{rules}
-use native.Mathlib.Omega.{arith}
-use Prim.Native.Nat.{ℕ, ◌+◌, ◌-◌, ◌≤◌}
-use mathlib.Core.Path.{◌≡◌, refl, sym, ◌∙◌}
-use lib.ListN.{length, get_or, drop, length-drop}
+use Prim.Native.Nat.{◌-◌, ◌≤◌}
+use mathlib.Core.Path.{◌≡◌}
+use lib.ListN.{drop}
 use Rattle.ftd.specs.Bytes.{part}
 use Rattle.book.specs.Event.{same_bytes}
-use Rattle.book.proofs.event.Reading.{same_turn, same_stop, same_end}
 use Rattle.book.proofs.event.same_code.Given as goal
 
 abbrev pub invariant-loop-i : goal.invariant-loop-i

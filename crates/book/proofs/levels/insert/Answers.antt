@@ -2,10 +2,8 @@ use Rattle.book.specs.Levels.{empty, side_with}
 use Rattle.book.proofs.levels.Shifts.{places}
 use borrow.Author.Rules.{rules}
 use native.Mathlib.Omega.{arith}
-use Prim.Native.Nat.{◌≤◌, ◌-◌, ◌+◌}
-use mathlib.Core.Path.{◌≡◌, refl, ap, sym, ◌∙◌}
-use lib.ListN.{length, drop, length-set}
-use Rattle.book.specs.Levels.{inserted}
+use mathlib.Core.Path.{refl, ap, sym, ◌∙◌}
+use lib.ListN.{length-set}
 use Rattle.book.proofs.levels.Shifts.{push-turn, push-end}
 use Rattle.book.proofs.levels.insert.Goals as goal
 

@@ -1,6 +1,5 @@
 use mathlib.Core.Path.{refl}
 use Rattle.book.specs.Levels.{is_full}
-use borrow.Author.Rules.{rules}
 use Rattle.book.proofs.levels.is_full.Goals as goal
 
 pub returns : goal.returns

@@ -1,12 +1,7 @@
-use Rattle.book.proofs.levels.Shifts.{places}
-use Rattle.book.proofs.levels.Search.{search-unused}
-use borrow.Author.Rules.{rules}
-use native.Mathlib.Omega.{arith}
 use Prim.Native.Nat.{◌≤◌, ◌-◌, ◌+◌}
-use mathlib.Core.Path.{◌≡◌, refl, ap, sym, ◌∙◌}
-use lib.ListN.{length, drop, length-set}
+use mathlib.Core.Path.{◌≡◌}
+use lib.ListN.{drop}
 use Rattle.book.specs.Levels.{place_in}
-use Rattle.book.proofs.levels.Search.{search-here, search-turn, search-end}
 use Rattle.book.proofs.levels.place_of.Given as goal
 
 abbrev pub invariant-loop-i : goal.invariant-loop-i

@@ -1,12 +1,8 @@
-use Prim.Native.Nat.{◌<◌}
-use mathlib.Core.Path.{◌≡◌, ◌∙◌}
+use mathlib.Core.Path.{◌∙◌}
 use native.Mathlib.Omega.{arith}
-use lib.ListN.{length}
 use Rattle.book.proofs.levels.Shifts.{places}
-use borrow.Author.Rules.{rules}
 use Rattle.book.proofs.levels.Put.{put-replace, put-insert, put-remove, put-stays}
 use Rattle.book.proofs.levels.Search.{held-inside}
-use borrow.Author.Rules.{rules}
 use Rattle.book.proofs.levels.put_at.Goals as goal
 
 pub replace-requires : goal.replace-requires

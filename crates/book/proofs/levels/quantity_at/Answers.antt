@@ -1,10 +1,8 @@
-use mathlib.Core.Path.{◌≡◌, ◌∙◌, ap}
+use mathlib.Core.Path.{◌∙◌, ap}
 use Rattle.book.specs.Levels.{held_by, empty}
 use lib.ListN.{get_or}
 use Prim.Native.Nat.{ℕ}
-use borrow.Author.Rules.{rules}
 use Rattle.book.specs.Levels.{quantity_at}
-use borrow.Author.Rules.{rules}
 use Rattle.book.proofs.levels.quantity_at.Goals as goal
 
 pub returns : goal.returns

@@ -2,10 +2,8 @@ use Rattle.book.specs.Levels.{empty, side_with}
 use Rattle.book.proofs.levels.Shifts.{places}
 use borrow.Author.Rules.{rules}
 use native.Mathlib.Omega.{arith}
-use Prim.Native.Nat.{◌≤◌, ◌-◌, ◌+◌}
-use mathlib.Core.Path.{◌≡◌, refl, ap, sym, ◌∙◌}
-use lib.ListN.{length, drop, length-set}
-use Rattle.book.specs.Levels.{removed}
+use mathlib.Core.Path.{refl, ap, ◌∙◌}
+use lib.ListN.{length-set}
 use Rattle.book.proofs.levels.Shifts.{pull-turn, pull-end}
 use Rattle.book.proofs.levels.remove.Goals as goal
 

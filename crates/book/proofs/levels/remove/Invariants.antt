@@ -1,12 +1,7 @@
-use Rattle.book.specs.Levels.{empty, side_with}
-use Rattle.book.proofs.levels.Shifts.{places}
-use borrow.Author.Rules.{rules}
-use native.Mathlib.Omega.{arith}
-use Prim.Native.Nat.{◌≤◌, ◌-◌, ◌+◌}
-use mathlib.Core.Path.{◌≡◌, refl, ap, sym, ◌∙◌}
-use lib.ListN.{length, drop, length-set}
+use Prim.Native.Nat.{◌≤◌, ◌-◌}
+use mathlib.Core.Path.{◌≡◌}
+use lib.ListN.{length}
 use Rattle.book.specs.Levels.{removed}
-use Rattle.book.proofs.levels.Shifts.{pull-turn, pull-end}
 use Rattle.book.proofs.levels.remove.Given as goal
 
 abbrev pub invariant-loop-i : goal.invariant-loop-i

@@ -1,7 +1,5 @@
-use borrow.Author.Rules.{rules}
 use lib.IntN.{pos, ◌*ℤ◌}
 use Rattle.book.proofs.sums.Limits.{added-plain, product_small}
-use borrow.Author.Rules.{rules}
 use Rattle.book.proofs.sums.add_turnover.Goals as goal
 
 pub returns : goal.returns

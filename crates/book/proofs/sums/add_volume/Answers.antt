@@ -1,8 +1,6 @@
-use borrow.Author.Rules.{rules}
 use native.Mathlib.Omega.{arith}
 use lib.IntN.{pos}
 use Rattle.book.proofs.sums.Limits.{added-plain, volume-small}
-use borrow.Author.Rules.{rules}
 use Rattle.book.proofs.sums.add_volume.Goals as goal
 
 pub added-requires : goal.added-requires

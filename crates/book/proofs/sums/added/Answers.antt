@@ -1,6 +1,4 @@
-use borrow.Author.Rules.{rules}
 use Rattle.book.proofs.sums.Limits.{sum-beyond, next_fits, next-beyond, next-within}
-use borrow.Author.Rules.{rules}
 use Rattle.book.proofs.sums.added.Goals as goal
 
 pub returns-then-is_beyond : goal.returns-then-is_beyond

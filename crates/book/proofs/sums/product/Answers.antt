@@ -1,6 +1,4 @@
-use borrow.Author.Rules.{rules}
 use Rattle.book.proofs.sums.Limits.{product-fits, product-right}
-use borrow.Author.Rules.{rules}
 use Rattle.book.proofs.sums.product.Goals as goal
 
 pub overflow_mul-result : goal.overflow_mul-result

@@ -1,4 +1,3 @@
-use borrow.Author.Rules.{rules}
 use Rattle.book.proofs.sums.Limits.{size_fits, size-casts, size-adds, size_below, size-wide}
 use Rattle.book.proofs.sums.size_of.Goals as goal
 

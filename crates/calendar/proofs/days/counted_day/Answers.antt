@@ -1,5 +1,4 @@
 use native.Mathlib.Omega.{arith}
-use borrow.Author.Rules.{rules}
 use Rattle.calendar.proofs.days.Back.{month-starts, small-parts, day-counted}
 use Rattle.calendar.proofs.days.counted_day.Goals as goal
 

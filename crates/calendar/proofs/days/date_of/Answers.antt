@@ -1,4 +1,3 @@
-use borrow.Author.Rules.{rules}
 use native.Mathlib.Omega.{arith}
 use Rattle.calendar.proofs.days.Found.{rest-fits, date-parts}
 use Rattle.calendar.proofs.days.date_of.Goals as goal

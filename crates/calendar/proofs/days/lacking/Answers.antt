@@ -1,4 +1,3 @@
-use borrow.Author.Rules.{rules}
 use Rattle.calendar.proofs.days.Found.{lacks-none-leap, lacks-one, lacks-none, lacks-two}
 use Rattle.calendar.proofs.days.lacking.Goals as goal
 

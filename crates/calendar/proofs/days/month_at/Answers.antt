@@ -1,6 +1,5 @@
 use Prim.Native.Nat.{◌+◌, ◌*◌, ◌/◌}
 use mathlib.Core.Path.{refl}
-use borrow.Author.Rules.{rules}
 use Rattle.calendar.proofs.days.Found.{month-found}
 use Rattle.calendar.proofs.days.month_at.Goals as goal
 

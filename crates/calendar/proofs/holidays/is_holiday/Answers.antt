@@ -1,9 +1,7 @@
-use Prim.Native.Nat.{◌-◌, ◌≤◌}
-use mathlib.Core.Path.{◌≡◌, refl}
-use mathlib.Core.Bool.{false}
+use mathlib.Core.Path.{refl}
 use borrow.Author.Tests.{eq-eqb, ne_eqb}
 use borrow.Author.Rules.{rules}
-use Rattle.calendar.specs.Calendar.{some, stands_at, is_holiday}
+use Rattle.calendar.specs.Calendar.{stands_at, is_holiday}
 use Rattle.calendar.proofs.Some.{some-here, some_turn, some-none}
 use Rattle.calendar.proofs.holidays.is_holiday.Goals as goal
 

@@ -1,8 +1,6 @@
 use Prim.Native.Nat.{◌+◌, ◌-◌, ◌≤◌}
 use mathlib.Core.Path.{◌≡◌}
-use borrow.Author.Rules.{rules}
 use Rattle.calendar.specs.Calendar.{trading_from, next_trading}
-use Rattle.calendar.proofs.holidays.Near.{search-here, search-turn, search-start}
 use Rattle.calendar.proofs.holidays.next_trading.Given as goal
 
 abbrev pub invariant-loop-day : goal.invariant-loop-day

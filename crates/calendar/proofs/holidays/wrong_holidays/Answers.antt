@@ -1,9 +1,7 @@
-use Prim.Native.Nat.{◌-◌, ◌≤◌}
-use mathlib.Core.Path.{◌≡◌, refl, ◌∙◌}
-use mathlib.Core.Bool.{false}
+use mathlib.Core.Path.{refl, ◌∙◌}
 use lib.ListN.{length}
 use borrow.Author.Rules.{rules}
-use Rattle.calendar.specs.Calendar.{some, unreal, wrong_holidays}
+use Rattle.calendar.specs.Calendar.{unreal}
 use Rattle.calendar.proofs.Some.{some-here, some_turn, some-none}
 use Rattle.calendar.proofs.holidays.Laws.{holiday-many, holiday-else, not-real, is-real-one}
 use Rattle.calendar.proofs.holidays.wrong_holidays.Goals as goal

@@ -1,11 +1,8 @@
 use Prim.Native.Nat.{◌-◌, ◌≤◌}
-use mathlib.Core.Path.{◌≡◌, refl, ◌∙◌}
+use mathlib.Core.Path.{◌≡◌}
 use mathlib.Core.Bool.{false}
 use lib.ListN.{length}
-use borrow.Author.Rules.{rules}
-use Rattle.calendar.specs.Calendar.{some, unreal, wrong_holidays}
-use Rattle.calendar.proofs.Some.{some-here, some_turn, some-none}
-use Rattle.calendar.proofs.holidays.Laws.{holiday-many, holiday-else, not-real, is-real-one}
+use Rattle.calendar.specs.Calendar.{some, unreal}
 use Rattle.calendar.proofs.holidays.wrong_holidays.Given as goal
 
 abbrev pub invariant-loop-i : goal.invariant-loop-i

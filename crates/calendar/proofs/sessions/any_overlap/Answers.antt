@@ -1,8 +1,6 @@
-use Prim.Native.Nat.{◌-◌, ◌≤◌}
-use mathlib.Core.Path.{◌≡◌, refl}
-use mathlib.Core.Bool.{false}
+use mathlib.Core.Path.{refl}
 use borrow.Author.Rules.{rules}
-use Rattle.calendar.specs.Calendar.{some, overlaps_before}
+use Rattle.calendar.specs.Calendar.{overlaps_before}
 use Rattle.calendar.proofs.Some.{some-here, some_turn, some-none}
 use Rattle.calendar.proofs.sessions.any_overlap.Goals as goal
 

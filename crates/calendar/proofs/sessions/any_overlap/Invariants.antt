@@ -1,9 +1,7 @@
 use Prim.Native.Nat.{◌-◌, ◌≤◌}
-use mathlib.Core.Path.{◌≡◌, refl}
+use mathlib.Core.Path.{◌≡◌}
 use mathlib.Core.Bool.{false}
-use borrow.Author.Rules.{rules}
 use Rattle.calendar.specs.Calendar.{some, overlaps_before}
-use Rattle.calendar.proofs.Some.{some-here, some_turn, some-none}
 use Rattle.calendar.proofs.sessions.any_overlap.Given as goal
 
 abbrev pub invariant-loop-i : goal.invariant-loop-i

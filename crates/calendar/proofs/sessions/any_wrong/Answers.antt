@@ -1,9 +1,7 @@
-use Prim.Native.Nat.{◌-◌, ◌≤◌}
-use mathlib.Core.Path.{◌≡◌, refl}
-use mathlib.Core.Bool.{false}
+use mathlib.Core.Path.{refl}
 use borrow.Author.Rules.{rules}
 use Rattle.calendar.proofs.Some.{some-here, some_turn, some-none}
-use Rattle.calendar.specs.Calendar.{some, wrong_session}
+use Rattle.calendar.specs.Calendar.{wrong_session}
 use Rattle.calendar.proofs.sessions.any_wrong.Goals as goal
 
 pub loop-i-init : goal.loop-i-init

@@ -1,4 +1,3 @@
-use borrow.Author.Rules.{rules}
 use Rattle.calendar.specs.Calendar.{holds}
 use Rattle.ftd.proofs.Tests.{tests}
 use Rattle.calendar.proofs.sessions.holds_at.Goals as goal

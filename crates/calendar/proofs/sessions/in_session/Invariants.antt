@@ -1,9 +1,7 @@
 use Prim.Native.Nat.{◌-◌, ◌≤◌}
-use mathlib.Core.Path.{◌≡◌, refl}
+use mathlib.Core.Path.{◌≡◌}
 use mathlib.Core.Bool.{false}
-use borrow.Author.Rules.{rules}
-use Rattle.calendar.proofs.Some.{some-here, some_turn, some-none}
-use Rattle.calendar.specs.Calendar.{some, counts, in_session}
+use Rattle.calendar.specs.Calendar.{some, counts}
 use Rattle.calendar.proofs.sessions.in_session.Given as goal
 
 abbrev pub invariant-loop-i : goal.invariant-loop-i

@@ -1,9 +1,7 @@
-use Prim.Native.Nat.{◌-◌, ◌≤◌}
-use mathlib.Core.Path.{◌≡◌, refl}
-use mathlib.Core.Bool.{false}
+use mathlib.Core.Path.{refl}
 use borrow.Author.Rules.{rules}
 use Rattle.calendar.proofs.Some.{some-here, some_turn, some-none}
-use Rattle.calendar.specs.Calendar.{some, overlap}
+use Rattle.calendar.specs.Calendar.{overlap}
 use Rattle.calendar.proofs.sessions.overlaps_before.Goals as goal
 
 pub loop-j-init : goal.loop-j-init

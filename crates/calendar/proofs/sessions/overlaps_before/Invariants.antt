@@ -1,8 +1,6 @@
 use Prim.Native.Nat.{◌-◌, ◌≤◌}
-use mathlib.Core.Path.{◌≡◌, refl}
+use mathlib.Core.Path.{◌≡◌}
 use mathlib.Core.Bool.{false}
-use borrow.Author.Rules.{rules}
-use Rattle.calendar.proofs.Some.{some-here, some_turn, some-none}
 use Rattle.calendar.specs.Calendar.{some, overlap}
 use Rattle.calendar.proofs.sessions.overlaps_before.Given as goal
 

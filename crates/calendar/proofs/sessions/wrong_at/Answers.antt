@@ -1,4 +1,3 @@
-use borrow.Author.Rules.{rules}
 use Rattle.calendar.specs.Calendar.{wrong_session}
 use Rattle.ftd.proofs.Tests.{tests}
 use Rattle.calendar.proofs.sessions.wrong_at.Goals as goal

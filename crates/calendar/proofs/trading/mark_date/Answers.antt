@@ -1,4 +1,3 @@
-use borrow.Author.Rules.{rules}
 use Rattle.calendar.specs.Calendar.{mark_date}
 use Rattle.calendar.proofs.trading.mark_date.Goals as goal
 

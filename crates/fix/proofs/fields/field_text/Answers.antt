@@ -1,6 +1,5 @@
 use native.Mathlib.Nat.{add-sub_cancel_left}
 use native.Mathlib.Omega.{arith}
-use borrow.Author.Rules.{rules}
 use Rattle.fix.specs.Fields.{text_of}
 use Rattle.fix.proofs.fields.field_text.Goals as goal
 

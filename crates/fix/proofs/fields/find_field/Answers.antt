@@ -1,9 +1,5 @@
-use Prim.Native.Nat.{◌-◌, ◌≤◌}
-use mathlib.Core.Path.{◌≡◌}
 use native.Mathlib.Omega.{arith}
 use borrow.Author.Rules.{rules}
-use lib.ListN.{length, drop}
-use Rattle.fix.specs.Fields.{cut_from, place_in, place_of}
 use Rattle.fix.proofs.fields.Cuts.{field-within}
 use Rattle.fix.proofs.fields.Turns.{place-start, place-over, place_here, place-turn}
 use Rattle.fix.proofs.fields.find_field.Goals as goal

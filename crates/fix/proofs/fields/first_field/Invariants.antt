@@ -1,11 +1,7 @@
 use Prim.Native.Nat.{◌-◌, ◌≤◌}
 use mathlib.Core.Path.{◌≡◌}
-use native.Mathlib.Omega.{arith}
-use borrow.Author.Rules.{rules}
 use lib.ListN.{length, drop}
 use Rattle.fix.specs.Fields.{cut_from, first_in, first_of}
-use Rattle.fix.proofs.fields.Cuts.{field-within}
-use Rattle.fix.proofs.fields.Turns.{first-start, first-over, first-here, first-turn}
 use Rattle.fix.proofs.fields.first_field.Given as goal
 
 abbrev pub invariant-loop-found : goal.invariant-loop-found

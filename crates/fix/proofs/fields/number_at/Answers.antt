@@ -1,6 +1,5 @@
 use native.Mathlib.Omega.{arith}
 use Rattle.fix.proofs.fields.Turns.{place-within, number-none, number-some}
-use borrow.Author.Rules.{rules}
 use Rattle.fix.proofs.fields.number_at.Goals as goal
 
 pub overflow_add-start : goal.overflow_add-start

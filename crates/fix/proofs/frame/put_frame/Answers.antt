@@ -1,7 +1,6 @@
 use mathlib.Core.Path.{refl, sym}
 use lib.Seq.{length-take-le}
 use native.Mathlib.Omega.{arith}
-use borrow.Author.Rules.{rules}
 use Rattle.fix.proofs.frame.Puts.{frame-put}
 use Rattle.fix.proofs.frame.put_frame.Goals as goal
 

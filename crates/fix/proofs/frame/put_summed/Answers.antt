@@ -1,4 +1,3 @@
-use native.Mathlib.Omega.{arith}
 use borrow.Author.Rules.{rules}
 use Rattle.fix.specs.Frame.{body_length}
 use Rattle.fix.proofs.frame.Puts.{summed-put}

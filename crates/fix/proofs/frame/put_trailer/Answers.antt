@@ -1,5 +1,4 @@
 use native.Mathlib.Omega.{arith}
-use borrow.Author.Rules.{rules}
 use Rattle.fix.proofs.frame.Puts.{trailer-put}
 use Rattle.fix.proofs.frame.put_trailer.Goals as goal
 

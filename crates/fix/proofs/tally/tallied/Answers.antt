@@ -1,5 +1,4 @@
 use Rattle.fix.proofs.tally.Steps.{tallied-is}
-use borrow.Author.Rules.{rules}
 use Rattle.fix.proofs.tally.tallied.Goals as goal
 
 pub returns : goal.returns

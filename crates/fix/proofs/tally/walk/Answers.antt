@@ -1,12 +1,7 @@
-use Prim.Native.Nat.{◌-◌, ◌≤◌}
-use mathlib.Core.Path.{◌≡◌}
 use native.Mathlib.Omega.{arith}
 use borrow.Author.Rules.{rules}
-use lib.ListN.{length, drop}
-use Rattle.fix.specs.Fields.{cut_from}
-use Rattle.fix.specs.Tally.{walked_of}
 use Rattle.fix.proofs.fields.Cuts.{field-within}
-use Rattle.fix.proofs.tally.Turns.{walked_from, walk_start, walk-over, walk_turn}
+use Rattle.fix.proofs.tally.Turns.{walk_start, walk-over, walk_turn}
 use Rattle.fix.proofs.tally.walk.Goals as goal
 
 pub loop-tag-init : goal.loop-tag-init

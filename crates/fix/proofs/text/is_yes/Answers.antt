@@ -1,4 +1,3 @@
-use borrow.Author.Rules.{rules}
 use Rattle.ftd.proofs.Tests.{tests}
 use Rattle.fix.specs.Text.{is_yes}
 use Rattle.fix.proofs.text.is_yes.Goals as goal

@@ -1,12 +1,8 @@
 use Prim.Native.Nat.{◌-◌, ◌<◌, ◌≤◌}
-use mathlib.Core.Path.{◌≡◌, refl}
-use native.Mathlib.Omega.{arith}
-use borrow.Author.Rules.{rules}
+use mathlib.Core.Path.{◌≡◌}
 use lib.ListN.{length, drop}
-use Rattle.ftd.proofs.Tests.{tests}
 use Rattle.fix.specs.Text.{number_from, number_in}
-use Rattle.fix.proofs.text.Turns.{power, power-next, times-fits, digit-fits, number_fits, number-start, below-digit}
-use Rattle.fix.proofs.text.Turns.{above-digit, digit-more, number-over}
+use Rattle.fix.proofs.text.Turns.{power}
 use Rattle.fix.proofs.text.number_in.Given as goal
 
 abbrev pub invariant-loop-i : goal.invariant-loop-i

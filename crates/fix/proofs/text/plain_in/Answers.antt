@@ -1,6 +1,4 @@
 use borrow.Author.Rules.{rules}
-use Rattle.ftd.proofs.Tests.{tests}
-use Rattle.fix.specs.Text.{plain_in, number_in}
 use Rattle.fix.proofs.text.Turns.{plain-nothing, plain-zero, plain-some}
 use Rattle.fix.proofs.text.plain_in.Goals as goal
 

@@ -1,4 +1,3 @@
-use borrow.Author.Rules.{rules}
 use Rattle.ftd.proofs.Tests.{tests}
 use Rattle.fix.specs.Text.{length_text}
 use Rattle.fix.proofs.text.put_length.Goals as goal

@@ -1,4 +1,3 @@
-use borrow.Author.Rules.{rules}
 use Rattle.fix.proofs.text.put_one.Goals as goal
 
 pub returns : goal.returns

@@ -1,4 +1,3 @@
-use borrow.Author.Rules.{rules}
 use Rattle.fix.specs.Text.{sum_text}
 use Rattle.fix.proofs.text.put_sum.Goals as goal
 

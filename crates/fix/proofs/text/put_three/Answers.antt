@@ -1,5 +1,4 @@
 use native.Mathlib.Omega.{arith}
-use borrow.Author.Rules.{rules}
 use Rattle.fix.proofs.text.Turns.{then-put}
 use Rattle.fix.proofs.text.put_three.Goals as goal
 

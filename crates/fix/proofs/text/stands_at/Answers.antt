@@ -1,8 +1,4 @@
-use Prim.Native.Nat.{◌+◌, ◌-◌, ◌≤◌}
-use mathlib.Core.Path.{◌≡◌, refl}
 use borrow.Author.Rules.{rules}
-use lib.ListN.{length, drop}
-use Rattle.fix.specs.Text.{begins, stands_at}
 use Rattle.fix.proofs.text.Turns.{behind-all, longer-word, byte-differs, byte-same, word_over, word-start}
 use Rattle.fix.proofs.text.stands_at.Goals as goal
 

@@ -1,9 +1,7 @@
 use Prim.Native.Nat.{◌+◌, ◌-◌, ◌≤◌}
-use mathlib.Core.Path.{◌≡◌, refl}
-use borrow.Author.Rules.{rules}
+use mathlib.Core.Path.{◌≡◌}
 use lib.ListN.{length, drop}
 use Rattle.fix.specs.Text.{begins, stands_at}
-use Rattle.fix.proofs.text.Turns.{behind-all, longer-word, byte-differs, byte-same, word_over, word-start}
 use Rattle.fix.proofs.text.stands_at.Given as goal
 
 abbrev pub invariant-loop-i : goal.invariant-loop-i

@@ -1,9 +1,5 @@
-use Prim.Native.Nat.{◌+◌, ◌-◌, ◌%◌, ◌<◌, ◌≤◌}
-use mathlib.Core.Path.{◌≡◌, refl}
 use native.Mathlib.Omega.{arith}
 use borrow.Author.Rules.{rules}
-use lib.ListN.{length, drop}
-use Rattle.fix.specs.Text.{total, sum_of}
 use Rattle.fix.proofs.text.Turns.{sum-start, sum_more, sum_over}
 use Rattle.fix.proofs.text.sum_of.Goals as goal
 

@@ -1,10 +1,7 @@
 use Prim.Native.Nat.{◌+◌, ◌-◌, ◌%◌, ◌<◌, ◌≤◌}
-use mathlib.Core.Path.{◌≡◌, refl}
-use native.Mathlib.Omega.{arith}
-use borrow.Author.Rules.{rules}
+use mathlib.Core.Path.{◌≡◌}
 use lib.ListN.{length, drop}
 use Rattle.fix.specs.Text.{total, sum_of}
-use Rattle.fix.proofs.text.Turns.{sum-start, sum_more, sum_over}
 use Rattle.fix.proofs.text.sum_of.Given as goal
 
 abbrev pub invariant-loop-i : goal.invariant-loop-i

@@ -1,9 +1,5 @@
-use Prim.Native.Nat.{◌+◌, ◌-◌, ◌≤◌}
-use mathlib.Core.Path.{◌≡◌, refl}
-use native.Mathlib.Omega.{arith}
+use mathlib.Core.Path.{refl}
 use borrow.Author.Rules.{rules}
-use lib.ListN.{length, drop}
-use Rattle.fix.specs.Text.{until}
 use Rattle.fix.proofs.text.Turns.{found-count, not-here, none-count, until-behind}
 use Rattle.fix.proofs.text.until.Goals as goal
 

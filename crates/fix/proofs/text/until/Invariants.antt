@@ -1,10 +1,7 @@
 use Prim.Native.Nat.{◌+◌, ◌-◌, ◌≤◌}
-use mathlib.Core.Path.{◌≡◌, refl}
-use native.Mathlib.Omega.{arith}
-use borrow.Author.Rules.{rules}
+use mathlib.Core.Path.{◌≡◌}
 use lib.ListN.{length, drop}
 use Rattle.fix.specs.Text.{until}
-use Rattle.fix.proofs.text.Turns.{found-count, not-here, none-count, until-behind}
 use Rattle.fix.proofs.text.until.Given as goal
 
 abbrev pub invariant-loop-i : goal.invariant-loop-i

@@ -1,9 +1,7 @@
-use Prim.Native.Nat.{◌-◌, ◌≤◌}
 use mathlib.Core.Path.{refl}
-use mathlib.Core.List.{map}
 use borrow.Author.Rules.{rules}
 use Rattle.flow.specs.Checkpoints.{brought_back, restored}
-use Rattle.flow.proofs.common.Filled.{Filled, mapped-turn, mapped_end}
+use Rattle.flow.proofs.common.Filled.{mapped-turn, mapped_end}
 use Rattle.flow.proofs.receiver.Lookups.{eight}
 use Rattle.flow.proofs.checkpoint.bring_back.Goals as goal
 

@@ -1,10 +1,5 @@
-use Prim.Native.Nat.{◌-◌, ◌<◌, ◌≤◌}
-use native.Mathlib.Omega.{arith}
-use mathlib.Core.Path.{◌≡◌, refl}
 use borrow.Author.Rules.{rules}
-use lib.ListN.{length, drop}
-use Rattle.flow.specs.Checkpoints.{name_code}
-use Rattle.flow.proofs.checkpoint.Letters.{room, code-start, code-small, code-turn, room-turn, code-end}
+use Rattle.flow.proofs.checkpoint.Letters.{code-start, code-small, code-turn, room-turn, code-end}
 use Rattle.flow.proofs.checkpoint.name_code.Goals as goal
 
 pub loop-i-init : goal.loop-i-init

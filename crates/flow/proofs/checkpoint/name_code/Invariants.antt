@@ -1,10 +1,8 @@
 use Prim.Native.Nat.{◌-◌, ◌<◌, ◌≤◌}
-use native.Mathlib.Omega.{arith}
-use mathlib.Core.Path.{◌≡◌, refl}
-use borrow.Author.Rules.{rules}
+use mathlib.Core.Path.{◌≡◌}
 use lib.ListN.{length, drop}
 use Rattle.flow.specs.Checkpoints.{name_code}
-use Rattle.flow.proofs.checkpoint.Letters.{room, code-start, code-small, code-turn, room-turn, code-end}
+use Rattle.flow.proofs.checkpoint.Letters.{room}
 use Rattle.flow.proofs.checkpoint.name_code.Given as goal
 
 abbrev pub invariant-loop-i : goal.invariant-loop-i

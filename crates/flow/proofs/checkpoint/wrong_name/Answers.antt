@@ -1,9 +1,4 @@
-use Prim.Native.Nat.{◌-◌}
-use mathlib.Core.Path.{◌≡◌}
-use mathlib.Core.Bool.{not}
 use borrow.Author.Rules.{rules}
-use lib.ListN.{length, drop}
-use Rattle.flow.specs.Checkpoints.{all_letters, wrong_name}
 use Rattle.flow.proofs.checkpoint.Letters.{wrong-none, wrong-many, wrong-else}
 use Rattle.flow.proofs.checkpoint.Letters.{letter-below, letter-above, letter-turn, letter-end}
 use Rattle.flow.proofs.checkpoint.wrong_name.Goals as goal

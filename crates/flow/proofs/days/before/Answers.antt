@@ -1,4 +1,3 @@
-use borrow.Author.Rules.{rules}
 use Rattle.flow.proofs.days.before.Goals as goal
 
 pub returns-in-At-b : goal.returns-in-At-b

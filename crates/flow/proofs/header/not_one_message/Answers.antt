@@ -1,4 +1,3 @@
-use borrow.Author.Rules.{rules}
 use Rattle.flow.proofs.header.not_one_message.Goals as goal
 
 pub returns-then-not_one_packet : goal.returns-then-not_one_packet

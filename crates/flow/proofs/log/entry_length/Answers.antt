@@ -1,6 +1,5 @@
 use native.Mathlib.Omega.{arith}
 use lib.ListN.{length-append}
-use borrow.Author.Rules.{rules}
 use Rattle.flow.proofs.log.entry_length.Goals as goal
 
 pub overflow_add-result-2 : goal.overflow_add-result-2

@@ -1,12 +1,12 @@
-use Prim.Native.Nat.{◌-◌, ◌≤◌, ◌<◌}
-use mathlib.Core.Path.{◌≡◌, sym}
+use Prim.Native.Nat.{◌<◌}
+use mathlib.Core.Path.{sym}
 use mathlib.Core.List.{[]}
 use native.Mathlib.Omega.{arith}
 use borrow.Author.Rules.{rules}
-use lib.ListN.{length, drop, replicate}
+use lib.ListN.{replicate}
 use Rattle.ftd.specs.Runs.{run_of}
-use Rattle.flow.specs.Log.{entry, walk}
-use Rattle.flow.proofs.log.Walked.{walk_by, tracks-none, walk-by, walk-over, entry-part, walk-wrong, walk-wanted}
+use Rattle.flow.specs.Log.{entry}
+use Rattle.flow.proofs.log.Walked.{tracks-none, walk-by, walk-over, entry-part, walk-wrong, walk-wanted}
 use Rattle.flow.proofs.log.Walked.{walk_turn, passed-inside}
 use Rattle.flow.proofs.sender.Lookups.{eight}
 use Rattle.flow.proofs.log.walk_entries.Goals as goal

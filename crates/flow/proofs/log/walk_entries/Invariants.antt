@@ -1,14 +1,10 @@
-use Prim.Native.Nat.{◌-◌, ◌≤◌, ◌<◌}
-use mathlib.Core.Path.{◌≡◌, sym}
+use Prim.Native.Nat.{◌-◌, ◌≤◌}
+use mathlib.Core.Path.{◌≡◌}
 use mathlib.Core.List.{[]}
-use native.Mathlib.Omega.{arith}
-use borrow.Author.Rules.{rules}
-use lib.ListN.{length, drop, replicate}
+use lib.ListN.{length, drop}
 use Rattle.ftd.specs.Runs.{run_of}
 use Rattle.flow.specs.Log.{entry, walk}
-use Rattle.flow.proofs.log.Walked.{walk_by, tracks-none, walk-by, walk-over, entry-part, walk-wrong, walk-wanted}
-use Rattle.flow.proofs.log.Walked.{walk_turn, passed-inside}
-use Rattle.flow.proofs.sender.Lookups.{eight}
+use Rattle.flow.proofs.log.Walked.{walk_by}
 use Rattle.flow.proofs.log.walk_entries.Given as goal
 
 abbrev pub invariant-loop-e : goal.invariant-loop-e

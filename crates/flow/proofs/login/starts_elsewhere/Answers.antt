@@ -1,4 +1,3 @@
-use borrow.Author.Rules.{rules}
 use Rattle.flow.proofs.login.starts_elsewhere.Goals as goal
 
 pub returns-in-Next : goal.returns-in-Next

@@ -1,9 +1,6 @@
-use Prim.Native.Nat.{◌-◌}
-use mathlib.Core.Path.{◌≡◌, refl}
+use mathlib.Core.Path.{refl}
 use native.Mathlib.Omega.{arith}
 use borrow.Author.Rules.{rules}
-use lib.ListN.{length, take, drop}
-use Rattle.flow.specs.OrderHelpers.{messages_in}
 use Rattle.flow.proofs.order.Walked.{none_left, next-over, next-long, next_here, next_past}
 use Rattle.flow.proofs.order.next_of.Goals as goal
 

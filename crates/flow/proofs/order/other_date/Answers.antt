@@ -1,4 +1,3 @@
-use borrow.Author.Rules.{rules}
 use Rattle.flow.proofs.order.other_date.Goals as goal
 
 pub returns-in-At-b-2 : goal.returns-in-At-b-2

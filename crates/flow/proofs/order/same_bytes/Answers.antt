@@ -1,9 +1,6 @@
-use Prim.Native.Nat.{◌-◌, ◌≤◌}
-use mathlib.Core.Path.{◌≡◌, refl}
+use mathlib.Core.Path.{refl}
 use native.Mathlib.Omega.{arith}
 use borrow.Author.Rules.{rules}
-use lib.ListN.{length, drop}
-use Rattle.ftd.specs.Bench.{same}
 use Rattle.flow.proofs.order.Bytes.{same-lengths, same_turn, same_stop, same_end}
 use Rattle.flow.proofs.order.same_bytes.Goals as goal
 

@@ -1,12 +1,8 @@
 use Prim.Native.Nat.{suc, ◌-◌, ◌≤◌}
 use mathlib.Core.Path.{◌≡◌}
-use native.Mathlib.Omega.{arith}
-use borrow.Author.Rules.{rules}
 use lib.ListN.{take, drop}
 use Rattle.flow.specs.Order.{order_from}
 use Rattle.flow.specs.OrderHelpers.{messages_in}
-use Rattle.flow.proofs.order.Walked.{next-at, next-inside, next-part, next-left, next-fewer, both-begin}
-use Rattle.flow.proofs.order.Walked.{both-over, first-over, second-over, they_differ, they-agree}
 use Rattle.flow.proofs.order.side_by_side.Given as goal
 
 abbrev pub invariant-loop-start : goal.invariant-loop-start

@@ -1,4 +1,3 @@
-use borrow.Author.Rules.{rules}
 use Rattle.flow.proofs.receive.broken_chain.Goals as goal
 
 pub returns-then-live : goal.returns-then-live

@@ -1,9 +1,6 @@
-use Prim.Native.Nat.{◌-◌, ◌≤◌}
-use mathlib.Core.Path.{◌≡◌, refl}
-use mathlib.Core.List.{map}
+use mathlib.Core.Path.{refl}
 use borrow.Author.Rules.{rules}
-use lib.ListN.{length, take}
-use Rattle.flow.specs.Ends.{filled, new_kept}
+use Rattle.flow.specs.Ends.{new_kept}
 use Rattle.flow.proofs.series.Filled.{filled-turn, filled-end}
 use Rattle.flow.proofs.receiver.new_kept.Goals as goal
 

@@ -1,10 +1,8 @@
 use Prim.Native.Nat.{◌-◌, ◌≤◌}
-use mathlib.Core.Path.{◌≡◌, refl}
+use mathlib.Core.Path.{◌≡◌}
 use mathlib.Core.List.{map}
-use borrow.Author.Rules.{rules}
 use lib.ListN.{length, take}
 use Rattle.flow.specs.Ends.{filled, new_kept}
-use Rattle.flow.proofs.series.Filled.{filled-turn, filled-end}
 use Rattle.flow.proofs.receiver.new_kept.Given as goal
 
 abbrev pub invariant-loop-i : goal.invariant-loop-i

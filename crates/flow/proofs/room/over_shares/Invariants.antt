@@ -1,13 +1,10 @@
-use Prim.Native.Nat.{◌+◌, ◌-◌, ◌<◌, ◌≤◌}
-use mathlib.Core.Path.{◌≡◌, refl}
-use native.Mathlib.Omega.{arith}
-use borrow.Author.Rules.{rules}
-use lib.ListN.{get_or, drop}
+use Prim.Native.Nat.{◌-◌, ◌≤◌}
+use mathlib.Core.Path.{◌≡◌}
+use lib.ListN.{drop}
 use lib.Dec.{ltb}
-use Rattle.flow.specs.Ends.{no_series, sum_of}
+use Rattle.flow.specs.Ends.{sum_of}
 use Rattle.flow.specs.ShareHelpers.{shares_in}
-use Rattle.flow.proofs.room.Places.{shares, share-over, share-fits, used-fits, share-turn, shares-all, shares-end}
-use Rattle.flow.proofs.sender.Lookups.{places-eight}
+use Rattle.flow.proofs.room.Places.{shares}
 use Rattle.flow.proofs.room.over_shares.Given as goal
 
 abbrev pub invariant-loop-i : goal.invariant-loop-i

@@ -1,4 +1,3 @@
-use borrow.Author.Rules.{rules}
 use Rattle.ftd.proofs.Tests.{tests}
 use Rattle.flow.proofs.room.share.Goals as goal
 

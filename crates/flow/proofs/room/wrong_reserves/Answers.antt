@@ -1,10 +1,4 @@
-use Prim.Native.Nat.{◌-◌}
-use mathlib.Core.Path.{◌≡◌}
 use borrow.Author.Rules.{rules}
-use lib.ListN.{length, drop}
-use lib.Dec.{ltb}
-use Rattle.flow.specs.Ends.{sum_of}
-use Rattle.flow.specs.Serving.{wrong_reserves}
 use Rattle.flow.proofs.room.Sums.{reserves-count, reserves-else, sum_over, sum-turn, sum-end}
 use Rattle.flow.proofs.room.wrong_reserves.Goals as goal
 

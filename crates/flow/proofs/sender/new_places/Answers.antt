@@ -1,8 +1,5 @@
-use Prim.Native.Nat.{◌-◌, ◌≤◌}
-use mathlib.Core.Path.{◌≡◌, refl}
+use mathlib.Core.Path.{refl}
 use borrow.Author.Rules.{rules}
-use lib.ListN.{length, take}
-use Rattle.flow.specs.Ends.{filled, no_series, opened_series}
 use Rattle.flow.proofs.sender.Opening.{places-turn, places-end}
 use Rattle.flow.proofs.sender.new_places.Goals as goal
 

@@ -1,9 +1,7 @@
 use Prim.Native.Nat.{◌-◌, ◌≤◌}
-use mathlib.Core.Path.{◌≡◌, refl}
-use borrow.Author.Rules.{rules}
+use mathlib.Core.Path.{◌≡◌}
 use lib.ListN.{length, take}
 use Rattle.flow.specs.Ends.{filled, no_series, opened_series}
-use Rattle.flow.proofs.sender.Opening.{places-turn, places-end}
 use Rattle.flow.proofs.sender.new_places.Given as goal
 
 abbrev pub invariant-loop-i : goal.invariant-loop-i

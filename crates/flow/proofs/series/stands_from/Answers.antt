@@ -1,8 +1,5 @@
-use Prim.Native.Nat.{◌-◌}
-use mathlib.Core.Path.{◌≡◌, refl, sym, ◌∙◌}
+use mathlib.Core.Path.{refl}
 use borrow.Author.Rules.{rules}
-use lib.ListN.{length, drop}
-use Rattle.flow.specs.Ends.{member}
 use Rattle.flow.proofs.series.Rule.{member-here, member-turn, member-end}
 use Rattle.flow.proofs.series.stands_from.Goals as goal
 

@@ -1,9 +1,7 @@
 use Prim.Native.Nat.{◌-◌}
-use mathlib.Core.Path.{◌≡◌, refl, sym, ◌∙◌}
-use borrow.Author.Rules.{rules}
+use mathlib.Core.Path.{◌≡◌}
 use lib.ListN.{length, drop}
 use Rattle.flow.specs.Ends.{member}
-use Rattle.flow.proofs.series.Rule.{member-here, member-turn, member-end}
 use Rattle.flow.proofs.series.stands_from.Given as goal
 
 abbrev pub invariant-loop-i : goal.invariant-loop-i

@@ -1,10 +1,8 @@
 use Prim.Native.Nat.{◌-◌}
 use mathlib.Core.Path.{◌≡◌}
-use borrow.Author.Rules.{rules}
 use lib.ListN.{length, drop}
 use Rattle.flow.specs.Ends.{wrong_series}
-use Rattle.flow.proofs.series.Rule.{against, wrong-none, wrong-many, wrong-else}
-use Rattle.flow.proofs.series.Rule.{against-zero, against-twice, against-turn, against-end}
+use Rattle.flow.proofs.series.Rule.{against}
 use Rattle.flow.proofs.series.wrong_series.Given as goal
 
 abbrev pub invariant-loop-i : goal.invariant-loop-i

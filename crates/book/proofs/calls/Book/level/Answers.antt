@@ -1,7 +1,4 @@
-use borrow.Author.Rules.{rules}
-use mathlib.Core.Path.{◌≡◌, refl, sym, ap, ◌∙◌}
 use Rattle.book.specs.Calls.{level_of}
-use borrow.Author.Rules.{rules}
 use Rattle.book.proofs.calls.Book.level.Goals as goal
 
 pub returns-then-buying : goal.returns-then-buying

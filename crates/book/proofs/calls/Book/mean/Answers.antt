@@ -1,6 +1,4 @@
-use borrow.Author.Rules.{rules}
 use Rattle.book.specs.Calls.{book_mean}
-use borrow.Author.Rules.{rules}
 use Rattle.book.proofs.calls.Book.mean.Goals as goal
 
 pub returns : goal.returns

@@ -1,7 +1,4 @@
-use borrow.Author.Rules.{rules}
-use mathlib.Core.Path.{◌≡◌, ◌∙◌, ap}
 use Rattle.book.proofs.calls.Steps.{start-long, start-wrong, start_right, ten-put}
-use borrow.Author.Rules.{rules}
 use Rattle.book.proofs.calls.Book.start.Goals as goal
 
 pub returns-then-is_value : goal.returns-then-is_value

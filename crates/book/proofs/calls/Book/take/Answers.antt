@@ -1,6 +1,4 @@
-use borrow.Author.Rules.{rules}
 use Rattle.book.proofs.calls.Steps.{take-unfit, take-refused, take_done}
-use borrow.Author.Rules.{rules}
 use Rattle.book.proofs.calls.Book.take.Goals as goal
 
 pub returns-in-Refused : goal.returns-in-Refused

@@ -1,13 +1,9 @@
-use Prim.Native.Nat.{◌-◌, ◌≤◌}
 use native.Mathlib.Omega.{arith}
 use mathlib.Core.Path.{◌≡◌, refl}
-use mathlib.Core.Bool.{false}
-use mathlib.Core.List.{map}
 use borrow.Author.Rules.{rules}
-use lib.ListN.{length, take}
-use Rattle.flow.specs.Ends.{member}
+use lib.ListN.{length}
 use Rattle.flow.specs.Checkpoints.{used_names}
-use Rattle.flow.proofs.series.Places.{unmapped, place_here, place-turn, place_none, place_end}
+use Rattle.flow.proofs.series.Places.{place_here, place-turn, place_none, place_end}
 use Rattle.flow.proofs.checkpoint.Places.{name_in}
 use Rattle.flow.proofs.checkpoint.Checkpoints.find.Goals as goal
 

@@ -1,4 +1,3 @@
-use borrow.Author.Rules.{rules}
 use borrow.Author.Tests.{lt-ltb}
 use Rattle.ftd.proofs.Tests.{tests}
 use Rattle.flow.proofs.checkpoint.Checkpoints.keep_new.Goals as goal

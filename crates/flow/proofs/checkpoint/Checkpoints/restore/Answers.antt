@@ -1,7 +1,6 @@
 use mathlib.Core.Path.{◌≡◌}
 use borrow.Author.Rules.{rules}
 use lib.ListN.{length}
-use Rattle.flow.proofs.series.Places.{unmapped}
 use Rattle.flow.proofs.checkpoint.Letters.{right-few}
 use Rattle.flow.proofs.checkpoint.Places.{name-inside, name-scaled, restore-wrong, restore-unused, restore-used}
 use Rattle.flow.proofs.checkpoint.Checkpoints.restore.Goals as goal

@@ -1,4 +1,3 @@
-use borrow.Author.Rules.{rules}
 use Rattle.flow.specs.Receiving.{connect_of}
 use Rattle.flow.proofs.receiver.Receiver.connect.Goals as goal
 

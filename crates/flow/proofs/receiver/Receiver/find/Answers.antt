@@ -1,11 +1,8 @@
-use Prim.Native.Nat.{◌-◌, ◌≤◌}
 use mathlib.Core.Path.{◌≡◌, refl}
-use mathlib.Core.Bool.{false}
-use mathlib.Core.List.{map}
 use borrow.Author.Rules.{rules}
 use native.Mathlib.Omega.{arith}
-use lib.ListN.{length, take}
-use Rattle.flow.specs.Ends.{member, new_kept, is_open, kept_series}
+use lib.ListN.{length}
+use Rattle.flow.specs.Ends.{new_kept, is_open, kept_series}
 use Rattle.flow.proofs.series.Places.{place_here, place-turn, place_none, place_end}
 use Rattle.flow.proofs.receiver.Lookups.{kept_number, eight}
 use Rattle.flow.proofs.receiver.Receiver.find.Goals as goal

@@ -1,4 +1,3 @@
-use borrow.Author.Rules.{rules}
 use Rattle.flow.specs.Ends.{fresh_receiver}
 use Rattle.flow.proofs.receiver.Receiver.fresh.Goals as goal
 

@@ -1,10 +1,5 @@
-use Prim.Native.Nat.{◌-◌, ◌≤◌}
-use mathlib.Core.Path.{◌≡◌}
 use borrow.Author.Rules.{rules}
-use lib.ListN.{length, drop}
-use Rattle.ftd.specs.Runs.{run_of}
-use Rattle.ftd.specs.Chain.Laws.{packet_form}
-use Rattle.flow.specs.Several.{receiving, walk_over, receive_several_of}
+use Rattle.flow.specs.Several.{receiving}
 use Rattle.flow.proofs.several.Received.{some-packet, answer-in, stop-turn, on-turn}
 use Rattle.flow.proofs.several.Walks.{start-turn, rest-turn}
 use Rattle.flow.proofs.receiver.Receiver.receive_several.Goals as goal

@@ -1,4 +1,3 @@
-use borrow.Author.Rules.{rules}
 use Rattle.flow.proofs.sender.Sender.after_packet.Goals as goal
 
 pub returns-then-last : goal.returns-then-last

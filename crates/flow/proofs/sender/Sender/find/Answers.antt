@@ -1,11 +1,8 @@
-use Prim.Native.Nat.{◌-◌, ◌≤◌}
 use mathlib.Core.Path.{◌≡◌, refl}
-use mathlib.Core.Bool.{false}
-use mathlib.Core.List.{map}
 use borrow.Author.Rules.{rules}
 use native.Mathlib.Omega.{arith}
-use lib.ListN.{length, take}
-use Rattle.flow.specs.Ends.{member, no_series, is_served, day_series}
+use lib.ListN.{length}
+use Rattle.flow.specs.Ends.{no_series, is_served, day_series}
 use Rattle.flow.proofs.series.Places.{place_here, place-turn, place_none, place_end}
 use Rattle.flow.proofs.ends.SenderLookups.{number_in}
 use Rattle.flow.proofs.sender.Lookups.{eight}

@@ -1,5 +1,4 @@
 use Rattle.flow.proofs.sender.Sends.{next-unknown}
-use borrow.Author.Rules.{rules}
 use Rattle.flow.proofs.sender.Sender.find_next.Goals as goal
 
 pub next_at-requires : goal.next_at-requires

@@ -1,4 +1,3 @@
-use borrow.Author.Rules.{rules}
 use Rattle.flow.proofs.sender.Sender.message_of.Goals as goal
 
 pub returns : goal.returns

@@ -1,6 +1,5 @@
 use native.Mathlib.Omega.{arith}
 use mathlib.Core.List.{◌++◌}
-use borrow.Author.Rules.{rules}
 use Rattle.ftd.specs.declared.composition.Direction.TheVariants.{Down}
 use Rattle.flow.proofs.common.Contents.{content-length}
 use Rattle.flow.proofs.sender.Publishing.{publish-damaged, publish-small, publish-over, publish-within}

@@ -1,9 +1,5 @@
-use Prim.Native.Nat.{◌-◌, ◌≤◌}
-use mathlib.Core.Path.{◌≡◌}
 use borrow.Author.Rules.{rules}
-use lib.ListN.{length, drop}
-use Rattle.ftd.specs.Runs.{run_of}
-use Rattle.flow.specs.Several.{publishing, record_form, walk_over, publish_several_of}
+use Rattle.flow.specs.Several.{publishing}
 use Rattle.flow.proofs.several.Published.{some-record, none_here, ten-here, stop-turn, on-turn}
 use Rattle.flow.proofs.several.Walks.{start-turn, rest-turn}
 use Rattle.flow.proofs.sender.Sender.publish_several.Goals as goal

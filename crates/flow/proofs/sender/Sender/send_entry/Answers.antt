@@ -1,5 +1,4 @@
 use Rattle.flow.proofs.sender.Sends.{entry-sent, entry-small}
-use borrow.Author.Rules.{rules}
 use Rattle.flow.proofs.sender.Sender.send_entry.Goals as goal
 
 pub returns-in-Bytes : goal.returns-in-Bytes

@@ -1,6 +1,5 @@
 use mathlib.Core.Path.{refl}
 use Rattle.flow.proofs.sender.Sends.{piece-few, piece_sent, piece-none, piece-small}
-use borrow.Author.Rules.{rules}
 use Rattle.flow.proofs.sender.Sender.send_piece.Goals as goal
 
 pub after_packet-requires : goal.after_packet-requires
