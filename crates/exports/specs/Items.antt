@@ -1,5 +1,5 @@
 -- Items of a field as the numbers that C and Rust get and give (include/ftd.h); and modes.
-use Rattle.std.specs.Prelude.{ℕ, Bool, cond, not, eqb, ltb}
+use Rattle.std.specs.Prelude.{ℕ, cond, not, eqb, ltb}
 use Rattle.ftd.specs.declared.item.FieldItem.{FieldItem}
 use Rattle.ftd.specs.declared.item.FieldItem.TheVariants.{NoItem, NoValue, Char, Word, Int, Text, Number, Float, Date}
 use Rattle.ftd.specs.declared.dates.Date.{Date as DateValue}

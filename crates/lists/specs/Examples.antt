@@ -19,7 +19,7 @@ use Rattle.flow.specs.World.{InSeries, Event, open_sender, publish, login, send,
 use Rattle.flow.specs.World.{request_login, confirm_login, receive, broken, transmission, World, start, step, run}
 use Rattle.flow.specs.Agreement.{of, published_on, handed_on, reported, CaughtUp}
 use Rattle.flow.specs.PacketByPacket.{shown}
-use Rattle.flow.specs.Bench.{numbers, req_login, rsp_login, tid, note, message, space, at_last}
+use Rattle.flow.specs.Bench.{numbers, req_login, rsp_login, tid, note, space, at_last}
 
 -- ─── Contents ───
 

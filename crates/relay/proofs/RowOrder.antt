@@ -8,7 +8,6 @@ use mathlib.Core.Logic.{◌⊎◌, inl, inr}
 use mathlib.Core.Option.{some}
 use lib.ListN.{take}
 use Rattle.ftd.specs.declared.refusal.Refusal.TheVariants.{DamagedLog}
-use Rattle.ftd.specs.declared.tags.TradeDate.TheVariants.{At}
 use Rattle.flow.specs.declared.order.Order.{Order}
 use Rattle.flow.specs.declared.order.Order.TheVariants.{Same, FirstStarts, SecondStarts, Refused}
 use Rattle.flow.specs.Answers.{Message}
@@ -23,7 +22,7 @@ use Rattle.relay.specs.World.{line}
 use Rattle.relay.specs.Row.{RowBox, serving_of, LastEnd, line_in}
 use Rattle.relay.specs.RowAgreement.{Begins, OpenAt, order_at}
 use Rattle.relay.proofs.Rows.{GoodRow}
-use Rattle.relay.proofs.RowHalves.{timely-at, top-serving, agreed-at}
+use Rattle.relay.proofs.RowHalves.{timely-at, agreed-at}
 
 -- ─── Starts ───
 

@@ -1,8 +1,7 @@
 -- The box (02, No. 3; 4, 10 and 11): its state, fresh and looked up, and its calls. Each call is the call of an end of
 -- `flow`, and what the box adds: what comes in from above is published below, an answer's trade date opens a day there.
-use Rattle.std.specs.Prelude.{ℕ, List, [], ◌∷◌, Bool, true, false, not, ◌&&◌, length, get_or, set, take, replicate, ltb, eqb}
+use Rattle.std.specs.Prelude.{ℕ, List, [], ◌∷◌, Bool, true, not, ◌&&◌, length, get_or, set, take, replicate, ltb, eqb}
 use Rattle.ftd.specs.Packet.{dated_of}
-use Rattle.ftd.specs.Refusal.{number_of}
 use Rattle.ftd.specs.declared.refusal.Refusal.{Refusal}
 use Rattle.ftd.specs.declared.refusal.Refusal.TheVariants.{Opening, OtherDay, NoSeat}
 use Rattle.ftd.specs.declared.tags.TradeDate.{TradeDate}
@@ -28,7 +27,6 @@ use Rattle.flow.specs.declared.receiver.Confirmed.{Confirmed}
 use Rattle.flow.specs.declared.receiver.Confirmed.TheVariants.{Last}
 use Rattle.flow.specs.declared.receiver.Confirmed.TheVariants.{Refused as NotConfirmed}
 use Rattle.flow.specs.declared.receiver.Received.{Received}
-use Rattle.flow.specs.declared.receiver.Received.TheVariants.{Idle, Duplicate, Partial, Complete}
 use Rattle.flow.specs.declared.receiver.Received.TheVariants.{Refused as NotTaken}
 use Rattle.flow.specs.Ends.{◌when◌else◌, Left, Wrote, left, wrote, before, up_to, fresh_sender, fresh_receiver, kept_series}
 use Rattle.flow.specs.Ends.{kept_of, most_series, filled}

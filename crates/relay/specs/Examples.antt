@@ -1,11 +1,11 @@
 -- Worked examples of the box (02, No. 3), as lists of calls with the answers written down beside them. The box is opened
 -- with series 1 and 2. The program `boxcheck` makes more of them with the code.
-use Rattle.std.specs.Prelude.{ℕ, ◌+◌, List, [], ◌∷◌, ◌++◌, map, length, replicate, T}
+use Rattle.std.specs.Prelude.{ℕ, ◌+◌, List, [], ◌∷◌, ◌++◌, map, length, T}
 use Rattle.ftd.specs.Bytes.{bytes16, bytes32, joined}
 use Rattle.ftd.specs.Fields.{field_with}
 use Rattle.ftd.specs.Bench.{BenchRow, bench_row, all_same}
 use Rattle.flow.specs.Bench.{numbers, req_login, rsp_login, tid, message, space}
-use Rattle.flow.specs.Answers.{Said, refused, answered, sent, none, confirmed, idle, again, held, handed_on, login_said}
+use Rattle.flow.specs.Answers.{Said, refused, answered, sent, none, confirmed, again, held, handed_on, login_said}
 use Rattle.flow.specs.Answers.{sent_said, confirmed_said, received_said}
 use Rattle.relay.specs.State.{Box}
 use Rattle.relay.specs.Box.{fresh_box, open_box_of, connect_box_of, answer_of, receive_box_of, login_seat_of, send_seat_of}

@@ -1,7 +1,7 @@
 -- The state of the box (02, No. 3): the receiving end towards above with the reserves of its series (02, No. 11), the one
 -- day below, and what each of the 16 seats has of it. The code has the seats apart, as numbers that are lent: seat by
 -- seat, series by series in the opening's order, three numbers a place: logged in (not 0), next, piece.
-use Rattle.std.specs.Prelude.{ℕ, zero, suc, ◌+◌, ◌*◌, List, [], ◌∷◌, Bool, true, false, not, cond, get_or, set, replicate, eqb}
+use Rattle.std.specs.Prelude.{ℕ, zero, suc, ◌+◌, ◌*◌, List, [], ◌∷◌, Bool, not, cond, get_or, set, replicate, eqb}
 use Rattle.flow.specs.declared.sender.Day.{Day}
 use Rattle.flow.specs.declared.sender.Place.{Place}
 use Rattle.flow.specs.declared.sender.Seat.{Seat}

@@ -3,9 +3,9 @@ use Prim.Native.Nat.{ℕ, ◌+◌}
 use native.Mathlib.Omega.{arith}
 use mathlib.Core.Path.{◌≡◌, refl, sym, ap, ◌∙◌}
 use mathlib.Core.Bool.{Bool, true, false, not}
-use mathlib.Core.Option.{Option, none, some}
+use mathlib.Core.Option.{none, some}
 use lib.Dec.{eqb}
-use Rattle.ftd.specs.Follow.{NumberedLaw, Follows}
+use Rattle.ftd.specs.Follow.{Follows}
 use Rattle.ftd.proofs.Follow.{follows}
 use Rattle.fix.specs.declared.text.Number.{Number}
 use Rattle.fix.specs.declared.text.Number.TheVariants.{NoNumber, Is}
@@ -19,13 +19,12 @@ use Rattle.fix.specs.declared.read.Judged.{Judged}
 use Rattle.fix.specs.declared.read.Judged.TheVariants.{Refused, Next, Again, Gap, Reset}
 use Rattle.fix.specs.declared.read.Reading.{Reading}
 use Rattle.fix.specs.Read.{read_of}
-use Rattle.fix.specs.Follow.{Event, frame, set_to, number_if_next, is_set, frames}
+use Rattle.fix.specs.Follow.{Event, frame, set_to, number_if_next, is_set}
 use Rattle.fix.proofs.Follow.{frames-law}
-use Rattle.exports.specs.declared.frames.FtdReading.{FtdReading}
 use Rattle.exports.specs.declared.frames.FtdTagged.{FtdTagged}
 use Rattle.exports.specs.declared.frames.FtdNumber.{FtdNumber}
 use Rattle.exports.specs.Numbers.{flag}
-use Rattle.exports.specs.Frames.{kind_number, said_numbers, judged_numbers, reading_numbers, front_numbers, text_numbers}
+use Rattle.exports.specs.Frames.{kind_number, said_numbers, judged_numbers, front_numbers, text_numbers}
 use Rattle.exports.specs.Frames.Laws.{kind_for, message_for, TurnedAway, left_expected, told_next, took_next}
 use Rattle.exports.specs.Frames.Laws.{readings, FrameNumberLaws}
 

@@ -1,4 +1,3 @@
-use borrow.Author.Rules.{rules}
 use Rattle.exports.proofs.ftd_check.Goals as goal
 
 pub returns-in-Passed : goal.returns-in-Passed

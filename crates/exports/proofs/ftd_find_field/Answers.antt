@@ -1,4 +1,3 @@
-use borrow.Author.Rules.{rules}
 use Rattle.exports.proofs.ftd_find_field.Goals as goal
 
 pub returns-in-NoField : goal.returns-in-NoField

@@ -1,4 +1,3 @@
-use borrow.Author.Rules.{rules}
 use Rattle.exports.proofs.ftd_message_size.Goals as goal
 
 pub returns-in-Takes : goal.returns-in-Takes

@@ -1,7 +1,6 @@
 use mathlib.Core.Path.{refl, ap, ◌∙◌}
 use Rattle.ftd.proofs.packet.Laws.{judged-verdict, judged-parts}
 use Rattle.exports.specs.Numbers.{dated_numbers}
-use borrow.Author.Rules.{rules}
 use Rattle.exports.proofs.ftd_read.Goals as goal
 
 pub numbers-requires : goal.numbers-requires

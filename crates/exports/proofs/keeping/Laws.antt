@@ -1,6 +1,6 @@
 -- `CheckpointNumberLaws` holds. Assumes nothing.
 use Prim.Native.Nat.{ℕ}
-use mathlib.Core.Path.{◌≡◌, refl, ap, ◌∙◌}
+use mathlib.Core.Path.{◌≡◌, refl}
 use mathlib.Core.List.{List, [], ◌∷◌, map}
 use Rattle.flow.specs.declared.receiver.KeptSeries.{KeptSeries}
 use Rattle.flow.specs.declared.receiver.Receiver.{Receiver}
@@ -12,11 +12,8 @@ use Rattle.flow.specs.Checkpoints.{fresh_checkpoints, keep_of, restore_of, check
 use Rattle.flow.proofs.ends.ReceiverLookups.{Eight}
 use Rattle.flow.proofs.rewind.Restored.{restored-eight}
 use Rattle.flow.proofs.rewind.Linked.{Restores-as, restore-as, restores}
-use Rattle.exports.specs.declared.receiving.FtdReceiver.{FtdReceiver}
-use Rattle.exports.specs.declared.keeping.FtdCheckpoints.{FtdCheckpoints}
-use Rattle.exports.specs.Receiving.{receiver_for}
 use Rattle.exports.specs.Keeping.{kept_series_for, checkpoint_for, checkpoints_for, kept_series_numbers}
-use Rattle.exports.specs.Keeping.{checkpoint_numbers, checkpoints_numbers, kept_step_numbers, returned_numbers}
+use Rattle.exports.specs.Keeping.{checkpoint_numbers, checkpoints_numbers, returned_numbers}
 use Rattle.exports.specs.Keeping.Laws.{CheckpointNumberLaws}
 use Rattle.exports.specs.Laws.{ReceiverIs}
 use Rattle.exports.proofs.Laws.{date-back, receiver-is, eight-at}

@@ -1,5 +1,4 @@
 use Rattle.exports.specs.Numbers.{link_numbers}
-use borrow.Author.Rules.{rules}
 use Rattle.exports.proofs.link.Goals as goal
 
 pub returns : goal.returns

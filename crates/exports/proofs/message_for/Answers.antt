@@ -1,5 +1,4 @@
 use Rattle.exports.specs.Numbers.{message_for}
-use borrow.Author.Rules.{rules}
 use Rattle.exports.proofs.message_for.Goals as goal
 
 pub returns : goal.returns

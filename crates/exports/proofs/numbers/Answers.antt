@@ -1,7 +1,6 @@
 use mathlib.Core.Path.{◌∙◌}
 use native.Mathlib.Omega.{arith}
 use Rattle.ftd.proofs.packet.Laws.{link-told, skipped-told, message-told, message-room}
-use borrow.Author.Rules.{rules}
 use Rattle.exports.proofs.numbers.Goals as goal
 
 pub bounds-p-1 : goal.bounds-p-1

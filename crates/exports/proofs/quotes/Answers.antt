@@ -10,8 +10,6 @@ use Rattle.book.specs.declared.levels.Listed.TheVariants.{NoLevel, At}
 use Rattle.book.specs.declared.sums.Mean.{Mean}
 use Rattle.book.specs.declared.sums.Mean.TheVariants.{NoMean, Price}
 use Rattle.exports.specs.declared.quotes.FtdBook.{FtdBook}
-use Rattle.exports.specs.declared.quotes.FtdListed.{FtdListed}
-use Rattle.exports.specs.declared.quotes.FtdMean.{FtdMean}
 use Rattle.exports.specs.Quotes.{book_for, buying_for, level_numbers, mean_numbers}
 
 module _ (n : FtdBook) (b : Book) (e : b ≡ book_for n) where

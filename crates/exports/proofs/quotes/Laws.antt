@@ -1,11 +1,10 @@
 -- `BookNumberLaws` holds. Assumes nothing.
 use Prim.Native.Nat.{ℕ}
 use native.Mathlib.Omega.{arith}
-use mathlib.Core.Path.{◌≡◌, refl, sym, ap, ◌∙◌}
+use mathlib.Core.Path.{◌≡◌, refl, ap}
 use mathlib.Core.List.{List}
 use mathlib.Core.Bool.{Bool, true, false, cond}
 use lib.Dec.{eqb}
-use lib.IntN.{ℤ}
 use Rattle.book.specs.Calls.{start_of, take_of}
 use Rattle.book.specs.Event.{faced}
 use Rattle.book.specs.declared.calls.Book.{Book}

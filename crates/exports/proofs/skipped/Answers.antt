@@ -1,4 +1,3 @@
-use borrow.Author.Rules.{rules}
 use Rattle.exports.specs.Numbers.{skipped_numbers}
 use Rattle.exports.proofs.skipped.Goals as goal
 

@@ -1,12 +1,12 @@
 -- `CalendarNumberLaws` holds. Assumes nothing.
-use Prim.Native.Nat.{ℕ, ◌+◌, ◌-◌, ◌≤◌}
+use Prim.Native.Nat.{ℕ, ◌≤◌}
 use native.Mathlib.Omega.{arith}
-use mathlib.Core.Path.{◌≡◌, refl, sym, ◌∙◌}
-use mathlib.Core.List.{List, ◌++◌}
+use mathlib.Core.Path.{◌≡◌, refl}
+use mathlib.Core.List.{List}
 use mathlib.Core.Bool.{Bool, true, false, cond}
-use lib.ListN.{length, replicate, length-append, length-replicate}
+use lib.ListN.{length, length-append, length-replicate}
 use Rattle.ftd.specs.declared.refusal.Refusal.TheVariants.{Sessions, Holiday}
-use Rattle.calendar.specs.Calendar.{wrong_sessions, wrong_holidays, padded, fresh_calendar, step, set_of}
+use Rattle.calendar.specs.Calendar.{wrong_sessions, wrong_holidays, padded, step, set_of}
 use Rattle.calendar.specs.declared.trading.Calendar.{Calendar}
 use Rattle.calendar.specs.declared.trading.SetAnswer.TheVariants.{Done, Refused}
 use Rattle.calendar.proofs.trading.Laws.{few-sessions, few-holidays}

@@ -1,9 +1,9 @@
 -- Lines taken from the pieces of an input are its lines. Assumes nothing.
-use Prim.Native.Nat.{ℕ, zero, suc, ◌+◌, ◌-◌, ◌<◌, ◌≤◌}
+use Prim.Native.Nat.{ℕ, zero, suc, ◌+◌, ◌<◌, ◌≤◌}
 use native.Mathlib.Omega.{arith}
 use mathlib.Core.Path.{◌≡◌, refl, ap, sym, ◌∙◌}
 use mathlib.Core.List.{List, [], ◌∷◌, ◌++◌, map, append-nil, append_assoc, map-append}
-use mathlib.Core.Bool.{Bool, true, false, cond, not, ◌&&◌, ◌||◌}
+use mathlib.Core.Bool.{Bool, true, false, cond, ◌||◌}
 use mathlib.Core.Option.{Option, none, some}
 use borrow.Author.Tests.{ltb-true, ltb-false, eqb-true, lt-ltb, le-ltb}
 use lib.ListN.{length, take, drop, set, length-append, length-set, length-drop, drop_of_length-le}
@@ -11,7 +11,7 @@ use lib.Seq.{take-suc-set, drop-drop, append_snoc}
 use lib.Dec.{ltb, eqb}
 use Rattle.ftd.specs.Bytes.{joined}
 use Rattle.play.specs.Input.{LineTaken, line_taken, with_byte, with_one, take_from, take_line_of, Lined, lined, ahead}
-use Rattle.play.specs.Input.{lines_from, lines_of, ended, has_end, no_ends, shown_of, in_buffer, Reached, reached, behind}
+use Rattle.play.specs.Input.{lines_from, lines_of, ended, has_end, no_ends, shown_of, in_buffer, Reached, reached}
 use Rattle.play.specs.Input.{onward, over_piece, over_pieces, LineLaws}
 
 -- ─── What a buffer has of a line ───

@@ -2,13 +2,13 @@
 use Prim.Native.Nat.{ℕ, suc, ◌+◌, ◌<◌, ◌≤◌}
 use native.Mathlib.Omega.{arith}
 use mathlib.Core.Path.{◌≡◌, refl, ap, ◌∙◌}
-use mathlib.Core.List.{List, [], ◌∷◌}
-use mathlib.Core.Bool.{Bool, true, false, cond}
+use mathlib.Core.List.{List, ◌∷◌}
+use mathlib.Core.Bool.{true, false, cond}
 use borrow.Author.Tests.{lt-ltb, le-ltb, eq-eqb, ne_eqb}
 use lib.ListN.{length, get_or, drop, set, drop_of_length-le}
 use lib.Seq.{drop-cons}
-use lib.Dec.{ltb, eqb}
-use Rattle.play.specs.Input.{LineTaken, line_taken, with_byte, with_one, take_from, take_line_of}
+use lib.Dec.{eqb}
+use Rattle.play.specs.Input.{line_taken, with_byte, with_one, take_from, take_line_of}
 
 module _ (input : List ℕ) (i : ℕ) (line : List ℕ) (n : ℕ) where
   -- Nothing is left.

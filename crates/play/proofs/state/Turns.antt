@@ -12,7 +12,7 @@ use Rattle.flow.specs.declared.sender.Place.{Place}
 use Rattle.listing.specs.Text.{WroteText, decimal_of}
 use Rattle.listing.proofs.Numbers.{digits-most}
 use Rattle.listing.proofs.Texts.{wrote-both, put-none}
-use Rattle.play.specs.Lines.{numbered, none}
+use Rattle.play.specs.Lines.{none}
 use Rattle.play.specs.State.{date_text, lines_up_to, next_text, out_word, login_text, is_in, is_out}
 use Rattle.play.specs.State.{held_text, chain_text, no_chain}
 

@@ -2,8 +2,6 @@
 use Prim.Native.Nat.{ℕ}
 use mathlib.Core.Path.{◌≡◌}
 use mathlib.Core.List.{List}
-use Rattle.calendar.specs.declared.trading.Calendar.{Calendar}
-use Rattle.calendar.specs.declared.trading.SetAnswer.{SetAnswer}
 use Rattle.calendar.specs.declared.trading.SetStep.{SetStep}
 use Rattle.calendar.specs.declared.trading.TradeTime.{TradeTime}
 use Rattle.listing.specs.Text.{WroteText}

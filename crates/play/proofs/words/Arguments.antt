@@ -12,8 +12,8 @@ use lib.Seq.{drop-cons, set_at, append_snoc, take_at}
 use lib.Dec.{eqb, ltb}
 use Rattle.play.specs.Words.{up_to_space, end_of, number_in, says_bytes, next_end, end_at, argument, has_arguments}
 use Rattle.play.specs.Words.{all_bytes, numbers_behind, number_count, number_up_to, list_from}
-use Rattle.play.specs.Words.{most_named, series_in, reserve_in, says_share, series_at, shares_behind, share_count, reserve_at}
-use Rattle.play.specs.Words.{wide_number, same_word, has_name, name_in}
+use Rattle.play.specs.Words.{series_in, reserve_in, says_share, series_at, shares_behind, share_count, reserve_at}
+use Rattle.play.specs.Words.{same_word, has_name, name_in}
 use Rattle.play.specs.declared.words.Wide.{Wide}
 use Rattle.play.specs.declared.words.Wide.TheVariants.{Missing, Number}
 

@@ -3,7 +3,7 @@ use Prim.Native.Nat.{ℕ, ◌<◌, ◌≤◌, ◌*◌, ◌^◌}
 use native.Mathlib.Omega.{arith}
 use mathlib.Core.Path.{◌≡◌, refl, sym, ap, ◌∙◌}
 use mathlib.Core.List.{List}
-use mathlib.Core.Bool.{Bool, true, false, not, cond}
+use mathlib.Core.Bool.{Bool, true, false, cond}
 use lib.ListN.{length, get_or, set, replicate}
 use lib.Seq.{set-get_or, get_or-set_same}
 use lib.Dec.{ltb}
@@ -28,7 +28,7 @@ use Rattle.flow.specs.declared.sender.SentPacket.TheVariants.{Wrote as PacketSen
 use Rattle.flow.specs.declared.sender.SentPacket.TheVariants.{Refused as NotPacket}
 use Rattle.flow.specs.declared.sender.SendPacketStep.{SendPacketStep}
 use Rattle.ftd.specs.declared.refusal.Refusal.TheVariants.{NoSeat}
-use Rattle.flow.specs.Ends.{Wrote, no_place, fresh_sender, is_served, day_series, index_of, place_of, with_place}
+use Rattle.flow.specs.Ends.{Wrote, no_place, fresh_sender, is_served, day_series, index_of, with_place}
 use Rattle.flow.specs.Promises.{LogsIn, Sends, SendsPacket}
 use Rattle.flow.specs.Serving.{login_of, send_of, send_packet_of, after_packet, last_packet}
 use Rattle.flow.proofs.ends.SenderLookups.{Eight, served-index, served-next, place-next}

@@ -26,7 +26,6 @@ use Rattle.flow.specs.declared.receiver.Origin.TheVariants.{Packet as FromPacket
 use Rattle.flow.specs.declared.receiver.Received.{Received}
 use Rattle.flow.specs.declared.receiver.Received.TheVariants.{Idle, Duplicate, Partial, Complete}
 use Rattle.flow.specs.declared.receiver.Received.TheVariants.{Refused as NotTaken}
-use Rattle.flow.specs.declared.receiver.Target.{Target}
 use Rattle.flow.specs.declared.receiver.Target.TheVariants.{Nothing, At}
 use Rattle.flow.specs.declared.receiver.Decision.{Decision}
 use Rattle.flow.specs.Ends.{◌when◌else◌, Wrote, wrote, before, is_open, kept_of}
@@ -41,11 +40,11 @@ use Rattle.flow.proofs.pieces.Buffers.{part-put}
 use Rattle.relay.specs.declared.relay.Relay.{Relay}
 use Rattle.relay.specs.declared.relay.ReceiveStep.{ReceiveStep}
 use Rattle.relay.specs.State.{Box, box_for}
-use Rattle.relay.specs.Box.{box, no_seat, server_of, with_receiver, Relayed, relayed, ReceiveWay, late, published_way}
+use Rattle.relay.specs.Box.{box, no_seat, server_of, with_receiver, Relayed, relayed, late, published_way}
 use Rattle.relay.specs.Box.{handed_way, receive_way, receive_by, receive_box_of}
 use Rattle.relay.specs.Promises.{ReceivesBox}
 use Rattle.relay.specs.Helpers.{KeepsBy, handed_content, Hands}
-use Rattle.relay.proofs.Effects.{EndEffect, end-effect, Small, Reached}
+use Rattle.relay.proofs.Effects.{EndEffect, end-effect}
 
 -- ─── The box, by what the receiving end decided ───
 

@@ -3,7 +3,7 @@ use Prim.Native.Nat.{ℕ, zero, suc, ◌<◌, ◌≤◌}
 use native.Mathlib.Omega.{arith}
 use mathlib.Core.Path.{◌≡◌, refl, sym, ap, ◌∙◌}
 use mathlib.Core.List.{List, [], ◌∷◌, map}
-use mathlib.Core.Bool.{Bool, true, false, not, ◌||◌, ◌&&◌}
+use mathlib.Core.Bool.{Bool, true, false, not, ◌||◌}
 use borrow.Author.Tests.{eq-eqb, ne_eqb, ltb-false}
 use lib.ListN.{length, length-map, take, replicate}
 use lib.Seq.{length-take-le, take_all}
@@ -30,16 +30,15 @@ use Rattle.ftd.specs.declared.packet.Dated.{Dated}
 use Rattle.ftd.specs.Packet.{dated_of}
 use Rattle.flow.proofs.ends.SenderOpened.{opened_sender}
 use Rattle.flow.proofs.common.Bools.{or-neither}
-use Rattle.flow.specs.Ends.{◌when◌else◌, Left, left, filled, fresh_sender, fresh_receiver, kept_series, wrong_series, member, differing, no_place, up_to, before}
+use Rattle.flow.specs.Ends.{◌when◌else◌, Left, left, filled, fresh_sender, fresh_receiver, kept_series, wrong_series, member, differing, up_to, before}
 use Rattle.flow.specs.Answers.{confirmed_said}
 use Rattle.flow.specs.Promises.{OpensEnd, Connects, Asks, OpensDay, Confirms}
 use Rattle.flow.specs.Receiving.{open_end_of, confirm_login_of}
 use Rattle.flow.specs.Serving.{open_day_of, wrong_reserves}
 use Rattle.flow.proofs.series.Filled.{filled-end}
 use Rattle.relay.specs.declared.relay.Relay.{Relay}
-use Rattle.relay.specs.declared.relay.OpenStep.{OpenStep}
 use Rattle.relay.specs.declared.relay.ConfirmStep.{ConfirmStep}
-use Rattle.relay.specs.State.{box_for, no_numbers}
+use Rattle.relay.specs.State.{no_numbers}
 use Rattle.relay.specs.Box.{fresh_box, open_box_of, connect_box_of, ask_of, no_seat, confirm_past, server_of, reserves_of, AnswerWay, taken_way, answer_of, answer_way}
 use Rattle.relay.specs.Promises.{IsFresh, OpensBox, ConnectsBox, AsksBox, ConfirmsBox}
 use Rattle.relay.specs.Helpers.{AnsweredBy, opening_by, late_answer}

@@ -1,4 +1,3 @@
-use borrow.Author.Rules.{rules}
 use Rattle.exports.proofs.boxes.box_confirmed.Goals as goal
 
 pub returns-in-Last : goal.returns-in-Last

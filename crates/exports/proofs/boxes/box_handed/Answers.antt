@@ -1,4 +1,3 @@
-use borrow.Author.Rules.{rules}
 use Rattle.exports.proofs.boxes.box_handed.Goals as goal
 
 pub returns : goal.returns

@@ -1,4 +1,3 @@
-use borrow.Author.Rules.{rules}
 use Rattle.exports.proofs.boxes.box_received.Goals as goal
 
 pub returns-in-Idle : goal.returns-in-Idle

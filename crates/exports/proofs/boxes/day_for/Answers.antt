@@ -1,9 +1,7 @@
-use Prim.Native.Nat.{◌-◌, ◌≤◌}
 use mathlib.Core.Path.{refl}
-use mathlib.Core.List.{map}
 use borrow.Author.Rules.{rules}
 use Rattle.flow.proofs.series.Places.{unmapped}
-use Rattle.flow.proofs.common.Filled.{Filled, mapped-turn, mapped_end}
+use Rattle.flow.proofs.common.Filled.{mapped-turn, mapped_end}
 use Rattle.exports.specs.Boxes.{day_series_for, day_for}
 use Rattle.exports.proofs.boxes.day_for.Goals as goal
 
@@ -11,11 +9,10 @@ pub loop-i-init : goal.loop-i-init
 loop-i-init c = (search rules, (refl, refl))
 
 pub loop-i-preserved : goal.loop-i-preserved
-loop-i-preserved c =
-    (
-      search rules,
-      mapped-turn 8 day_series_for c.args.s.series (search (rules, unmapped)) c.loop-i.series c.loop-i.i _ c.loop-i.invariant.1 (search rules),
-    )
+loop-i-preserved c = (
+  search rules,
+  mapped-turn 8 day_series_for c.args.s.series (search (rules, unmapped)) c.loop-i.series c.loop-i.i _ c.loop-i.invariant.1 (search rules),
+)
 
 pub returns : goal.returns
 unfolding day_for

@@ -1,10 +1,7 @@
 use Prim.Native.Nat.{◌-◌, ◌≤◌}
-use mathlib.Core.Path.{refl}
 use mathlib.Core.List.{map}
-use borrow.Author.Rules.{rules}
-use Rattle.flow.proofs.series.Places.{unmapped}
-use Rattle.flow.proofs.common.Filled.{Filled, mapped-turn, mapped_end}
-use Rattle.exports.specs.Boxes.{day_series_for, day_for}
+use Rattle.flow.proofs.common.Filled.{Filled}
+use Rattle.exports.specs.Boxes.{day_series_for}
 use Rattle.exports.proofs.boxes.day_for.Given as goal
 
 abbrev pub invariant-loop-i : goal.invariant-loop-i

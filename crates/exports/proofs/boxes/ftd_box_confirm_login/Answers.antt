@@ -1,4 +1,3 @@
-use borrow.Author.Rules.{rules}
 use Rattle.exports.proofs.boxes.Calls.{confirm-numbers}
 use Rattle.exports.proofs.boxes.ftd_box_confirm_login.Goals as goal
 

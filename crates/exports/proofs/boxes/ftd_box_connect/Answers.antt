@@ -1,4 +1,3 @@
-use borrow.Author.Rules.{rules}
 use Rattle.exports.proofs.boxes.Calls.{connect-numbers}
 use Rattle.exports.proofs.boxes.ftd_box_connect.Goals as goal
 

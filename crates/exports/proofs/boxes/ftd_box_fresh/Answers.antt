@@ -1,4 +1,3 @@
-use borrow.Author.Rules.{rules}
 use Rattle.exports.proofs.boxes.Calls.{fresh-numbers}
 use Rattle.exports.proofs.boxes.ftd_box_fresh.Goals as goal
 

@@ -1,4 +1,3 @@
-use borrow.Author.Rules.{rules}
 use Rattle.exports.proofs.boxes.Calls.{open-numbers}
 use Rattle.exports.proofs.boxes.ftd_box_open.Goals as goal
 

@@ -1,4 +1,3 @@
-use borrow.Author.Rules.{rules}
 use Rattle.exports.proofs.boxes.Calls.{several-numbers}
 use Rattle.exports.proofs.boxes.ftd_box_receive_several.Goals as goal
 

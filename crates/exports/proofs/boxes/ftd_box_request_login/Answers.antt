@@ -1,4 +1,3 @@
-use borrow.Author.Rules.{rules}
 use Rattle.exports.proofs.boxes.Calls.{ask-numbers}
 use Rattle.exports.proofs.boxes.ftd_box_request_login.Goals as goal
 

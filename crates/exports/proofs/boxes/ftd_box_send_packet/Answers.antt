@@ -1,4 +1,3 @@
-use borrow.Author.Rules.{rules}
 use Rattle.exports.proofs.boxes.Calls.{packet-numbers}
 use Rattle.exports.proofs.boxes.ftd_box_send_packet.Goals as goal
 

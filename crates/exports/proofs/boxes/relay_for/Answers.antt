@@ -1,4 +1,3 @@
-use borrow.Author.Rules.{rules}
 use Rattle.exports.proofs.boxes.relay_for.Goals as goal
 
 pub returns : goal.returns

@@ -1,4 +1,3 @@
-use borrow.Author.Rules.{rules}
 use Rattle.exports.proofs.frames.front.Goals as goal
 
 pub returns-in-NoField : goal.returns-in-NoField

@@ -1,4 +1,3 @@
-use borrow.Author.Rules.{rules}
 use Rattle.exports.proofs.frames.ftd_frame_number.Goals as goal
 
 pub returns-in-NoNumber : goal.returns-in-NoNumber

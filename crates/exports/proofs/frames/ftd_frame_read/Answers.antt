@@ -1,4 +1,3 @@
-use borrow.Author.Rules.{rules}
 use Rattle.exports.proofs.frames.ftd_frame_read.Goals as goal
 
 pub returns : goal.returns

@@ -1,4 +1,3 @@
-use borrow.Author.Rules.{rules}
 use Rattle.exports.proofs.frames.ftd_frame_write.Goals as goal
 
 pub returns : goal.returns

@@ -1,6 +1,5 @@
 use Rattle.ftd.proofs.Tests.{tests}
 use Rattle.exports.specs.Items.{char_for}
-use borrow.Author.Rules.{rules}
 use Rattle.exports.proofs.items.char_for.Goals as goal
 
 pub returns-then-x-lt256 : goal.returns-then-x-lt256

@@ -1,4 +1,3 @@
-use borrow.Author.Rules.{rules}
 use Rattle.exports.proofs.items.date.Goals as goal
 
 pub returns-in-NoDate : goal.returns-in-NoDate

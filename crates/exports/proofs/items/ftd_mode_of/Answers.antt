@@ -1,4 +1,3 @@
-use borrow.Author.Rules.{rules}
 use Rattle.exports.proofs.items.ftd_mode_of.Goals as goal
 
 pub returns-in-Unknown : goal.returns-in-Unknown

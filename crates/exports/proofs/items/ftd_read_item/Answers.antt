@@ -1,4 +1,3 @@
-use borrow.Author.Rules.{rules}
 use Rattle.exports.proofs.items.ftd_read_item.Goals as goal
 
 pub returns : goal.returns

@@ -1,6 +1,5 @@
 use Rattle.ftd.proofs.Tests.{tests}
 use Rattle.exports.specs.Items.{int_for}
-use borrow.Author.Rules.{rules}
 use Rattle.exports.proofs.items.int_for.Goals as goal
 
 pub returns-then-x-lt4294967296 : goal.returns-then-x-lt4294967296

@@ -1,6 +1,5 @@
 use Rattle.ftd.proofs.Tests.{tests}
 use Rattle.exports.specs.Items.{item_for}
-use borrow.Author.Rules.{rules}
 use Rattle.exports.proofs.items.item_for.Goals as goal
 
 pub returns-then-x-eq0 : goal.returns-then-x-eq0

@@ -1,4 +1,3 @@
-use borrow.Author.Rules.{rules}
 use Rattle.exports.proofs.items.numbers.Goals as goal
 
 pub returns-in-NoItem : goal.returns-in-NoItem

@@ -1,6 +1,5 @@
 use Rattle.ftd.proofs.Tests.{tests}
 use Rattle.exports.specs.Items.{word_for}
-use borrow.Author.Rules.{rules}
 use Rattle.exports.proofs.items.word_for.Goals as goal
 
 pub returns-then-x-lt65536 : goal.returns-then-x-lt65536

@@ -1,9 +1,7 @@
-use Prim.Native.Nat.{◌-◌, ◌≤◌}
 use mathlib.Core.Path.{◌≡◌, refl}
-use mathlib.Core.List.{map}
 use borrow.Author.Rules.{rules}
 use lib.ListN.{length}
-use Rattle.flow.proofs.common.Filled.{Filled, mapped-turn, mapped_end}
+use Rattle.flow.proofs.common.Filled.{mapped-turn, mapped_end}
 use Rattle.flow.proofs.series.Places.{unmapped}
 use Rattle.exports.specs.Keeping.{checkpoint_numbers, checkpoints_numbers}
 use Rattle.exports.proofs.keeping.checkpoints_numbers.Goals as goal

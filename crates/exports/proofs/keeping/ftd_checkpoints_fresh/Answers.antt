@@ -1,4 +1,3 @@
-use borrow.Author.Rules.{rules}
 use Rattle.exports.proofs.keeping.ftd_checkpoints_fresh.Goals as goal
 
 pub returns : goal.returns

@@ -1,4 +1,3 @@
-use borrow.Author.Rules.{rules}
 use Rattle.exports.proofs.keeping.ftd_return.Goals as goal
 
 pub returns : goal.returns

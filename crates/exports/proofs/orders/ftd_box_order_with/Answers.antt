@@ -1,5 +1,4 @@
 use mathlib.Core.Path.{ap, ◌∙◌}
-use borrow.Author.Rules.{rules}
 use Rattle.exports.specs.Orders.{order_numbers}
 use Rattle.exports.proofs.orders.ftd_box_order_with.Goals as goal
 

@@ -1,4 +1,3 @@
-use borrow.Author.Rules.{rules}
 use Rattle.exports.proofs.orders.ordered.Goals as goal
 
 pub returns-in-Same : goal.returns-in-Same

@@ -1,4 +1,3 @@
-use borrow.Author.Rules.{rules}
 use Rattle.exports.proofs.quotes.ftd_book_fresh.Goals as goal
 
 pub returns : goal.returns

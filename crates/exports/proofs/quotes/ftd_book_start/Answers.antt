@@ -1,4 +1,3 @@
-use borrow.Author.Rules.{rules}
 use Rattle.exports.proofs.quotes.ftd_book_start.Goals as goal
 
 pub returns : goal.returns

@@ -1,4 +1,3 @@
-use borrow.Author.Rules.{rules}
 use Rattle.exports.proofs.receiving.ftd_connect.Goals as goal
 
 pub returns : goal.returns

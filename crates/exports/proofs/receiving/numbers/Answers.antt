@@ -1,4 +1,3 @@
-use borrow.Author.Rules.{rules}
 use Rattle.exports.proofs.receiving.numbers.Goals as goal
 
 pub returns : goal.returns

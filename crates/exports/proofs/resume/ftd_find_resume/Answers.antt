@@ -1,4 +1,3 @@
-use borrow.Author.Rules.{rules}
 use Rattle.exports.proofs.resume.ftd_find_resume.Goals as goal
 
 pub returns-in-Absent : goal.returns-in-Absent

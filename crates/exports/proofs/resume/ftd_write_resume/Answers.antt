@@ -1,4 +1,3 @@
-use borrow.Author.Rules.{rules}
 use Rattle.exports.proofs.resume.ftd_write_resume.Goals as goal
 
 pub returns : goal.returns

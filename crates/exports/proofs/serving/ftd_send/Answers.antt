@@ -1,4 +1,3 @@
-use borrow.Author.Rules.{rules}
 use Rattle.exports.proofs.serving.ftd_send.Goals as goal
 
 pub returns : goal.returns

@@ -1,4 +1,3 @@
-use borrow.Author.Rules.{rules}
 use Rattle.exports.proofs.serving.ftd_send_packet.Goals as goal
 
 pub returns : goal.returns

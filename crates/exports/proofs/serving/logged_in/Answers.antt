@@ -1,4 +1,3 @@
-use borrow.Author.Rules.{rules}
 use Rattle.exports.proofs.serving.logged_in.Goals as goal
 
 pub returns-in-Wrote : goal.returns-in-Wrote

@@ -1,10 +1,7 @@
 use Prim.Native.Nat.{◌-◌, ◌≤◌}
-use mathlib.Core.Path.{refl}
-use borrow.Author.Rules.{rules}
 use mathlib.Core.List.{map}
-use Rattle.flow.proofs.series.Places.{unmapped}
-use Rattle.exports.specs.Serving.{day_series_for, place_for, sender_for}
-use Rattle.flow.proofs.common.Filled.{Filled, mapped-turn, mapped_end}
+use Rattle.exports.specs.Serving.{day_series_for, place_for}
+use Rattle.flow.proofs.common.Filled.{Filled}
 use Rattle.exports.proofs.serving.sender_for.Given as goal
 
 abbrev pub invariant-loop-i : goal.invariant-loop-i

@@ -1,11 +1,8 @@
-use Prim.Native.Nat.{◌-◌, ◌≤◌}
 use mathlib.Core.Path.{◌≡◌, refl}
 use lib.ListN.{length}
 use borrow.Author.Rules.{rules}
 use Rattle.flow.proofs.series.Places.{unmapped}
-use Rattle.exports.specs.Numbers.{paired}
 use Rattle.exports.specs.Serving.{served_numbers, sender_numbers}
-use Rattle.flow.proofs.common.Filled.{Filled}
 use Rattle.exports.proofs.Filled.{paired-turn, paired-end}
 use Rattle.exports.proofs.serving.sender_numbers.Goals as goal
 

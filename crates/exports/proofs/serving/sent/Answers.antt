@@ -1,4 +1,3 @@
-use borrow.Author.Rules.{rules}
 use Rattle.exports.proofs.serving.sent.Goals as goal
 
 pub returns-in-Drained : goal.returns-in-Drained

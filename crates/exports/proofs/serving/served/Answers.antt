@@ -1,4 +1,3 @@
-use borrow.Author.Rules.{rules}
 use Rattle.exports.proofs.serving.served.Goals as goal
 
 pub returns : goal.returns

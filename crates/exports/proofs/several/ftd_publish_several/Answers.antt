@@ -1,4 +1,3 @@
-use borrow.Author.Rules.{rules}
 use Rattle.exports.proofs.several.ftd_publish_several.Goals as goal
 
 pub returns : goal.returns

@@ -1,4 +1,3 @@
-use borrow.Author.Rules.{rules}
 use Rattle.exports.proofs.several.published_several.Goals as goal
 
 pub returns-in-End : goal.returns-in-End

@@ -1,4 +1,3 @@
-use borrow.Author.Rules.{rules}
 use Rattle.exports.proofs.tags.ftd_keep_alive.Goals as goal
 
 pub returns-then-keep_alive : goal.returns-then-keep_alive

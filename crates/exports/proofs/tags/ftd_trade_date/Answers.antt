@@ -1,4 +1,3 @@
-use borrow.Author.Rules.{rules}
 use Rattle.exports.proofs.tags.ftd_trade_date.Goals as goal
 
 pub returns-in-None : goal.returns-in-None

@@ -1,4 +1,3 @@
-use borrow.Author.Rules.{rules}
 use Rattle.exports.proofs.trading.ftd_ask_calendar.Goals as goal
 
 pub returns-in-Outside : goal.returns-in-Outside

@@ -1,4 +1,3 @@
-use borrow.Author.Rules.{rules}
 use Rattle.exports.proofs.trading.ftd_calendar_fresh.Goals as goal
 
 pub returns : goal.returns

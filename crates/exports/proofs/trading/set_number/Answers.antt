@@ -1,4 +1,3 @@
-use borrow.Author.Rules.{rules}
 use Rattle.exports.proofs.trading.set_number.Goals as goal
 
 pub returns-in-Done : goal.returns-in-Done

@@ -1,7 +1,6 @@
 use borrow.Author.Rules.{rules}
 use Rattle.play.specs.Calls.{book_verb_of}
 use Rattle.play.proofs.calls.Rows.{found, passed}
-use Rattle.play.proofs.words.is_word.Reads as is-word-reads
 use Rattle.play.proofs.calls.book_verb_of.Goals as goal
 
 pub returns-then-is_word : goal.returns-then-is_word

@@ -1,4 +1,3 @@
-use borrow.Author.Rules.{rules}
 use Rattle.ftd.proofs.Tests.{tests}
 use Rattle.play.specs.Calls.{open_day_with}
 use Rattle.play.proofs.calls.open_day_with.Goals as goal

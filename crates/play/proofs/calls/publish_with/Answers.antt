@@ -1,4 +1,3 @@
-use borrow.Author.Rules.{rules}
 use Rattle.ftd.proofs.Tests.{tests}
 use Rattle.play.specs.Calls.{publish_with}
 use Rattle.play.proofs.calls.Rows.{holds, fails}

@@ -1,10 +1,7 @@
 use Prim.Native.Nat.{◌-◌, ◌≤◌}
-use native.Mathlib.Omega.{arith}
-use mathlib.Core.Path.{◌≡◌, sym, ◌∙◌}
-use borrow.Author.Rules.{rules}
-use lib.ListN.{length, length-set}
+use mathlib.Core.Path.{◌≡◌}
+use lib.ListN.{length}
 use Rattle.play.specs.Input.{take_line_of}
-use Rattle.play.proofs.input.Turns.{over, end, laid, too_long}
 use Rattle.play.proofs.input.take_line.Given as goal
 
 abbrev pub invariant-loop-i : goal.invariant-loop-i

@@ -1,8 +1,6 @@
-use Prim.Native.Nat.{◌+◌, ◌-◌, ◌≤◌}
-use mathlib.Core.List.{◌++◌}
-use mathlib.Core.Path.{◌≡◌, refl}
+use mathlib.Core.Path.{refl}
 use borrow.Author.Rules.{rules}
-use lib.ListN.{length-set, length, drop, replicate}
+use lib.ListN.{length-set}
 use Rattle.play.proofs.player.Turns.{clear-turn, clear-over}
 use Rattle.play.proofs.player.clear.Goals as goal
 

@@ -1,9 +1,7 @@
-use Prim.Native.Nat.{◌+◌, ◌-◌, ◌≤◌}
+use Prim.Native.Nat.{◌-◌, ◌≤◌}
 use mathlib.Core.List.{◌++◌}
-use mathlib.Core.Path.{◌≡◌, refl}
-use borrow.Author.Rules.{rules}
-use lib.ListN.{length-set, length, drop, replicate}
-use Rattle.play.proofs.player.Turns.{clear-turn, clear-over}
+use mathlib.Core.Path.{◌≡◌}
+use lib.ListN.{length, drop, replicate}
 use Rattle.play.proofs.player.clear.Given as goal
 
 abbrev pub invariant-loop-i : goal.invariant-loop-i

@@ -1,7 +1,5 @@
 use borrow.Author.Rules.{rules}
 use Rattle.play.proofs.prices.Lines.{level-none, level-at}
-use Rattle.play.proofs.prices.pair_line.Reads as pair-line-reads
-use Rattle.play.proofs.text.word_line.Reads as word-line-reads
 use Rattle.play.proofs.prices.level_line.Goals as goal
 
 pub returns-in-NoLevel : goal.returns-in-NoLevel

@@ -1,7 +1,5 @@
 use borrow.Author.Rules.{rules}
 use Rattle.play.proofs.prices.Lines.{mean-none, mean-price}
-use Rattle.play.proofs.prices.price_line.Reads as price-line-reads
-use Rattle.play.proofs.text.word_line.Reads as word-line-reads
 use Rattle.play.proofs.prices.mean_line.Goals as goal
 
 pub returns-in-NoMean : goal.returns-in-NoMean

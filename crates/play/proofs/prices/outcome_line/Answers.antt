@@ -1,7 +1,5 @@
 use borrow.Author.Rules.{rules}
 use Rattle.play.proofs.prices.Lines.{outcome-done, outcome-not}
-use Rattle.play.proofs.text.refused_line.Reads as refused-line-reads
-use Rattle.play.proofs.text.word_line.Reads as word-line-reads
 use Rattle.play.proofs.prices.outcome_line.Goals as goal
 
 pub returns-in-Done : goal.returns-in-Done

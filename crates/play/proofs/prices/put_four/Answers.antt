@@ -1,7 +1,5 @@
-use borrow.Author.Rules.{rules}
 use native.Mathlib.Omega.{arith}
 use Rattle.play.proofs.prices.Lines.{four-digits}
-use Rattle.play.proofs.prices.put_digit.Reads as put-digit-reads
 use Rattle.play.proofs.prices.put_four.Goals as goal
 
 pub returns : goal.returns

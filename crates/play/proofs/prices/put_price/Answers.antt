@@ -3,9 +3,6 @@ use native.Mathlib.Omega.{arith}
 use mir.Syntax.{w64}
 use mir.ValLaws.{to_z-of_z}
 use Rattle.play.proofs.prices.Lines.{price-below, price-above}
-use Rattle.listing.proofs.put_byte.Reads as put-byte-reads
-use Rattle.play.proofs.prices.put_units.Reads as put-units-reads
-use Rattle.play.proofs.prices.size_of.Reads as size-of-reads
 use Rattle.play.proofs.prices.put_price.Goals as goal
 
 pub returns-then-price-lt0 : goal.returns-then-price-lt0

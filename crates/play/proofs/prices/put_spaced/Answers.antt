@@ -1,4 +1,3 @@
-use borrow.Author.Rules.{rules}
 use native.Mathlib.Omega.{arith}
 use Rattle.listing.proofs.Numbers.{digits-most}
 use Rattle.listing.proofs.Texts.{wrote-both}

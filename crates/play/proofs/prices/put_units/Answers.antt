@@ -1,11 +1,7 @@
-use borrow.Author.Rules.{rules}
 use Prim.Native.Nat.{◌/◌}
 use native.Mathlib.Omega.{arith}
 use Rattle.listing.proofs.Numbers.{digits-most}
 use Rattle.play.proofs.prices.Lines.{units-text}
-use Rattle.listing.proofs.put_byte.Reads as put-byte-reads
-use Rattle.listing.proofs.put_decimal.Reads as put-decimal-reads
-use Rattle.play.proofs.prices.put_four.Reads as put-four-reads
 use Rattle.play.proofs.prices.put_units.Goals as goal
 
 pub put_decimal-n-requires : goal.put_decimal-n-requires

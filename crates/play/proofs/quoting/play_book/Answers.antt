@@ -1,9 +1,6 @@
 use borrow.Author.Rules.{rules}
 use Rattle.play.proofs.words.Parts.{taken, said-room, said-part, said-front}
 use Rattle.play.proofs.quoting.Shown.{start-played}
-use Rattle.play.proofs.quoting.start_book.Reads as start-book-reads
-use Rattle.play.proofs.words.argument.Reads as argument-reads
-use Rattle.play.proofs.words.put_bytes.Reads as put-bytes-reads
 use Rattle.play.proofs.quoting.play_book.Goals as goal
 
 pub put_bytes-n-requires : goal.put_bytes-n-requires

@@ -1,7 +1,5 @@
 use borrow.Author.Rules.{rules}
 use Rattle.play.proofs.quoting.Shown.{mean-is}
-use Rattle.book.proofs.calls.Book.mean.Reads as mean-reads
-use Rattle.play.proofs.prices.mean_line.Reads as mean-line-reads
 use Rattle.play.proofs.quoting.show_mean.Goals as goal
 
 pub returns : goal.returns

@@ -1,14 +1,10 @@
 use Prim.Native.Nat.{◌-◌, ◌*◌, ◌≤◌}
 use mathlib.Core.Path.{◌≡◌}
-use borrow.Author.Rules.{rules}
 use lib.ListN.{length, drop}
 use Rattle.ftd.specs.Runs.{run_of}
 use Rattle.flow.specs.Several.{publishing, record_form, walk_over, publish_several_of}
-use Rattle.flow.proofs.several.Published.{some-record, none_here, ten-here, stop-turn, on-turn}
-use Rattle.flow.proofs.several.Walks.{start-turn, rest-turn}
 use Rattle.play.specs.Several.{lines_over, record_line, published_lines}
-use Rattle.play.proofs.several.Lines.{Completes, lines_start, lines_rest}
-use Rattle.play.proofs.several.Received.{record-room, refused-lines, number-lines}
+use Rattle.play.proofs.several.Lines.{Completes}
 use Rattle.play.proofs.several.publish_records.Given as goal
 
 abbrev pub invariant-loop-end : goal.invariant-loop-end

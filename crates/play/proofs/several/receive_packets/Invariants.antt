@@ -1,16 +1,12 @@
 use Prim.Native.Nat.{◌-◌, ◌*◌, ◌≤◌}
 use mathlib.Core.Path.{◌≡◌}
-use borrow.Author.Rules.{rules}
 use lib.ListN.{length, drop}
 use Rattle.ftd.specs.Runs.{run_of}
 use Rattle.ftd.specs.Chain.Laws.{packet_form}
 use Rattle.flow.specs.Several.{receiving, walk_over, receive_several_of}
-use Rattle.flow.proofs.several.Received.{some-packet, answer-in, stop-turn, on-turn}
-use Rattle.flow.proofs.several.Walks.{start-turn, rest-turn}
 use Rattle.play.specs.Lines.{received_line}
 use Rattle.play.specs.Several.{lines_over, received_lines}
-use Rattle.play.proofs.several.Lines.{Completes, lines_start, lines_rest}
-use Rattle.play.proofs.several.Received.{on_room, packet-fits, stop-lines, on-lines}
+use Rattle.play.proofs.several.Lines.{Completes}
 use Rattle.play.proofs.several.receive_packets.Given as goal
 
 abbrev pub invariant-loop-end : goal.invariant-loop-end

@@ -1,10 +1,7 @@
 use borrow.Author.Rules.{rules}
 use native.Mathlib.Omega.{arith}
-use Prim.Native.Nat.{◌+◌, ◌-◌, ◌*◌, ◌≤◌}
-use mathlib.Core.Path.{◌≡◌, refl}
-use lib.ListN.{length}
-use Rattle.listing.specs.Text.{WroteText}
-use Rattle.play.specs.State.{kept_at, lines_up_to, kept_lines}
+use mathlib.Core.Path.{refl}
+use Rattle.play.specs.State.{kept_at, kept_lines}
 use Rattle.play.proofs.state.Turns.{lines-first, lines-turn, lines-over}
 use Rattle.play.proofs.state.put_all_kept.Goals as goal
 

@@ -1,11 +1,8 @@
-use borrow.Author.Rules.{rules}
-use native.Mathlib.Omega.{arith}
 use Prim.Native.Nat.{◌+◌, ◌-◌, ◌*◌, ◌≤◌}
-use mathlib.Core.Path.{◌≡◌, refl}
+use mathlib.Core.Path.{◌≡◌}
 use lib.ListN.{length}
 use Rattle.listing.specs.Text.{WroteText}
-use Rattle.play.specs.State.{checkpoint_at, lines_up_to, all_checkpoints}
-use Rattle.play.proofs.state.Turns.{lines-first, lines-turn, lines-over}
+use Rattle.play.specs.State.{checkpoint_at, lines_up_to}
 use Rattle.play.proofs.state.put_checkpoints.Given as goal
 
 abbrev pub invariant-loop-i : goal.invariant-loop-i

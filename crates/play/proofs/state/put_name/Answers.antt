@@ -1,9 +1,6 @@
 use borrow.Author.Rules.{rules}
-use native.Mathlib.Omega.{arith}
-use Prim.Native.Nat.{◌+◌, ◌-◌, ◌≤◌}
-use mathlib.Core.Path.{◌≡◌, refl}
-use lib.ListN.{length}
-use Rattle.play.proofs.state.Names.{Left, letters-first, letters-turn, letters-zero, letters-over}
+use mathlib.Core.Path.{refl}
+use Rattle.play.proofs.state.Names.{letters-first, letters-turn, letters-zero, letters-over}
 use Rattle.play.proofs.state.put_name.Goals as goal
 
 pub loop-i-init : goal.loop-i-init

@@ -1,9 +1,7 @@
-use borrow.Author.Rules.{rules}
-use native.Mathlib.Omega.{arith}
 use Prim.Native.Nat.{◌+◌, ◌-◌, ◌≤◌}
-use mathlib.Core.Path.{◌≡◌, refl}
+use mathlib.Core.Path.{◌≡◌}
 use lib.ListN.{length}
-use Rattle.play.proofs.state.Names.{Left, letters-first, letters-turn, letters-zero, letters-over}
+use Rattle.play.proofs.state.Names.{Left}
 use Rattle.play.proofs.state.put_name.Given as goal
 
 abbrev pub invariant-loop-i : goal.invariant-loop-i

@@ -1,10 +1,7 @@
-use Prim.Native.Nat.{◌+◌, ◌-◌, ◌*◌, ◌≤◌}
-use mathlib.Core.Path.{◌≡◌, refl}
+use mathlib.Core.Path.{refl}
 use native.Mathlib.Omega.{arith}
 use borrow.Author.Rules.{rules}
-use lib.ListN.{length, take}
 use Rattle.listing.proofs.Texts.{put-none}
-use Rattle.listing.specs.Text.{WroteText}
 use Rattle.play.specs.Lines.{hex_bytes}
 use Rattle.play.proofs.text.Turns.{pairs-turn, pairs-over}
 use Rattle.play.proofs.text.put_pairs.Goals as goal

@@ -1,7 +1,4 @@
 use borrow.Author.Rules.{rules}
-use Prim.Native.Nat.{◌+◌, ◌-◌, ◌≤◌}
-use mathlib.Core.Path.{◌≡◌}
-use Rattle.play.specs.Words.{all_bytes}
 use Rattle.play.proofs.words.Arguments.{bytes-first, bytes-more, bytes-wrong, all-over}
 use Rattle.play.proofs.words.all_bytes.Goals as goal
 

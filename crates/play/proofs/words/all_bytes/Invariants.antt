@@ -1,8 +1,6 @@
-use borrow.Author.Rules.{rules}
 use Prim.Native.Nat.{◌+◌, ◌-◌, ◌≤◌}
 use mathlib.Core.Path.{◌≡◌}
 use Rattle.play.specs.Words.{all_bytes}
-use Rattle.play.proofs.words.Arguments.{bytes-first, bytes-more, bytes-wrong, all-over}
 use Rattle.play.proofs.words.all_bytes.Given as goal
 
 abbrev pub invariant-loop-j : goal.invariant-loop-j

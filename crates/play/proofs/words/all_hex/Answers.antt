@@ -1,8 +1,4 @@
-use Prim.Native.Nat.{◌-◌, ◌≤◌}
-use mathlib.Core.Path.{◌≡◌}
 use borrow.Author.Rules.{rules}
-use lib.ListN.{length, drop}
-use Rattle.play.specs.Words.{all_hex}
 use Rattle.play.proofs.words.Turns.{hex-wrong, hex-more, hex-over}
 use Rattle.play.proofs.words.all_hex.Goals as goal
 

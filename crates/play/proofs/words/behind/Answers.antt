@@ -1,5 +1,4 @@
 use native.Mathlib.Omega.{arith}
-use borrow.Author.Rules.{rules}
 use Rattle.play.proofs.words.Turns.{scaled}
 use Rattle.play.proofs.words.behind.Goals as goal
 

@@ -1,8 +1,4 @@
 use borrow.Author.Rules.{rules}
-use Prim.Native.Nat.{◌+◌, ◌-◌, ◌≤◌}
-use mathlib.Core.Path.{◌≡◌}
-use lib.ListN.{length, drop}
-use Rattle.play.specs.Words.{up_to_colon}
 use Rattle.play.proofs.words.Turns.{colon-first, colon-here, no-colon, colon-over}
 use Rattle.play.proofs.words.colon_at.Goals as goal
 

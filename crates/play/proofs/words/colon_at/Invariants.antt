@@ -1,9 +1,7 @@
-use borrow.Author.Rules.{rules}
 use Prim.Native.Nat.{◌+◌, ◌-◌, ◌≤◌}
 use mathlib.Core.Path.{◌≡◌}
 use lib.ListN.{length, drop}
 use Rattle.play.specs.Words.{up_to_colon}
-use Rattle.play.proofs.words.Turns.{colon-first, colon-here, no-colon, colon-over}
 use Rattle.play.proofs.words.colon_at.Given as goal
 
 abbrev pub invariant-loop-i : goal.invariant-loop-i

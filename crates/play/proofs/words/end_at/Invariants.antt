@@ -1,9 +1,7 @@
-use borrow.Author.Rules.{rules}
 use Prim.Native.Nat.{◌+◌, ◌-◌, ◌≤◌}
 use mathlib.Core.Path.{◌≡◌}
 use lib.ListN.{length}
 use Rattle.play.specs.Words.{end_at}
-use Rattle.play.proofs.words.Arguments.{end-first, end-turn, end-over}
 use Rattle.play.proofs.words.end_at.Given as goal
 
 abbrev pub invariant-loop-k : goal.invariant-loop-k

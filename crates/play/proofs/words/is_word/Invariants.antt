@@ -1,9 +1,7 @@
 use Prim.Native.Nat.{◌-◌, ◌≤◌}
-use mathlib.Core.Path.{◌≡◌, refl}
-use borrow.Author.Rules.{rules}
+use mathlib.Core.Path.{◌≡◌}
 use lib.ListN.{length, drop}
 use Rattle.play.specs.Words.{same_word}
-use Rattle.play.proofs.words.Turns.{word-longer, word-differs, word_more, word_over}
 use Rattle.play.proofs.words.is_word.Given as goal
 
 abbrev pub invariant-loop-i : goal.invariant-loop-i

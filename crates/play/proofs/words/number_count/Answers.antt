@@ -1,7 +1,4 @@
 use borrow.Author.Rules.{rules}
-use Prim.Native.Nat.{◌+◌, ◌-◌, ◌≤◌}
-use mathlib.Core.Path.{◌≡◌}
-use Rattle.play.specs.Words.{numbers_behind, number_count}
 use Rattle.play.proofs.words.Arguments.{count-first, count-more, count-end, count-wrong, count-over}
 use Rattle.play.proofs.words.number_count.Goals as goal
 

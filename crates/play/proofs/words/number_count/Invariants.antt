@@ -1,8 +1,6 @@
-use borrow.Author.Rules.{rules}
 use Prim.Native.Nat.{◌+◌, ◌-◌, ◌≤◌}
 use mathlib.Core.Path.{◌≡◌}
 use Rattle.play.specs.Words.{numbers_behind, number_count}
-use Rattle.play.proofs.words.Arguments.{count-first, count-more, count-end, count-wrong, count-over}
 use Rattle.play.proofs.words.number_count.Given as goal
 
 abbrev pub invariant-loop-n : goal.invariant-loop-n

@@ -1,9 +1,6 @@
-use Prim.Native.Nat.{◌-◌, ◌/◌, ◌≤◌}
-use mathlib.Core.Path.{◌≡◌, refl}
+use mathlib.Core.Path.{refl}
 use borrow.Author.Rules.{rules}
-use lib.ListN.{length-set, length}
-use lib.Seq.{paste}
-use Rattle.play.specs.Words.{said_bytes}
+use lib.ListN.{length-set}
 use Rattle.play.proofs.words.Turns.{bytes-start, bytes-turn, bytes-over, length-bytes}
 use Rattle.play.proofs.words.put_bytes.Goals as goal
 

@@ -1,10 +1,8 @@
 use Prim.Native.Nat.{◌-◌, ◌/◌, ◌≤◌}
-use mathlib.Core.Path.{◌≡◌, refl}
-use borrow.Author.Rules.{rules}
-use lib.ListN.{length-set, length}
+use mathlib.Core.Path.{◌≡◌}
+use lib.ListN.{length}
 use lib.Seq.{paste}
 use Rattle.play.specs.Words.{said_bytes}
-use Rattle.play.proofs.words.Turns.{bytes-start, bytes-turn, bytes-over, length-bytes}
 use Rattle.play.proofs.words.put_bytes.Given as goal
 
 abbrev pub invariant-loop-i : goal.invariant-loop-i

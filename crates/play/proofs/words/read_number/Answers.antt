@@ -1,9 +1,6 @@
-use Prim.Native.Nat.{◌-◌, ◌<◌, ◌≤◌}
-use mathlib.Core.Path.{◌≡◌}
 use borrow.Author.Rules.{rules}
-use lib.ListN.{length, drop}
 use Rattle.ftd.proofs.Tests.{tests}
-use Rattle.play.specs.Words.{digits_from, number_in}
+use Rattle.play.specs.Words.{number_in}
 use Rattle.play.proofs.words.Turns.{number-some, no_digit, too-high, digit-more, digits-over}
 use Rattle.play.proofs.words.read_number.Goals as goal
 

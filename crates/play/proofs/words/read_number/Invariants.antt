@@ -1,10 +1,7 @@
 use Prim.Native.Nat.{◌-◌, ◌<◌, ◌≤◌}
 use mathlib.Core.Path.{◌≡◌}
-use borrow.Author.Rules.{rules}
 use lib.ListN.{length, drop}
-use Rattle.ftd.proofs.Tests.{tests}
 use Rattle.play.specs.Words.{digits_from, number_in}
-use Rattle.play.proofs.words.Turns.{number-some, no_digit, too-high, digit-more, digits-over}
 use Rattle.play.proofs.words.read_number.Given as goal
 
 abbrev pub invariant-loop-i : goal.invariant-loop-i

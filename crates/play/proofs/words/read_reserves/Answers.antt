@@ -1,10 +1,8 @@
 use borrow.Author.Rules.{rules}
 use native.Mathlib.Omega.{arith}
-use Prim.Native.Nat.{◌-◌, ◌≤◌}
-use mathlib.Core.Path.{◌≡◌, refl}
-use mathlib.Core.List.{◌++◌}
-use lib.ListN.{length, length-set, drop}
-use Rattle.play.specs.Words.{reserve_at, reserves_from}
+use mathlib.Core.Path.{refl}
+use lib.ListN.{length-set}
+use Rattle.play.specs.Words.{reserve_at}
 use Rattle.play.proofs.words.Arguments.{list-first, list-turn, list_over}
 use Rattle.play.proofs.words.read_reserves.Goals as goal
 

@@ -1,11 +1,8 @@
-use borrow.Author.Rules.{rules}
-use native.Mathlib.Omega.{arith}
 use Prim.Native.Nat.{◌-◌, ◌≤◌}
-use mathlib.Core.Path.{◌≡◌, refl}
+use mathlib.Core.Path.{◌≡◌}
 use mathlib.Core.List.{◌++◌}
-use lib.ListN.{length, length-set, drop}
-use Rattle.play.specs.Words.{series_at, series_from}
-use Rattle.play.proofs.words.Arguments.{list-first, list-turn, list_over}
+use lib.ListN.{length, drop}
+use Rattle.play.specs.Words.{series_from}
 use Rattle.play.proofs.words.read_series.Given as goal
 
 abbrev pub invariant-loop-k : goal.invariant-loop-k

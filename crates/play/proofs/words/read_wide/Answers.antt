@@ -1,8 +1,4 @@
 use borrow.Author.Rules.{rules}
-use Prim.Native.Nat.{◌-◌, ◌≤◌}
-use mathlib.Core.Path.{◌≡◌}
-use lib.ListN.{length, drop}
-use Rattle.play.specs.Words.{wide_from, wide_in}
 use Rattle.play.proofs.words.Turns.{wide-none, wide-some, wide-no-digit, wide-above, wide-more, wide-over, wide_fits}
 use Rattle.play.proofs.words.read_wide.Goals as goal
 

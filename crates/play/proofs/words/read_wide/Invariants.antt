@@ -1,9 +1,7 @@
-use borrow.Author.Rules.{rules}
 use Prim.Native.Nat.{◌-◌, ◌≤◌}
 use mathlib.Core.Path.{◌≡◌}
 use lib.ListN.{length, drop}
 use Rattle.play.specs.Words.{wide_from, wide_in}
-use Rattle.play.proofs.words.Turns.{wide-none, wide-some, wide-no-digit, wide-above, wide-more, wide-over, wide_fits}
 use Rattle.play.proofs.words.read_wide.Given as goal
 
 abbrev pub invariant-loop-i : goal.invariant-loop-i

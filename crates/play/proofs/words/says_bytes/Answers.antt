@@ -1,4 +1,3 @@
-use borrow.Author.Rules.{rules}
 use Rattle.ftd.proofs.Tests.{tests}
 use Rattle.play.specs.Words.{says_bytes}
 use Rattle.play.proofs.words.says_bytes.Goals as goal

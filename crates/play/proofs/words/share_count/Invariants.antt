@@ -1,8 +1,6 @@
-use borrow.Author.Rules.{rules}
-use Prim.Native.Nat.{◌+◌, ◌-◌, ◌≤◌}
+use Prim.Native.Nat.{◌-◌, ◌≤◌}
 use mathlib.Core.Path.{◌≡◌}
 use Rattle.play.specs.Words.{shares_behind, share_count}
-use Rattle.play.proofs.words.Arguments.{share-first, share-more, share-end, share-wrong, share-over}
 use Rattle.play.proofs.words.share_count.Given as goal
 
 abbrev pub invariant-loop-n : goal.invariant-loop-n

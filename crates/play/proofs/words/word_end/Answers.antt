@@ -1,8 +1,6 @@
-use Prim.Native.Nat.{◌+◌, ◌-◌, ◌≤◌}
-use mathlib.Core.Path.{◌≡◌, refl}
+use mathlib.Core.Path.{refl}
 use borrow.Author.Rules.{rules}
-use lib.ListN.{length, drop}
-use Rattle.play.specs.Words.{up_to_space, end_of}
+use Rattle.play.specs.Words.{end_of}
 use Rattle.play.proofs.words.Turns.{space-here, no-space, line-over}
 use Rattle.play.proofs.words.word_end.Goals as goal
 

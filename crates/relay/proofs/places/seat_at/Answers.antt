@@ -1,8 +1,5 @@
 use Rattle.relay.proofs.places.Written.{eight-places}
 use borrow.Author.Rules.{rules}
-use Rattle.relay.proofs.places.seat_at.Reads as reads
-use Rattle.relay.proofs.places.seat_at.Lts as lts
-use Rattle.relay.proofs.places.place_at.Reads as place-at-reads
 use Rattle.relay.proofs.places.seat_at.Goals as goal
 
 -- src/places.rt:26:1

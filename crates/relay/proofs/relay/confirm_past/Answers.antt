@@ -1,8 +1,5 @@
 use Rattle.relay.proofs.relay.Towards.{past_is}
 use borrow.Author.Rules.{rules}
-use Rattle.relay.proofs.relay.confirm_past.Reads as reads
-use Rattle.relay.proofs.relay.confirm_past.Lts as lts
-use Rattle.ftd.proofs.refusal.number.Reads as number-reads
 use Rattle.relay.proofs.relay.confirm_past.Goals as goal
 
 -- src/relay.rt:88:1

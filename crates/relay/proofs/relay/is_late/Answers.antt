@@ -1,8 +1,5 @@
-use Rattle.relay.proofs.relay.Towards.{late-past, late-not}
+use Rattle.relay.proofs.relay.Towards.{late-past}
 use borrow.Author.Rules.{rules}
-use Rattle.relay.proofs.relay.is_late.Reads as reads
-use Rattle.relay.proofs.relay.is_late.Lts as lts
-use Rattle.relay.proofs.relay.confirm_past.Reads as confirm-past-reads
 use Rattle.relay.proofs.relay.is_late.Goals as goal
 
 -- src/relay.rt:102:9

@@ -2,10 +2,6 @@ use Rattle.flow.proofs.sender.Lookups.{found_inside}
 use Rattle.relay.proofs.relay.AtSeats.{keep-none, keep_at, served-scaled}
 use mathlib.Core.Path.{◌∙◌}
 use borrow.Author.Rules.{rules}
-use Rattle.relay.proofs.relay.keep_place.Reads as reads
-use Rattle.relay.proofs.relay.keep_place.Lts as lts
-use Rattle.flow.proofs.sender.Sender.find.Reads as find-reads
-use Rattle.relay.proofs.places.put_place.Reads as put-place-reads
 use Rattle.relay.proofs.relay.keep_place.Goals as goal
 
 -- src/relay.rt:131:25

@@ -1,6 +1,4 @@
 use Rattle.relay.proofs.relay.AtSeats.{no-seat-is}
-use Rattle.relay.proofs.relay.no_seat.Reads as reads
-use Rattle.relay.proofs.relay.no_seat.Lts as lts
 use Rattle.relay.proofs.relay.no_seat.Goals as goal
 
 -- src/relay.rt:75:1

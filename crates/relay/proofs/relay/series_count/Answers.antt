@@ -1,8 +1,6 @@
 use borrow.Author.Rules.{rules}
 use Rattle.flow.proofs.series.Places.{unmapped}
 use Rattle.relay.proofs.relay.Towards.{count-few, count_most}
-use Rattle.relay.proofs.relay.series_count.Reads as reads
-use Rattle.relay.proofs.relay.series_count.Lts as lts
 use Rattle.relay.proofs.relay.series_count.Goals as goal
 
 -- src/relay.rt:117:9

@@ -1,12 +1,7 @@
-use borrow.Author.Rules.{rules}
 use Prim.Native.Nat.{◌-◌, ◌≤◌}
-use mathlib.Core.Path.{refl}
 use mathlib.Core.List.{map}
 use Rattle.flow.specs.declared.receiver.KeptSeries.{KeptSeries}
-use Rattle.flow.proofs.series.Places.{unmapped}
-use Rattle.flow.proofs.common.Filled.{Filled, mapped-turn, mapped_end}
-use Rattle.relay.proofs.relay.series_names.Reads as reads
-use Rattle.relay.proofs.relay.series_names.Lts as lts
+use Rattle.flow.proofs.common.Filled.{Filled}
 use Rattle.relay.proofs.relay.series_names.Given as goal
 
 abbrev pub invariant-loop-i : goal.invariant-loop-i

@@ -1,4 +1,3 @@
-use borrow.Author.Rules.{rules}
 use Rattle.ftd.proofs.Tests.{tests}
 use Rattle.play.specs.Played.{counted_player}
 use Rattle.play.proofs.player.Player.counted.Goals as goal

@@ -1,12 +1,4 @@
 use Rattle.relay.proofs.relay.Towards.{confirm-late, confirm-taken, confirm-refused}
-use borrow.Author.Rules.{rules}
-use Rattle.relay.proofs.relay.Relay.confirm_login.Reads as reads
-use Rattle.relay.proofs.relay.Relay.confirm_login.Lts as lts
-use Rattle.flow.proofs.receiver.Receiver.confirm_login.Reads as confirm-login-reads
-use Rattle.ftd.proofs.packet.read_dated.Reads as read-dated-reads
-use Rattle.relay.proofs.relay.Relay.confirmed.Reads as confirmed-reads
-use Rattle.relay.proofs.relay.Relay.with_receiver.Reads as with-receiver-reads
-use Rattle.relay.proofs.relay.is_late.Reads as is-late-reads
 use Rattle.relay.proofs.relay.Relay.confirm_login.Goals as goal
 
 -- src/relay.rt:329:13

@@ -1,9 +1,4 @@
 use Rattle.relay.proofs.relay.Towards.{through-none, through-up, opens-below}
-use borrow.Author.Rules.{rules}
-use Rattle.relay.proofs.relay.Relay.confirmed.Reads as reads
-use Rattle.relay.proofs.relay.Relay.confirmed.Lts as lts
-use Rattle.relay.proofs.relay.Relay.open_below.Reads as open-below-reads
-use Rattle.relay.proofs.relay.Relay.with_receiver.Reads as with-receiver-reads
 use Rattle.relay.proofs.relay.Relay.confirmed.Goals as goal
 
 -- src/relay.rt:288:21

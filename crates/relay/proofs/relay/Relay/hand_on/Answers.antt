@@ -1,11 +1,4 @@
 use Rattle.relay.proofs.relay.Handing.{hands-lie, handed-is, refused-is}
-use borrow.Author.Rules.{rules}
-use Rattle.relay.proofs.relay.Relay.hand_on.Reads as reads
-use Rattle.relay.proofs.relay.Relay.hand_on.Lts as lts
-use Rattle.flow.proofs.receiver.Receiver.drop_chain.Reads as drop-chain-reads
-use Rattle.relay.proofs.relay.Relay.keep.Reads as keep-reads
-use Rattle.relay.proofs.relay.Relay.publish_below.Reads as publish-below-reads
-use Rattle.relay.proofs.relay.Relay.with_receiver.Reads as with-receiver-reads
 use Rattle.relay.proofs.relay.Relay.hand_on.Goals as goal
 
 -- src/relay.rt:436:13

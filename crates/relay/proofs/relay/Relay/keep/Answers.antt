@@ -1,8 +1,5 @@
 use Rattle.relay.proofs.relay.Handing.{keeps-as}
 use borrow.Author.Rules.{rules}
-use Rattle.relay.proofs.relay.Relay.keep.Reads as reads
-use Rattle.relay.proofs.relay.Relay.keep.Lts as lts
-use Rattle.flow.proofs.receiver.copy_piece.Reads as copy-piece-reads
 use Rattle.relay.proofs.relay.Relay.keep.Goals as goal
 
 -- src/relay.rt:355:5

@@ -1,10 +1,5 @@
 use Rattle.relay.proofs.relay.Towards.{open-short, few-reserves, open-taken, open-refused}
 use borrow.Author.Rules.{rules}
-use Rattle.relay.proofs.relay.Relay.open.Reads as reads
-use Rattle.relay.proofs.relay.Relay.open.Lts as lts
-use Rattle.flow.proofs.receiver.Receiver.open.Reads as open-reads
-use Rattle.relay.proofs.relay.Relay.with_receiver.Reads as with-receiver-reads
-use Rattle.relay.proofs.relay.all_reserves.Reads as all-reserves-reads
 use Rattle.relay.proofs.relay.Relay.open.Goals as goal
 
 -- src/relay.rt:184:13

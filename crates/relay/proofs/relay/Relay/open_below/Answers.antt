@@ -3,14 +3,6 @@ use Rattle.relay.specs.Box.{server_of}
 use lib.Seq.{length-take-le}
 use Rattle.relay.proofs.relay.Towards.{part-long, fits_in, below-done, below-refused}
 use borrow.Author.Rules.{rules}
-use Rattle.relay.proofs.relay.Relay.open_below.Reads as reads
-use Rattle.relay.proofs.relay.Relay.open_below.Lts as lts
-use Rattle.flow.proofs.sender.Sender.open.Reads as open-reads
-use Rattle.relay.proofs.places.clear.Reads as clear_reads
-use Rattle.relay.proofs.relay.Relay.server.Reads as server-reads
-use Rattle.relay.proofs.relay.no_seat.Reads as no-seat-reads
-use Rattle.relay.proofs.relay.series_count.Reads as series-count-reads
-use Rattle.relay.proofs.relay.series_names.Reads as series-names-reads
 use Rattle.relay.proofs.relay.Relay.open_below.Goals as goal
 
 -- src/relay.rt:244:38

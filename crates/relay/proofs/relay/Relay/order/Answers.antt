@@ -1,4 +1,3 @@
-use borrow.Author.Rules.{rules}
 use Rattle.relay.proofs.relay.Relay.order.Goals as goal
 
 pub returns : goal.returns

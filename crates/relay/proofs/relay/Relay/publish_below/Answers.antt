@@ -1,11 +1,5 @@
 use Rattle.relay.proofs.relay.Handing.{in-packet, in_both, never, held-from, held_in, publishes-as}
 use borrow.Author.Rules.{rules}
-use Rattle.relay.proofs.relay.Relay.publish_below.Reads as reads
-use Rattle.relay.proofs.relay.Relay.publish_below.Lts as lts
-use Rattle.flow.proofs.sender.Sender.publish.Reads as publish-reads
-use Rattle.flow.proofs.sender.Sender.publish_parts.Reads as publish-parts-reads
-use Rattle.relay.proofs.relay.Relay.server.Reads as server-reads
-use Rattle.relay.proofs.relay.no_seat.Reads as no-seat-reads
 use Rattle.relay.proofs.relay.Relay.publish_below.Goals as goal
 
 -- src/relay.rt:400:20

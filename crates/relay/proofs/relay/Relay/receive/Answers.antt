@@ -2,12 +2,6 @@ use mathlib.Core.Path.{ap}
 use Rattle.flow.specs.declared.receiver.Received.{Received}
 use Rattle.flow.specs.Answers.{message_in, received_said}
 use Rattle.relay.proofs.relay.Handing.{kept, kept-is, hands-of}
-use borrow.Author.Rules.{rules}
-use Rattle.relay.proofs.relay.Relay.receive.Reads as reads
-use Rattle.relay.proofs.relay.Relay.receive.Lts as lts
-use Rattle.flow.proofs.receiver.Receiver.decide.Reads as decide-reads
-use Rattle.relay.proofs.relay.Relay.hand_on.Reads as hand-on-reads
-use Rattle.relay.proofs.relay.Relay.keep.Reads as keep-reads
 use Rattle.relay.proofs.relay.Relay.receive.Goals as goal
 
 -- src/relay.rt:471:18

@@ -1,8 +1,5 @@
 use Rattle.relay.proofs.relay.Towards.{asks-is}
 use borrow.Author.Rules.{rules}
-use Rattle.relay.proofs.relay.Relay.request_login.Reads as reads
-use Rattle.relay.proofs.relay.Relay.request_login.Lts as lts
-use Rattle.flow.proofs.receiver.Receiver.request_login.Reads as request-login-reads
 use Rattle.relay.proofs.relay.Relay.request_login.Goals as goal
 
 -- src/relay.rt:219:5

@@ -1,13 +1,6 @@
 use mathlib.Core.Path.{refl}
-use borrow.Author.Rules.{rules}
 use Rattle.flow.proofs.sender.Lookups.{eight}
 use Rattle.relay.proofs.relay.AtSeats.{packet-as, packet-none}
-use Rattle.relay.proofs.relay.Relay.send_packet.Reads as reads
-use Rattle.relay.proofs.relay.Relay.send_packet.Lts as lts
-use Rattle.flow.proofs.sender.Sender.send_packet.Reads as send-packet-reads
-use Rattle.relay.proofs.places.seat_at.Reads as seat-at-reads
-use Rattle.relay.proofs.relay.Relay.server.Reads as server-reads
-use Rattle.relay.proofs.relay.keep_place.Reads as keep-place-reads
 use Rattle.relay.proofs.relay.Relay.send_packet.Goals as goal
 
 -- src/relay.rt:409:13
