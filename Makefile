@@ -17,10 +17,10 @@ CFLAGS = -std=c99 -O2 -Wall -Wextra -pedantic
 lib: target/lib/libftd.a
 
 # Nothing is proved again that is proved: the library is made anew only where a file of its crates is newer than it.
-target/lib/libftd.a: crates.txt $(shell find $(addprefix crates/,$(CRATES)) -name '*.rt' -o -name '*.antt')
-	rt staticlib exports
+target/lib/libftd.a: crates.txt $(shell find $(addprefix crates/,$(CRATES)) -name out -prune -o \( -name '*.rt' -o -name '*.antt' \) -print)
+	cd crates/exports && rt lib
 	mkdir -p target/lib
-	cp target/staticlib/libexports.a $@
+	cp crates/exports/out/libexports.a $@
 
 example: $(LIB)
 	mkdir -p target/example

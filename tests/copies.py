@@ -72,9 +72,13 @@ class Sources:
             elif t == "use":
                 end = ts.index(";", i)
                 path = "".join(ts[i + 1:end])
-                if "{" in path or "*" in path or "as" in ts[i + 1:end]:
-                    raise Unresolved(f"{module}: use {path}: only plain paths are followed")
-                self.uses[module][path.split("::")[-1]] = path.replace("crate::", module.split("::")[0] + "::")
+                if "*" in path or "as" in ts[i + 1:end] or path.count("{") > 1 or "{" in path and not path.endswith("}"):
+                    raise Unresolved(f"{module}: use {path}: only plain paths are followed, and one list of names at their end")
+                front, _, names = path.partition("{")
+                for name in names[:-1].split(",") if names else [path]:
+                    full = front + name if names else path
+                    if name:
+                        self.uses[module][full.split("::")[-1]] = full.replace("crate::", module.split("::")[0] + "::")
                 i = end + 1
             elif t == "mod":
                 i = ts.index(";", i) + 1

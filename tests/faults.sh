@@ -262,36 +262,35 @@ fi
 # A copy of the repository's library with one thing changed in code and definition, proved and built.
 fresh_library() {
     rm -rf "$work/library"
-    mkdir -p "$work/library/crates" "$work/library/target"
+    mkdir -p "$work/library/crates"
     for crate in ftd flow relay calendar book fix exports; do
         cp -R "$root/crates/$crate" "$work/library/crates/"
     done
-    printf 'ftd:\nflow: ftd\nrelay: ftd flow\ncalendar: ftd\nbook: ftd\nfix: ftd\nexports: ftd flow relay calendar book fix\n' >"$work/library/crates.txt"
-    # What is proved of ftd is taken over where ftd isn't changed.
-    cp -R "$root/target/rlib" "$root/target/stamp" "$work/library/target/"
+    rm -rf "$work"/library/crates/*/out
+    printf 'ftd:\nflow: ftd\nrelay: ftd flow\ncalendar: ftd\nbook: ftd\nfix: ftd\nexports staticlib: ftd flow relay calendar book fix\n' >"$work/library/crates.txt"
 }
 prove() {
-    if ! (cd "$work/library" && rt staticlib exports) >"$work/proved" 2>&1; then
+    if ! (cd "$work/library/crates/exports" && rt lib) >"$work/proved" 2>&1; then
         tail -5 "$work/proved"
         echo "the faulty library isn't proved"
         exit 1
     fi
     mkdir -p "$work/library/target/lib"
-    cp "$work/library/target/staticlib/libexports.a" "$work/library/target/lib/libftd.a"
+    cp "$work/library/crates/exports/out/libexports.a" "$work/library/target/lib/libftd.a"
 }
 
 echo "- the library"
 fresh_reader
 fresh_library
 change "$work/library/crates/exports/src/lib.rt" 'number: h.number,' 'number: h.tid,'
-change "$work/library/crates/exports/specs/Numbers.antt" 'number = h .number;' 'number = h .tid;'
+change "$work/library/crates/exports/specs/Numbers.antt" 'number = h.number;' 'number = h.tid;'
 prove
 expect "a message's number is its TID, and so says its definition" "$work/library/target/lib"
 if [ "${1:-}" = --long ]; then
     # Ends of clause c. In the crate of the ends demand 3's proof refuses them; what the exported functions say of an end is theirs alone.
     fresh_library
     change "$work/library/crates/exports/src/receiving.rt" 'plain(end, 2, n, 0)' 'plain(end, 1, n, 0)'
-    change "$work/library/crates/exports/specs/Receiving.antt" 'plainWith e 2 n 0' 'plainWith e 1 n 0'
+    change "$work/library/crates/exports/specs/Receiving.antt" 'plain_with e 2 n 0' 'plain_with e 1 n 0'
     prove
     expect "Receive answers again for a piece that is held, before anything came" "$work/library/target/lib" calls
     fresh_library
@@ -307,7 +306,7 @@ if [ "${1:-}" = --long ]; then
     expect "Send answers none with one left" "$work/library/target/lib" calls
     fresh_library
     change "$work/library/crates/ftd/src/tags.rt" '= [0, 4, 1, 1, 0, 4, 2, 2];' '= [0, 4, 1, 1, 0, 4, 3, 2];'
-    change "$work/library/crates/ftd/specs/Tags.antt" 'knownTag 0x06 2' 'knownTag 0x06 3'
+    change "$work/library/crates/ftd/specs/Tags.antt" 'known_tag 0x06 2' 'known_tag 0x06 3'
     prove
     expect "tag 0x06 has three bytes, and so says its definition" "$work/library/target/lib"
 fi

@@ -1,7 +1,7 @@
 #!/usr/bin/env python3
 """The built lister on inputs around its limit (01, "Lister": at most 65,536 bytes; more prints only `0`, tab, `long`).
 
-    tests/lister.py [PROGRAM]     PROGRAM: target/bin/ftdlist, where it is not given
+    tests/lister.py [PROGRAM]     PROGRAM: crates/ftdlist/out/ftdlist, where it is not given
 
 Compares what the program prints of 65,535, 65,536, 65,537 and 70,000 bytes of whole packets, of 65,536 with a packet cut off, and of
 nothing, from a file and through a pipe, with what the independent lister says (tests/captures/make.py). Before that it shows on planted
@@ -120,9 +120,9 @@ def main(words):
     if len(words) > 1 or words[:1] in (["-h"], ["--help"]):
         print(__doc__, file=sys.stderr)
         return 2
-    program = pathlib.Path(words[0]) if words else root / "target" / "bin" / "ftdlist"
+    program = pathlib.Path(words[0]) if words else root / "crates" / "ftdlist" / "out" / "ftdlist"
     if not program.is_file():
-        print(f"lister: there is no program {program.name}: rt check ftdlist builds it", file=sys.stderr)
+        print(f"lister: there is no program {program.name}: `rt run` in crates/ftdlist builds it", file=sys.stderr)
         return 2
     for planted, where in PLANTED.items():
         if differences(planted) != where:

@@ -21,15 +21,15 @@ if ! command -v cargo >/dev/null 2>&1; then
     exit 1
 fi
 
-rt check ftdlist | tail -1
+(cd crates/ftdlist && rt run </dev/null >/dev/null)
 # The library, by the name that programs link it by, is made while the reader's own tests run.
 make_library() {
     if command -v make >/dev/null 2>&1; then
         make --no-print-directory lib | tail -1
     else
-        rt staticlib exports | tail -1
+        (cd crates/exports && rt lib) | tail -1
         mkdir -p target/lib
-        cp target/staticlib/libexports.a target/lib/libftd.a
+        cp crates/exports/out/libexports.a target/lib/libftd.a
     fi
 }
 said=$(mktemp)
@@ -65,11 +65,11 @@ bash tests/quickfix/run.sh
 (cd tests/outside && cargo build --release --offline --quiet)
 outside=$root/tests/outside/target/release
 if [ "$quick" -eq 1 ]; then
-    "$outside/differ" 1000000 1 "$root/target/bin/ftdlist"
+    "$outside/differ" 1000000 1 "$root/crates/ftdlist/out/ftdlist"
     "$outside/calls" 1000000 1
 else
-    "$outside/differ" 2000000 1 "$root/target/bin/ftdlist"
-    "$outside/differ" 1000000 2 "$root/target/bin/ftdlist"
+    "$outside/differ" 2000000 1 "$root/crates/ftdlist/out/ftdlist"
+    "$outside/differ" 1000000 2 "$root/crates/ftdlist/out/ftdlist"
     "$outside/calls" 5000000 1
     "$outside/calls" 1000000 2
     "$outside/calls" 100000 1 wrong

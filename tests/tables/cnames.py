@@ -66,8 +66,8 @@ SHORT = {"opening auction and continuous trading": "OPENING_AND_CONTINUOUS",
          "opening auction, continuous trading and closing auction": "ALL"}
 
 # The kinds of specs/Table.antt as those of enum ftd_kind; the others are enumerations, FTD_CHAR.
-KINDS = {"charKind": "FTD_CHAR", "wordKind": "FTD_WORD", "intKind": "FTD_INT", "stringKind": "FTD_TEXT",
-         "numberKind": "FTD_NUMBER", "floatKind": "FTD_FLOAT", "dateKind": "FTD_DAY"}
+KINDS = {"char_kind": "FTD_CHAR", "word_kind": "FTD_WORD", "int_kind": "FTD_INT", "string_kind": "FTD_TEXT",
+         "number_kind": "FTD_NUMBER", "float_kind": "FTD_FLOAT", "date_kind": "FTD_DAY"}
 KIND_NAMES = [("FTD_NO_ITEM", "no item"), ("FTD_NO_VALUE", "no value"), ("FTD_CHAR", "char"), ("FTD_WORD", "word"),
               ("FTD_INT", "int"), ("FTD_TEXT", "text"), ("FTD_NUMBER", "number"), ("FTD_FLOAT", "float"),
               ("FTD_DAY", "date"), ("FTD_UNUSED", "unused date")]
@@ -95,7 +95,7 @@ def text(*path):
 def read_tids():
     """Pairs of number and name, by number."""
     spec = text("crates", "ftd", "specs", "Mode.antt")
-    part = spec[spec.index("listedTids ="):]
+    part = spec[spec.index("listed_tids ="):]
     part = part[:part.index("∷ []")]
     found = re.findall(r"0x([0-9A-F]{4}) +-- TID_(\w+)", part)
     need(found and len(found) == len(re.findall(r"0x", part)), "a TID of Mode.antt isn't understood")
@@ -115,8 +115,8 @@ def read_modes(tids):
         need(re.fullmatch(r"[()0-9A-Fa-fx<=\s]*(?:(?:tid|and|or)[()0-9A-Fa-fx<=\s]*)*", words), "mode rule", words)
         return lambda tid: eval(words, {"__builtins__": {}}, {"tid": tid})
 
-    rules = [("FTD_PRIVATE", rule("isPrivate")), ("FTD_BROADCAST", rule("isBroadcast")),
-             ("FTD_MANAGEMENT", rule("isManagement"))]
+    rules = [("FTD_PRIVATE", rule("is_private")), ("FTD_BROADCAST", rule("is_broadcast")),
+             ("FTD_MANAGEMENT", rule("is_management"))]
     return {tid: next((mode for mode, holds in rules if holds(tid)), "FTD_DIALOG") for tid, _ in tids}
 
 
@@ -136,7 +136,7 @@ def read_fields():
     spec = text("crates", "ftd", "specs", "Table.antt")
     listed = re.findall(r"\(([^()]*)\)", spec[spec.index("enumerations ="):spec.index("-- ─── The rows of a field")])
     listed = [[int(x) for x in re.findall(r"\d+", one)] for one in listed]
-    numbers = {name: int(n) for name, n in re.findall(r"^(\w+Kind) = (\d+)$", spec, re.M)}
+    numbers = {name: int(n) for name, n in re.findall(r"^(\w+_kind) = (\d+)$", spec, re.M)}
     fields, rows = {}, 0
     for line in spec[spec.index("\ntable ="):].split("\n"):
         head = re.fullmatch(r" +-- (\w+), FID 0x([0-9A-F]{4}): (\d+) rows, (\d+) bytes", line)
@@ -167,11 +167,11 @@ def compare_code(spec, fields):
     """src/table.rt says the same, row by row and field by field."""
     code = text("crates", "ftd", "src", "table.rt")
     names = dict(re.findall(r"pub const (\w+): u8 = (\d+);", text("crates", "ftd", "src", "kinds.rt")))
-    numbers = dict(re.findall(r"^(\w+Kind) = (\d+)$", spec, re.M))
+    numbers = dict(re.findall(r"^(\w+_kind) = (\d+)$", spec, re.M))
 
     def column(name):
         found = re.search(r"const %s: \[\w+; (\d+)\] = \[([^\]]*)\]" % name, code)
-        entries = re.findall(r"^\s*(\w+),(?: // (\w+) (\S+): (\S+))?$", found.group(2), re.M)
+        entries = re.findall(r"(\w+)(?:,|\s*\Z)(?: // (\w+) (\S+): (\S+))?\s*", found.group(2))
         need(len(entries) == int(found.group(1)), "column", name)
         return entries
 

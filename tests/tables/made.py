@@ -42,7 +42,7 @@ def text(*path):
 
 def kind_names():
     """The kinds' names, by number."""
-    found = re.findall(r"^(\w+Kind) = (\d+)$", text("specs", "Table.antt"), re.M)
+    found = re.findall(r"^(\w+_kind) = (\d+)$", text("specs", "Table.antt"), re.M)
     return [name for name, _ in sorted(found, key=lambda f: int(f[1]))]
 
 
@@ -78,7 +78,7 @@ def compare(std):
     names = {n: int(v) for n, v in re.findall(r"pub const (\w+): u8 = (\d+);", text("src", "kinds.rt"))}
     for name, column in columns(rows, places).items():
         found = re.search(r"const %s: \[\w+; (\d+)\] = \[([^\]]*)\]" % name, code)
-        entries = re.findall(r"^\s*(\w+),(?: // (\w+) (\S+): (\S+))?$", found.group(2), re.M)
+        entries = re.findall(r"(\w+)(?:,|\s*\Z)(?: // (\w+) (\S+): (\S+))?\s*", found.group(2))
         same("column " + name, column, [names[e[0]] if e[0] in names else int(e[0]) for e in entries])
         if name == "KIND":
             fields = {f["fid"]: f["name"] for f in std["fields"]}

@@ -22,7 +22,7 @@ def main():
     code = made.text("src", "composition.rt")
     names = ("TID", "DIRECTION", "FID", "LEAST", "MOST")
     body = [re.search(r"const %s: \[\w+; \d+\] = \[(.*?)\];" % n, code, re.S).group(1) for n in names]
-    columns = list(zip(*([int(x, 0) for x in re.findall(r"^\s*(\w+),", b, re.M)] for b in body)))
+    columns = list(zip(*([int(x, 0) for x in re.findall(r"\w+", re.sub(r"//[^\n]*", "", b))] for b in body)))
     wrong = sum(a != b for a, b in zip(have, want)) + abs(len(have) - len(want))
     wrong += sum(a != b for a, b in zip(columns, want)) + abs(len(columns) - len(want))
     print("%d lines of Appendix E; %d differ" % (len(want), wrong))

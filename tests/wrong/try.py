@@ -4,7 +4,7 @@
     tests/wrong.sh                   all of them
     tests/wrong.sh CRATE             those of a crate
     tests/wrong.sh CRATE NAME ..     one, or several
-    tests/wrong.sh --whole ..        the same, each edit by a whole check of its crate: slow; the place of the first error is the same
+    tests/wrong.sh --gate [CRATE ..] the same of the gate's (crates/*/must-fail), which `rt ci` tries: where each is refused
     tests/wrong.sh --texts           only that each edit, those of the gate too, can be made (every `old` text stands exactly once), and that
                                      docs/WRONG.md has the tables as they follow from the files
     tests/wrong.sh --table           the tables of docs/WRONG.md
@@ -12,10 +12,9 @@
 A file has the format of the gate's edits (crates/*/must-fail): `file:`, `old:` and `new:` lines. Its first line says what is wrong with
 the program, its second where it has to be refused: `at: FILE NAME`, the file of the first error and the name of what stands there (a
 proof's need or law, a function). A program that is refused elsewhere, say for its shape, counts as a failure like one that survives.
-The tree is copied and each edit is checked in a copy of its crate, over the results of the unchanged crate (`rt dev`), two at a time or
-RT_JOBS. One line for each edit and a count; exit status 1 if one survives, is refused elsewhere or cannot be made, 2 if the unchanged
-crate is not proved. With WRONG_BASE=FOLDER the copy of the tree stays there, and the next call goes on from its results; with
-WRONG_LOGS=FOLDER what the checker said of each edit is kept there.
+The tree is copied and each edit is checked in a copy of its crate, over what the check of the unchanged crate kept (`rt check`), two at
+a time or RT_JOBS. One line for each edit and a count; exit status 1 if one survives, is refused elsewhere or cannot be made, 2 if the
+unchanged crate is not proved. With WRONG_LOGS=FOLDER what the checker said of each edit is kept there.
 """
 import concurrent.futures
 import os
@@ -122,65 +121,74 @@ def function_at(text, line):
 
 def first_error(log, crate):
     """Where the first error is: `FILE NAME`, the name as the checker gives it. What only follows from another error does not count: a
-    proof that uses one which was not admitted. Where the checker makes a function's proof itself, what fails is told in a note, at the
-    function."""
-    for m in re.finditer(r"^(\S+?):\d+:\d+: error: (?:`(\S+?)`: )?(.*)", log, re.M):
-        if "was not admitted" not in m.group(3):
-            return f"{m.group(1).split(f'/crates/{crate.name}/', 1)[-1]} {m.group(2) or '-'}"
-    m = re.search(r"^note: (\S+?):(\d+):\d+: it is not proved", log, re.M)
-    if not m:
-        return "nowhere -"
-    file = m.group(1).split(f"/crates/{crate.name}/", 1)[-1]
-    return f"{file} {function_at((crate / file).read_text(), int(m.group(2)))}"
+    declaration that was not checked, or a proof that uses one which was not admitted. Where the checker makes a function's proof itself,
+    what fails is told at the function: its source file and its name, behind a colon the goal."""
+    for m in re.finditer(r"^\.?/?(\S+?):\d+:\d+: error: (?:`(\S+?)`: )?(.*)", log, re.M):
+        if "was not admitted" not in m.group(3) and "was rejected, was not checked" not in m.group(3) and "not checked:" not in m.group(3):
+            return f"{m.group(1)} {m.group(2) or '-'}"
+    m = re.search(r"^note: \.?/?(\S+?):(\d+):\d+: .*?(?:\(`(\S+?)`\)|$)", "\n".join(l for l in log.split("\n") if "prove" in l), re.M)
+    if m:
+        return f"{m.group(1)} {function_at((crate / m.group(1)).read_text(), int(m.group(2)))}"
+    m = re.search(r"^fn \w+::(\S+): no proof: expected (?:answers|a measure|an invariant).*", log, re.M)
+    if m:
+        names = m.group(1).split("::")
+        file = next((f"src/{'/'.join(names[:k])}.rt" for k in range(len(names) - 1, 0, -1) if (crate / f"src/{'/'.join(names[:k])}.rt").is_file()), "src/lib.rt")
+        return f"{file} {names[-1]}"
+    return "nowhere -"
 
 
 def rt(folder, *words):
     return subprocess.run(["rt", *words], cwd=folder, stdout=subprocess.PIPE, stderr=subprocess.STDOUT, text=True, errors="replace")
 
 
-def try_one(base, path, whole):
-    """One edit in a copy: the line to print, and whether it was refused where it has to be."""
-    crate = path.parent.name
+def try_one(room, path, crate):
+    """One edit in a copy of the tree, which is as it was afterwards: the line to print, and whether it was refused where it has to be."""
     label = f"{crate}/{path.stem}"
+    folder = room / "crates" / crate
     began = time.monotonic()
     try:
         _, at, pairs = parts(path)
-        texts = made(base / "crates" / crate, pairs)
+        texts = made(folder, pairs)
     except BadEdit as e:
         return f"{label}: BAD EDIT: {e}", False
-    room = pathlib.Path(tempfile.mkdtemp(dir=base.parent))
+    before = {file: (folder / file).read_text() for file in texts}
     try:
-        (room / "crates").mkdir()
-        (room / "target" / "inc").mkdir(parents=True)
-        (room / "target" / "log").mkdir()
-        shutil.copy(base / "crates.txt", room)
-        for other in (base / "crates").iterdir():
-            if other.name == crate:
-                shutil.copytree(other, room / "crates" / crate)
-            else:
-                (room / "crates" / other.name).symlink_to(other)
-        for part in ("rlib", "stamp"):
-            (room / "target" / part).symlink_to(base / "target" / part)
-        if not whole:
-            shutil.copytree(base / "target" / "inc" / crate, room / "target" / "inc" / crate)
         for file, text in texts.items():
-            (room / "crates" / crate / file).write_text(text)
-        done = rt(room, "dev", crate)
+            (folder / file).write_text(text)
+        done = rt(folder, "check", "--jobs", "1")
+        log = "\n".join(l for l in done.stdout.split("\n") if not l.startswith("so far: "))
         if keep := os.environ.get("WRONG_LOGS"):
             os.makedirs(keep, exist_ok=True)
-            pathlib.Path(keep, label.replace("/", "-") + ".log").write_text(done.stdout)
+            pathlib.Path(keep, label.replace("/", "-") + ".log").write_text(log)
         took = f"{time.monotonic() - began:.0f} s"
         if done.returncode == 0:
             return f"{label}: NOT REFUSED ({took})", False
-        if "logic=not-proved" not in done.stdout:
-            first = next((l for l in done.stdout.split("\n") if "error" in l), "")[:200]
+        if "logic=not-proved" not in log:
+            first = next((l for l in log.split("\n") if "error" in l), "")[:200]
             return f"{label}: BAD EDIT: it did not reach the prover: {first}", False
-        place = first_error(done.stdout, room / "crates" / crate)
+        place = first_error(log, folder)
         if place != at:
             return f"{label}: REFUSED ELSEWHERE: {place}; expected {at} ({took})", False
         return f"{label}: refused at {place} ({took})", True
     finally:
-        shutil.rmtree(room, ignore_errors=True)
+        for file, text in before.items():
+            (folder / file).write_text(text)
+
+
+def try_all(room, edits):
+    """The edits of one crate, one behind the other, in a copy of the tree: the lines, and how many were not refused where they have to be."""
+    crate = edits[0][1]
+    done = rt(room / "crates" / crate, "check", "--jobs", "1")
+    if done.returncode != 0:
+        print(done.stdout[-2000:])
+        print(f"wrong programs: crate {crate} itself is not proved", file=sys.stderr)
+        return len(edits)
+    failed = 0
+    for path, _ in edits:
+        line, fine = try_one(room, path, crate)
+        print(line, flush=True)
+        failed += not fine
+    return failed
 
 
 def main(words):
@@ -192,41 +200,42 @@ def main(words):
     if words == ["--table"]:
         print("\n".join(tables()))
         return 0
-    whole = words[:1] == ["--whole"]
-    words = words[whole:]
+    gate = words[:1] == ["--gate"]
+    words = words[gate:]
     if any(w.startswith("-") for w in words):
         print(__doc__, file=sys.stderr)
         return 2
-    edits = [
-        p
-        for p in sorted(root.glob("tests/wrong/*/*.edit"))
-        if (not words or p.parent.name == words[0]) and (len(words) < 2 or p.stem in words[1:])
-    ]
+    all_edits = [(p, p.parent.parent.name) for p in sorted(root.glob("crates/*/must-fail/*.edit"))] if gate else [
+        (p, p.parent.name) for p in sorted(root.glob("tests/wrong/*/*.edit"))]
+    edits = [(p, crate) for p, crate in all_edits if (not words or crate == words[0]) and (len(words) < 2 or p.stem in words[1:])]
     if not edits or len(words) > 1 and len(edits) < len(set(words[1:])):
-        print(f"wrong programs: there is no such file in tests/wrong: {' '.join(words)}", file=sys.stderr)
+        print(f"wrong programs: there is no such file: {' '.join(words)}", file=sys.stderr)
         return 2
+    jobs = int(os.environ.get("RT_JOBS", "2"))
     with tempfile.TemporaryDirectory() as folder:
-        base = pathlib.Path(os.environ.get("WRONG_BASE") or folder).resolve() / "base"
-        shutil.rmtree(base / "crates", ignore_errors=True)
-        shutil.copytree(root / "crates", base / "crates")
-        shutil.copy(root / "crates.txt", base)
-        for part in ("rlib", "stamp"):
-            if (root / "target" / part).is_dir() and not (base / "target" / part).is_dir():
-                shutil.copytree(root / "target" / part, base / "target" / part)
-        crates = sorted({p.parent.name for p in edits})
-        jobs = int(os.environ.get("RT_JOBS", "2"))
-        # The unchanged crates, one behind the other: what is below has to be proved first.
-        for crate in crates:
-            done = rt(base, "dev", crate)
-            if done.returncode != 0:
-                print(done.stdout[-2000:])
-                print(f"wrong programs: crate {crate} itself is not proved", file=sys.stderr)
-                return 2
-        failed = 0
+        rooms = []
+        for i in range(jobs):
+            room = pathlib.Path(folder).resolve() / str(i)
+            shutil.copytree(root / "crates", room / "crates", ignore=shutil.ignore_patterns("out"))
+            shutil.copy(root / "crates.txt", room)
+            rooms.append(room)
+        # Each copy takes a crate, the one with most edits first; a crate with many is cut into as many parts as there are copies.
+        parts_of = []
+        for crate in sorted({c for _, c in edits}):
+            own = [e for e in edits if e[1] == crate]
+            parts_of += [own[i::jobs] for i in range(jobs) if own[i::jobs]]
+        parts_of.sort(key=len, reverse=True)
+        free = rooms[:]
+
+        def one(part):
+            room = free.pop()
+            try:
+                return try_all(room, part)
+            finally:
+                free.append(room)
+
         with concurrent.futures.ThreadPoolExecutor(jobs) as pool:
-            for line, fine in pool.map(lambda p: try_one(base, p, whole), edits):
-                print(line, flush=True)
-                failed += not fine
+            failed = sum(pool.map(one, parts_of))
     print(f"wrong programs: {len(edits)} tried, {len(edits) - failed} refused where they have to be, {failed} not")
     return 1 if failed else 0
 
