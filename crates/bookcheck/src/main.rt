@@ -9,125 +9,121 @@ use book::sums::Mean;
 use ftd::bytes::{be32, size32};
 use ftd::refusal::number;
 use ftd::signed::{Signed, from_integer};
-use libc::{STDIN_FILENO, STDOUT_FILENO};
+use std::io;
+use streams::read_full;
 
-fn print(text: &[u8]) {
-    io::write_all(STDOUT_FILENO, text);
+fn print(rt: &impl Print, text: &[u8]) -> io::Result<()> {
+    rt.write_all(text)
 }
 
 // Units, with their sign.
-fn print_units(x: i64) {
+fn print_units(rt: &impl Print, x: i64) -> io::Result<()> {
     match from_integer(x) {
-        Signed::NoValue => {
-            print(b"?");
-        }
+        Signed::NoValue => print(rt, b"?"),
         Signed::Value { negative, units } => {
             if negative {
-                print(b"-");
+                print(rt, b"-")?;
             }
-            io::print_decimal(STDOUT_FILENO, units);
+            rt.print(units)
         }
     }
 }
 
 // The level at a place, behind a space where it is not the first; false where there is none.
-fn print_level(book: Book, buying: bool, i: usize) -> bool {
+fn print_level(rt: &impl Print, book: Book, buying: bool, i: usize) -> io::Result<bool> {
     match book.level(buying, i) {
-        Listed::NoLevel => false,
+        Listed::NoLevel => Ok(false),
         Listed::At { price, quantity } => {
             if 0 < i {
-                print(b" ");
+                print(rt, b" ")?;
             }
-            io::print_decimal(STDOUT_FILENO, quantity as u64);
-            print(b"@");
-            print_units(price);
-            true
+            rt.print(quantity as u64)?;
+            print(rt, b"@")?;
+            print_units(rt, price)?;
+            Ok(true)
         }
     }
 }
 
 // A side, best first.
-fn print_side(book: Book, buying: bool) {
+fn print_side(rt: &impl Print, book: Book, buying: bool) -> io::Result<()> {
     let mut i: usize = 0;
     while i < 64 {
-        if print_level(book, buying, i) {
+        if print_level(rt, book, buying, i)? {
             i += 1;
         } else {
-            return;
+            return Ok(());
         }
     }
+    Ok(())
 }
 
-fn print_mean(book: Book) {
+fn print_mean(rt: &impl Print, book: Book) -> io::Result<()> {
     match book.mean() {
-        Mean::NoMean => {
-            print(b"-");
-        }
-        Mean::Price(p) => {
-            print_units(p);
-        }
+        Mean::NoMean => print(rt, b"-"),
+        Mean::Price(p) => print_units(rt, p),
     }
 }
 
-fn print_outcome(answer: Outcome) {
+fn print_outcome(rt: &impl Print, answer: Outcome) -> io::Result<()> {
     match answer {
-        Outcome::Done => {
-            print(b"0 ");
-        }
+        Outcome::Done => print(rt, b"0 "),
         Outcome::Refused(r) => {
-            io::print_decimal(STDOUT_FILENO, number(r) as u64);
-            print(b" ");
+            rt.print(number(r) as u64)?;
+            print(rt, b" ")
         }
     }
 }
 
 // An answer, and what the book shows.
-fn print_step(step: Step) -> Book {
+fn print_step(rt: &impl Print, step: Step) -> io::Result<Book> {
     let book = step.book;
     let answer = step.answer;
-    print_outcome(answer);
-    print_side(book, true);
-    print(b"|");
-    print_side(book, false);
-    print(b"|");
-    print_mean(book);
-    print(b"\n");
-    book
+    print_outcome(rt, answer)?;
+    print_side(rt, book, true)?;
+    print(rt, b"|")?;
+    print_side(rt, book, false)?;
+    print(rt, b"|")?;
+    print_mean(rt, book)?;
+    print(rt, b"\n")?;
+    Ok(book)
 }
 
 // A call on the book.
-fn call(book: Book, kind: u8, bytes: &[u8]) -> Book {
+fn call(rt: &impl Print, book: Book, kind: u8, bytes: &[u8]) -> io::Result<Book> {
     if kind == 0 {
-        return print_step(book.start(bytes));
+        return print_step(rt, book.start(bytes));
     }
     if bytes.len() < 4 {
-        return book;
+        return Ok(book);
     }
     let tid = be32(bytes, 0);
-    print_step(book.take(tid, &bytes[4..]))
+    print_step(rt, book.take(tid, &bytes[4..]))
 }
 
 // All calls of some bytes.
-fn calls(input: &[u8]) {
+fn calls(rt: &impl Print, input: &[u8]) -> io::Result<()> {
     let mut book = Book::fresh();
     let mut at: usize = 0;
     while at < input.len() {
         if input.len() - at < 5 {
-            return;
+            return Ok(());
         }
         let n = size32(be32(input, at + 1));
         let start = at + 5;
         if input.len() - start < n {
-            return;
+            return Ok(());
         }
-        let next = call(book, input[at], &input[start..start + n]);
+        let next = call(rt, book, input[at], &input[start..start + n])?;
         book = next;
         at = start + n;
     }
+    Ok(())
 }
 
-fn main() {
+fn main(rt: HostRuntime) -> io::Result<()> {
+    let mut stdin = rt.reader();
     let mut input = [0u8; 262144];
-    let n = io::read_full(STDIN_FILENO, &mut input);
-    calls(&input[..n]);
+    let n = read_full(&mut stdin, &mut input)?;
+    calls(&rt, &input[..n])
 }

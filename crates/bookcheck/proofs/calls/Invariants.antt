@@ -1,0 +1,9 @@
+-- The place lies within the input, and the measure is what is left of it.
+use Rattle.std.proofs.Common.{◌-◌, ◌≤◌, length}
+use Rattle.bookcheck.proofs.calls.Given as goal
+
+abbrev pub invariant-loop-at : goal.invariant-loop-at
+invariant-loop-at g l = l.at ≤ length l.input
+
+abbrev pub decreases-loop-at : goal.decreases-loop-at
+decreases-loop-at g l = length l.input - l.at
