@@ -6,7 +6,7 @@
 use flow::sender::{Day, DaySeries, Place, Published, Seat, Sender, Sent, SentPacket};
 use ftd::refusal::number;
 use ftd::tags::TradeDate;
-use libc::STDOUT_FILENO;
+use std::io;
 
 // A serving end on day 7 with series 1: so many published, so many bytes of the log used, a seat with a number next, of
 // which so many packets were written one by one.
@@ -50,19 +50,19 @@ fn end_with(published: u32, used: usize, login: bool, next: u64) -> Sender {
 }
 
 // Two digits.
-fn print_two(x: u8) {
+fn print_two(rt: &impl Print, x: u8) -> io::Result<()> {
     let digits = [b'0' + x / 10 % 10, b'0' + x % 10];
-    io::write_all(STDOUT_FILENO, &digits);
+    rt.write_all(&digits)
 }
 
 // Two digits and the line's end.
-fn print_number(x: u8) {
-    print_two(x);
-    io::write_all(STDOUT_FILENO, b"\n");
+fn print_number(rt: &impl Print, x: u8) -> io::Result<()> {
+    print_two(rt, x)?;
+    rt.write_all(b"\n")
 }
 
 // Send in series 1, with an output of 64 bytes, or of none: 00 for none left, 99 for a message sent, else the refusal.
-fn send(what: &[u8], e: Sender, log: &[u8], room: bool) {
+fn send(rt: &impl Print, what: &[u8], e: Sender, log: &[u8], room: bool) -> io::Result<()> {
     let mut out = [0u8; 64];
     let mut none = [0u8; 0];
     let step = if room {
@@ -76,20 +76,20 @@ fn send(what: &[u8], e: Sender, log: &[u8], room: bool) {
         Sent::Wrote { number: _, len: _ } => 99,
         Sent::Refused(r) => number(r),
     };
-    io::write_all(STDOUT_FILENO, what);
-    print_number(said);
+    rt.write_all(what)?;
+    print_number(rt, said)
 }
 
 // Publish of a message without fields (TID 0x2004): 99 for a number, else the refusal.
-fn publish(what: &[u8], e: Sender, series: u16, log: &mut [u8]) {
+fn publish(rt: &impl Print, what: &[u8], e: Sender, series: u16, log: &mut [u8]) -> io::Result<()> {
     let step = e.publish(series, 0x2004, b"", log);
     let answer = step.answer;
     let said = match answer {
         Published::Number(_) => 99,
         Published::Refused(r) => number(r),
     };
-    io::write_all(STDOUT_FILENO, what);
-    print_number(said);
+    rt.write_all(what)?;
+    print_number(rt, said)
 }
 
 // A log of one entry: series 1, two zero bytes, TID 0x2004, number 1, no content.
@@ -99,195 +99,236 @@ const GOOD: [u8; 16] = [0, 1, 0, 0, 0, 0, 0x20, 4, 0, 0, 0, 1, 0, 0, 0, 0];
 const NONZERO: [u8; 16] = [0, 1, 0, 1, 0, 0, 0x20, 4, 0, 0, 0, 1, 0, 0, 0, 0];
 
 // The used part against the log and its entry.
-fn used_parts() {
+fn used_parts(rt: &impl Print) -> io::Result<()> {
     let log = GOOD;
-    send(b"nothing wrong ", end_with(1, 16, true, 1), &log, true);
+    send(rt, b"nothing wrong ", end_with(1, 16, true, 1), &log, true)?;
     send(
+        rt,
         b"the log is shorter than its used part ",
         end_with(1, 17, true, 1),
         &log,
         true,
-    );
+    )?;
     send(
+        rt,
         b"the used part ends within the entry ",
         end_with(1, 15, true, 1),
         &log,
         true,
-    );
-    send(b"no entry is used ", end_with(1, 0, true, 1), &log, true);
+    )?;
     send(
+        rt,
+        b"no entry is used ",
+        end_with(1, 0, true, 1),
+        &log,
+        true,
+    )?;
+    send(
+        rt,
         b"the entry wanted is not there ",
         end_with(2, 16, true, 2),
         &log,
         true,
-    );
-    send(b"a next of 0 ", end_with(1, 16, true, 0), &log, true);
+    )?;
+    send(rt, b"a next of 0 ", end_with(1, 16, true, 0), &log, true)
 }
 
 // The entry with one place wrong.
-fn entries() {
+fn entries(rt: &impl Print) -> io::Result<()> {
     let zero = NONZERO;
     let series = [0u8, 2, 0, 0, 0, 0, 0x20, 4, 0, 0, 0, 1, 0, 0, 0, 0];
     let second = [0u8, 1, 0, 0, 0, 0, 0x20, 4, 0, 0, 0, 2, 0, 0, 0, 0];
     let long = [0u8, 1, 0, 0, 0, 0, 0x20, 4, 0, 0, 0, 1, 0, 0, 0, 1];
     let shape = [0u8, 1, 0, 0, 0, 0, 0x20, 4, 0, 0, 0, 1, 0, 0, 0, 1, 0];
     send(
+        rt,
         b"a series that is not open ",
         end_with(1, 16, true, 1),
         &series,
         true,
-    );
+    )?;
     send(
+        rt,
         b"zero bytes that are not zero ",
         end_with(1, 16, true, 1),
         &zero,
         true,
-    );
+    )?;
     send(
+        rt,
         b"a number that is not the next ",
         end_with(2, 16, true, 2),
         &second,
         true,
-    );
+    )?;
     send(
+        rt,
         b"a content longer than the used part ",
         end_with(1, 16, true, 1),
         &long,
         true,
-    );
+    )?;
     send(
+        rt,
         b"content that is not whole fields ",
         end_with(1, 17, true, 1),
         &shape,
         true,
-    );
+    )
 }
 
 // Two things wrong, of which one comes first.
-fn orders() {
+fn orders(rt: &impl Print) -> io::Result<()> {
     let good = GOOD;
     let zero = NONZERO;
     send(
+        rt,
         b"the output is too small ",
         end_with(1, 16, true, 1),
         &good,
         false,
-    );
+    )?;
     send(
+        rt,
         b"zero bytes not zero, the output too small ",
         end_with(1, 16, true, 1),
         &zero,
         false,
-    );
+    )?;
     send(
+        rt,
         b"zero bytes not zero, none left ",
         end_with(1, 16, true, 2),
         &zero,
         true,
-    );
+    )?;
     send(
+        rt,
         b"zero bytes not zero, not logged in ",
         end_with(1, 16, false, 1),
         &zero,
         true,
-    );
+    )
 }
 
-fn publications() {
+fn publications(rt: &impl Print) -> io::Result<()> {
     let mut log = [0u8; 40];
-    publish(b"nothing wrong ", end_with(999999, 0, true, 1), 1, &mut log);
     publish(
+        rt,
+        b"nothing wrong ",
+        end_with(999999, 0, true, 1),
+        1,
+        &mut log,
+    )?;
+    publish(
+        rt,
         b"the day is full ",
         end_with(1000000, 0, true, 1),
         1,
         &mut log,
-    );
+    )?;
     publish(
+        rt,
         b"the day is full, the entry does not fit ",
         end_with(1000000, 25, true, 1),
         1,
         &mut log,
-    );
+    )?;
     publish(
+        rt,
         b"the log is shorter than its used part ",
         end_with(0, 41, true, 1),
         1,
         &mut log,
-    );
+    )?;
     publish(
+        rt,
         b"the day is full, the log shorter than used ",
         end_with(1000000, 41, true, 1),
         1,
         &mut log,
-    );
+    )?;
     publish(
+        rt,
         b"the day is full, an unknown series ",
         end_with(1000000, 0, true, 1),
         2,
         &mut log,
-    );
+    )
 }
 
 // What was wrong, the number that was answered, how many bytes were written, and the place of series 1 then: the number
 // next and the packets of it that were written, each by its last two digits.
-fn print_place(what: &[u8], said: u8, bytes: usize, end: Sender) {
+fn print_place(
+    rt: &impl Print,
+    what: &[u8],
+    said: u8,
+    bytes: usize,
+    end: Sender,
+) -> io::Result<()> {
     let seat = end.seat;
     let place = seat.places[0];
-    io::write_all(STDOUT_FILENO, what);
-    print_two(said);
-    io::write_all(STDOUT_FILENO, b" ");
-    print_two((bytes / 100 % 100) as u8);
-    print_two((bytes % 100) as u8);
-    io::write_all(STDOUT_FILENO, b" next ");
-    print_two((place.next % 100) as u8);
-    io::write_all(STDOUT_FILENO, b" piece ");
-    print_number((place.piece % 100) as u8);
+    rt.write_all(what)?;
+    print_two(rt, said)?;
+    rt.write_all(b" ")?;
+    print_two(rt, (bytes / 100 % 100) as u8)?;
+    print_two(rt, (bytes % 100) as u8)?;
+    rt.write_all(b" next ")?;
+    print_two(rt, (place.next % 100) as u8)?;
+    rt.write_all(b" piece ")?;
+    print_number(rt, (place.piece % 100) as u8)
 }
 
 // Send of one packet in series 1: 00 for none left, 99 for a packet written, else the refusal. It gives the end that is
 // left.
-fn packet(what: &[u8], e: Sender, log: &[u8], out: &mut [u8]) -> Sender {
+fn packet(
+    rt: &impl Print,
+    what: &[u8],
+    e: Sender,
+    log: &[u8],
+    out: &mut [u8],
+) -> io::Result<Sender> {
     let step = e.send_packet(1, log, out);
     let end = step.end;
     let answer = step.answer;
     match answer {
-        SentPacket::Drained => print_place(what, 0, 0, end),
+        SentPacket::Drained => print_place(rt, what, 0, 0, end)?,
         SentPacket::Wrote {
             number: _,
             len,
             last: _,
-        } => print_place(what, 99, len, end),
-        SentPacket::Refused(r) => print_place(what, number(r), 0, end),
+        } => print_place(rt, what, 99, len, end)?,
+        SentPacket::Refused(r) => print_place(rt, what, number(r), 0, end)?,
     }
-    end
+    Ok(end)
 }
 
 // The same with an output of 2,071 bytes, of 2,070, and of none.
-fn with_2071(what: &[u8], e: Sender, log: &[u8; 4097]) -> Sender {
+fn with_2071(rt: &impl Print, what: &[u8], e: Sender, log: &[u8; 4097]) -> io::Result<Sender> {
     let mut out = [0u8; 2071];
-    packet(what, e, log, &mut out)
+    packet(rt, what, e, log, &mut out)
 }
 
-fn with_2070(what: &[u8], e: Sender, log: &[u8; 4097]) -> Sender {
+fn with_2070(rt: &impl Print, what: &[u8], e: Sender, log: &[u8; 4097]) -> io::Result<Sender> {
     let mut out = [0u8; 2070];
-    packet(what, e, log, &mut out)
+    packet(rt, what, e, log, &mut out)
 }
 
-fn with_none(what: &[u8], e: Sender, log: &[u8; 4097]) -> Sender {
+fn with_none(rt: &impl Print, what: &[u8], e: Sender, log: &[u8; 4097]) -> io::Result<Sender> {
     let mut out = [0u8; 0];
-    packet(what, e, log, &mut out)
+    packet(rt, what, e, log, &mut out)
 }
 
 // Send of the whole message in series 1, with an output of 4,141 bytes.
-fn whole(what: &[u8], e: Sender, log: &[u8; 4097]) {
+fn whole(rt: &impl Print, what: &[u8], e: Sender, log: &[u8; 4097]) -> io::Result<()> {
     let mut out = [0u8; 4141];
     let step = e.send(1, log, &mut out);
     let end = step.end;
     let answer = step.answer;
     match answer {
-        Sent::Drained => print_place(what, 0, 0, end),
-        Sent::Wrote { number: _, len } => print_place(what, 99, len, end),
-        Sent::Refused(r) => print_place(what, number(r), 0, end),
+        Sent::Drained => print_place(rt, what, 0, 0, end),
+        Sent::Wrote { number: _, len } => print_place(rt, what, 99, len, end),
+        Sent::Refused(r) => print_place(rt, what, number(r), 0, end),
     }
 }
 
@@ -335,79 +376,88 @@ fn other_bytes() -> [u8; 4097] {
 }
 
 // The two packets of a message, one a call.
-fn both_packets(log: &[u8; 4097]) -> Sender {
+fn both_packets(rt: &impl Print, log: &[u8; 4097]) -> io::Result<Sender> {
     let e = with_2070(
+        rt,
         b"the first of two packets ",
         end_at(1, 4097, true, 1, 0),
         log,
-    );
-    with_2070(b"an output too small for the second ", e, log);
-    with_2071(b"the second of two packets ", e, log);
-    whole(b"the whole message instead ", e, log);
-    e
+    )?;
+    with_2070(rt, b"an output too small for the second ", e, log)?;
+    with_2071(rt, b"the second of two packets ", e, log)?;
+    whole(rt, b"the whole message instead ", e, log)?;
+    Ok(e)
 }
 
 // Between them a log damaged or altered: the place stays.
-fn between_packets(e: Sender) {
+fn between_packets(rt: &impl Print, e: Sender) -> io::Result<()> {
     let wrong = damaged();
-    with_2071(b"the log damaged between them ", e, &wrong);
+    with_2071(rt, b"the log damaged between them ", e, &wrong)?;
     let short = cut_off();
-    with_2071(b"the log without the second field ", e, &short);
+    with_2071(rt, b"the log without the second field ", e, &short)?;
     let other = other_bytes();
-    with_2071(b"other content of whole fields ", e, &other);
+    with_2071(rt, b"other content of whole fields ", e, &other)?;
+    Ok(())
 }
 
 // Packets written that no call has written.
-fn strange_pieces(log: &[u8; 4097]) {
+fn strange_pieces(rt: &impl Print, log: &[u8; 4097]) -> io::Result<()> {
     let e = end_at(1, 4097, true, 1, 2);
-    with_2071(b"two packets written of two ", e, log);
-    with_none(b"the same, the output too small ", e, log);
-    whole(b"the whole message from there ", e, log);
+    with_2071(rt, b"two packets written of two ", e, log)?;
+    with_none(rt, b"the same, the output too small ", e, log)?;
+    whole(rt, b"the whole message from there ", e, log)?;
     with_2071(
+        rt,
         b"as many packets written as can be ",
         end_at(1, 4097, true, 1, 18446744073709551615),
         log,
-    );
+    )?;
     with_2071(
+        rt,
         b"the log shorter than its used part ",
         end_at(1, 4098, true, 1, 1),
         log,
-    );
+    )?;
+    Ok(())
 }
 
 // Two things wrong, of which one comes first.
-fn packet_orders(log: &[u8; 4097]) {
+fn packet_orders(rt: &impl Print, log: &[u8; 4097]) -> io::Result<()> {
     with_2071(
+        rt,
         b"the log damaged, none left ",
         end_at(1, 4097, true, 2, 1),
         log,
-    );
+    )?;
     with_2071(
+        rt,
         b"the log damaged, not logged in ",
         end_at(1, 4097, false, 1, 1),
         log,
-    );
+    )?;
     with_none(
+        rt,
         b"the log damaged, the output too small ",
         end_at(1, 4097, true, 1, 0),
         log,
-    );
+    )?;
+    Ok(())
 }
 
 // One packet a call.
-fn packets() {
+fn packets(rt: &impl Print) -> io::Result<()> {
     let log = two_packets();
-    let e = both_packets(&log);
-    between_packets(e);
-    strange_pieces(&log);
+    let e = both_packets(rt, &log)?;
+    between_packets(rt, e)?;
+    strange_pieces(rt, &log)?;
     let wrong = damaged();
-    packet_orders(&wrong);
+    packet_orders(rt, &wrong)
 }
 
-fn main() {
-    used_parts();
-    entries();
-    orders();
-    publications();
-    packets();
+fn main(rt: HostRuntime) -> io::Result<()> {
+    used_parts(&rt)?;
+    entries(&rt)?;
+    orders(&rt)?;
+    publications(&rt)?;
+    packets(&rt)
 }
