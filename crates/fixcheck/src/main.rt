@@ -13,39 +13,39 @@ use fix::write::write;
 use ftd::bytes::{be32, size8, size32};
 use ftd::refusal::{Refusal, number};
 use ftd::write::Written;
-use libc::{STDIN_FILENO, STDOUT_FILENO};
+use std::io;
+use streams::read_full;
 
-fn print(text: &[u8]) {
-    io::write_all(STDOUT_FILENO, text);
+fn print(rt: &impl Print, text: &[u8]) -> io::Result<()> {
+    rt.write_all(text)
 }
 
 // A number behind a byte.
-fn print_number(before: u8, n: usize) {
-    io::write_all(STDOUT_FILENO, &[before]);
-    io::print_decimal(STDOUT_FILENO, n as u64);
+fn print_number(rt: &impl Print, before: u8, n: usize) -> io::Result<()> {
+    rt.write_all(&[before])?;
+    rt.print(n as u64)
 }
 
 // A byte of a text: `|` for the separator, its number behind a `\` for what can't be printed.
-fn print_byte(b: u8) {
+fn print_byte(rt: &impl Print, b: u8) -> io::Result<()> {
     if b == 1 {
-        print(b"|");
-        return;
+        return print(rt, b"|");
     }
     if 31 < b {
         if b < 127 {
-            print(&[b]);
-            return;
+            return print(rt, &[b]);
         }
     }
-    print_number(b'\\', size8(b));
+    print_number(rt, b'\\', size8(b))
 }
 
-fn print_text(text: &[u8]) {
+fn print_text(rt: &impl Print, text: &[u8]) -> io::Result<()> {
     let mut i: usize = 0;
     while i < text.len() {
-        print_byte(text[i]);
+        print_byte(rt, text[i])?;
         i += 1;
     }
+    Ok(())
 }
 
 // A part of some bytes by its place; nothing where they don't have it.
@@ -60,22 +60,26 @@ fn part(bytes: &[u8], start: usize, len: usize) -> &[u8] {
 }
 
 // A place behind a byte, and the text that stands there.
-fn print_part(before: u8, bytes: &[u8], start: usize, len: usize) {
-    print_number(before, start);
-    print_number(b'+', len);
-    print_byte(b'=');
-    print_text(part(bytes, start, len));
+fn print_part(
+    rt: &impl Print,
+    before: u8,
+    bytes: &[u8],
+    start: usize,
+    len: usize,
+) -> io::Result<()> {
+    print_number(rt, before, start)?;
+    print_number(rt, b'+', len)?;
+    print_byte(rt, b'=')?;
+    print_text(rt, part(bytes, start, len))
 }
 
 // A field of a run: its tag, and place and bytes of its text.
-fn print_field(run: &[u8], found: Front) {
+fn print_field(rt: &impl Print, run: &[u8], found: Front) -> io::Result<()> {
     match found {
-        Front::NoField => {
-            print(b" none");
-        }
+        Front::NoField => print(rt, b" none"),
         Front::Field { tag, start, len } => {
-            print_number(b' ', size32(tag));
-            print_part(b'@', run, start, len);
+            print_number(rt, b' ', size32(tag))?;
+            print_part(rt, b'@', run, start, len)
         }
     }
 }
@@ -98,163 +102,157 @@ fn gap_fill(fill: bool) -> usize {
 }
 
 // How a frame is judged, by the word's first letter.
-fn print_judgement(judged: u8) {
+fn print_judgement(rt: &impl Print, judged: u8) -> io::Result<()> {
     if judged == b'n' {
-        print(b" next ");
-        return;
+        return print(rt, b" next ");
     }
     if judged == b'a' {
-        print(b" again ");
-        return;
+        return print(rt, b" again ");
     }
     if judged == b'g' {
-        print(b" gap ");
-        return;
+        return print(rt, b" gap ");
     }
-    print(b" reset ");
+    print(rt, b" reset ")
 }
 
 // What a frame says: which type, and its place; the number, the type's own values, and gap fill or not; the text of the
 // first value, and the fields.
-fn print_message(judged: u8, bytes: &[u8], m: Message) {
+fn print_message(rt: &impl Print, judged: u8, bytes: &[u8], m: Message) -> io::Result<()> {
     let kind = m.kind;
     let name = m.name;
     let fields = m.fields;
     let text = m.text;
-    print_judgement(judged);
-    print_byte(letter(kind));
-    print_part(b'@', bytes, name.start, name.len);
-    print_number(b' ', size32(m.number));
-    print_number(b'/', size32(m.first));
-    print_number(b'/', size32(m.second));
-    print_number(b'/', gap_fill(m.fill));
-    print_part(b' ', bytes, text.start, text.len);
-    print_part(b' ', bytes, fields.start, fields.len);
+    print_judgement(rt, judged)?;
+    print_byte(rt, letter(kind))?;
+    print_part(rt, b'@', bytes, name.start, name.len)?;
+    print_number(rt, b' ', size32(m.number))?;
+    print_number(rt, b'/', size32(m.first))?;
+    print_number(rt, b'/', size32(m.second))?;
+    print_number(rt, b'/', gap_fill(m.fill))?;
+    print_part(rt, b' ', bytes, text.start, text.len)?;
+    print_part(rt, b' ', bytes, fields.start, fields.len)
 }
 
-fn print_refusal(r: Refusal) {
-    print(b" refused");
-    print_number(b' ', size8(number(r)));
+fn print_refusal(rt: &impl Print, r: Refusal) -> io::Result<()> {
+    print(rt, b" refused")?;
+    print_number(rt, b' ', size8(number(r)))
 }
 
-fn print_judged(bytes: &[u8], answer: Judged) {
+fn print_judged(rt: &impl Print, bytes: &[u8], answer: Judged) -> io::Result<()> {
     match answer {
-        Judged::Refused(r) => {
-            print_refusal(r);
-        }
-        Judged::Next(m) => {
-            print_message(b'n', bytes, m);
-        }
-        Judged::Again(m) => {
-            print_message(b'a', bytes, m);
-        }
-        Judged::Gap(m) => {
-            print_message(b'g', bytes, m);
-        }
-        Judged::Reset(m) => {
-            print_message(b'r', bytes, m);
-        }
+        Judged::Refused(r) => print_refusal(rt, r),
+        Judged::Next(m) => print_message(rt, b'n', bytes, m),
+        Judged::Again(m) => print_message(rt, b'a', bytes, m),
+        Judged::Gap(m) => print_message(rt, b'g', bytes, m),
+        Judged::Reset(m) => print_message(rt, b'r', bytes, m),
     }
 }
 
 // The expected number then, and the answer.
-fn print_read(expected: u32, bytes: &[u8]) {
+fn print_read(rt: &impl Print, expected: u32, bytes: &[u8]) -> io::Result<()> {
     let reading = read(bytes, expected);
     let answer = reading.answer;
-    print_number(b' ', size32(reading.expected));
-    print_judged(bytes, answer);
+    print_number(rt, b' ', size32(reading.expected))?;
+    print_judged(rt, bytes, answer)
 }
 
-fn print_written(answer: Written) {
+fn print_written(rt: &impl Print, answer: Written) -> io::Result<()> {
     match answer {
         Written::Bytes(n) => {
-            print(b" written");
-            print_number(b' ', n);
+            print(rt, b" written")?;
+            print_number(rt, b' ', n)
         }
-        Written::Refused(r) => {
-            print_refusal(r);
-        }
-        _ => {}
+        Written::Refused(r) => print_refusal(rt, r),
+        _ => Ok(()),
     }
 }
 
 // The whole output, and the answer.
-fn print_output(name: &[u8], run: &[u8], out: &mut [u8]) {
+fn print_output(rt: &impl Print, name: &[u8], run: &[u8], out: &mut [u8]) -> io::Result<()> {
     let answer = write(name, run, out);
-    print_byte(b' ');
-    print_text(out);
-    print_written(answer);
+    print_byte(rt, b' ')?;
+    print_text(rt, out)?;
+    print_written(rt, answer)
 }
 
 // Into the first bytes of a buffer.
-fn write_in(room: usize, name: &[u8], run: &[u8], buffer: &mut [u8]) {
+fn write_in(
+    rt: &impl Print,
+    room: usize,
+    name: &[u8],
+    run: &[u8],
+    buffer: &mut [u8],
+) -> io::Result<()> {
     if buffer.len() < room {
-        return;
+        return Ok(());
     }
-    print_output(name, run, &mut buffer[0..room]);
+    print_output(rt, name, run, &mut buffer[0..room])
 }
 
 // A type and a run behind the type's length, into an output of so many zeros, at most 65,536.
-fn print_write(room: u32, bytes: &[u8]) {
+fn print_write(rt: &impl Print, room: u32, bytes: &[u8]) -> io::Result<()> {
     if bytes.len() == 0 {
-        return;
+        return Ok(());
     }
     if bytes[0] < b'0' {
-        return;
+        return Ok(());
     }
     let past = 1 + size8(bytes[0] - b'0');
     if bytes.len() < past {
-        return;
+        return Ok(());
     }
-    let mut buffer = io::large_buffer();
-    write_in(size32(room), &bytes[1..past], &bytes[past..], &mut buffer);
+    let mut buffer = [0u8; 65536];
+    write_in(
+        rt,
+        size32(room),
+        &bytes[1..past],
+        &bytes[past..],
+        &mut buffer,
+    )
 }
 
 // Field i of a run, and its text, which has no bytes where there is none.
-fn print_index(i: u32, run: &[u8]) {
-    print_field(run, find_field(run, size32(i)));
-    print_byte(b' ');
-    print_text(field_text(run, size32(i)));
+fn print_index(rt: &impl Print, i: u32, run: &[u8]) -> io::Result<()> {
+    print_field(rt, run, find_field(run, size32(i)))?;
+    print_byte(rt, b' ')?;
+    print_text(rt, field_text(run, size32(i)))
 }
 
 // The first field of a run with a tag, and its number.
-fn print_first(tag: u32, run: &[u8]) {
-    print_field(run, first_field(run, tag));
-    print_number(b' ', size32(number_at(run, tag)));
+fn print_first(rt: &impl Print, tag: u32, run: &[u8]) -> io::Result<()> {
+    print_field(rt, run, first_field(run, tag))?;
+    print_number(rt, b' ', size32(number_at(run, tag)))
 }
 
-fn print_call(kind: u8, n: u32, bytes: &[u8]) {
-    print_number(kind, size32(n));
-    print_byte(b' ');
-    print_text(bytes);
-    print(b" ->");
+fn print_call(rt: &impl Print, kind: u8, n: u32, bytes: &[u8]) -> io::Result<()> {
+    print_number(rt, kind, size32(n))?;
+    print_byte(rt, b' ')?;
+    print_text(rt, bytes)?;
+    print(rt, b" ->")
 }
 
-fn answer(kind: u8, n: u32, bytes: &[u8]) {
+fn answer(rt: &impl Print, kind: u8, n: u32, bytes: &[u8]) -> io::Result<()> {
     if kind == b'r' {
-        print_read(n, bytes);
-        return;
+        return print_read(rt, n, bytes);
     }
     if kind == b'w' {
-        print_write(n, bytes);
-        return;
+        return print_write(rt, n, bytes);
     }
     if kind == b'i' {
-        print_index(n, bytes);
-        return;
+        return print_index(rt, n, bytes);
     }
-    print_first(n, bytes);
+    print_first(rt, n, bytes)
 }
 
 // A call: its letter, its length, its number and what is behind it.
-fn call(bytes: &[u8]) {
+fn call(rt: &impl Print, bytes: &[u8]) -> io::Result<()> {
     if bytes.len() < 9 {
-        return;
+        return Ok(());
     }
     let n = be32(bytes, 5);
-    print_call(bytes[0], n, &bytes[9..]);
-    answer(bytes[0], n, &bytes[9..]);
-    print(b"\n");
+    print_call(rt, bytes[0], n, &bytes[9..])?;
+    answer(rt, bytes[0], n, &bytes[9..])?;
+    print(rt, b"\n")
 }
 
 // How many bytes the call at the front has; 0 where no whole call stands there.
@@ -272,20 +270,21 @@ fn call_size(input: &[u8]) -> usize
 }
 
 // All calls of some bytes.
-fn calls(input: &[u8]) {
+fn calls(rt: &impl Print, input: &[u8]) -> io::Result<()> {
     let mut rest = input;
     loop {
         let n = call_size(rest);
         if n == 0 {
-            return;
+            return Ok(());
         }
-        call(&rest[0..n]);
+        call(rt, &rest[0..n])?;
         rest = &rest[n..];
     }
 }
 
-fn main() {
-    let mut input = io::large_buffer();
-    let n = io::read_full(STDIN_FILENO, &mut input);
-    calls(&input[..n]);
+fn main(rt: HostRuntime) -> io::Result<()> {
+    let mut stdin = rt.reader();
+    let mut input = [0u8; 65536];
+    let n = read_full(&mut stdin, &mut input)?;
+    calls(&rt, &input[..n])
 }
