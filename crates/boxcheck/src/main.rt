@@ -8,40 +8,40 @@ use flow::sender::{LoggedIn, Opened, Sent};
 use ftd::bytes::{copy_at, size8, wide16};
 use ftd::refusal::{Refusal, number};
 use ftd::tags::TradeDate;
-use libc::STDOUT_FILENO;
 use relay::relay::Relay;
+use std::io;
 
-fn print(text: &[u8]) {
-    io::write_all(STDOUT_FILENO, text);
+fn print(rt: &impl Print, text: &[u8]) -> io::Result<()> {
+    rt.write_all(text)
 }
 
-fn print_number(x: u64) {
-    io::print_decimal(STDOUT_FILENO, x);
+fn print_number(rt: &impl Print, x: u64) -> io::Result<()> {
+    rt.print(x)
 }
 
-fn print_byte(x: u8) {
-    print_number(x as u64);
+fn print_byte(rt: &impl Print, x: u8) -> io::Result<()> {
+    print_number(rt, x as u64)
 }
 
-fn print_refusal(r: Refusal) {
-    print(b"refused ");
-    print_byte(number(r));
+fn print_refusal(rt: &impl Print, r: Refusal) -> io::Result<()> {
+    print(rt, b"refused ")?;
+    print_byte(rt, number(r))
 }
 
 // The mark of the day below.
-fn print_day(end: Relay) {
+fn print_day(rt: &impl Print, end: Relay) -> io::Result<()> {
     let day = end.day;
     let date = day.date;
-    print(b", day ");
+    print(rt, b", day ")?;
     match date {
         TradeDate::None => {
-            print(b"none");
+            print(rt, b"none")?;
         }
         TradeDate::At(d) => {
-            print_number(d as u64);
+            print_number(rt, d as u64)?;
         }
     }
-    print(b"\n");
+    print(rt, b"\n")
 }
 
 // ─── What is written into packets ───
@@ -243,7 +243,7 @@ fn bulletin_packet() -> [u8; 854] {
 // ─── The calls ───
 
 // A box opened with series 1 and 2 and their reserves.
-fn opened(first: usize, second: usize) -> Relay {
+fn opened(rt: &impl Print, first: usize, second: usize) -> io::Result<Relay> {
     let fresh = Relay::fresh();
     let series = [1u16, 2];
     let reserves = [first, second];
@@ -253,72 +253,87 @@ fn opened(first: usize, second: usize) -> Relay {
     match answer {
         Opened::Done => {}
         Opened::Refused(r) => {
-            print_refusal(r);
+            print_refusal(rt, r)?;
         }
     }
-    end
+    Ok(end)
 }
 
 // Answer with a header number.
 fn answer_numbered(
+    rt: &impl Print,
     end: Relay,
     series: u8,
     mark: u8,
     number: u8,
     log: &[u8],
     places: &mut [u64; 384],
-) -> Relay {
+) -> io::Result<Relay> {
     let packet = answer_packet(number, mark);
     let step = end.confirm_login(wide16(series), &packet, log, places);
     let then = step.end;
     let answer = step.answer;
     match answer {
         Confirmed::Last(last) => {
-            print(b"last ");
-            print_number(last as u64);
+            print(rt, b"last ")?;
+            print_number(rt, last as u64)?;
         }
         Confirmed::Refused(r) => {
-            print_refusal(r);
+            print_refusal(rt, r)?;
         }
     }
-    print_day(then);
-    then
+    print_day(rt, then)?;
+    Ok(then)
 }
 
-fn print_answer(series: u8, mark: u8) {
-    print(b"A(");
-    print_byte(series);
-    print(b",");
-    print_byte(mark);
-    print(b")");
+fn print_answer(rt: &impl Print, series: u8, mark: u8) -> io::Result<()> {
+    print(rt, b"A(")?;
+    print_byte(rt, series)?;
+    print(rt, b",")?;
+    print_byte(rt, mark)?;
+    print(rt, b")")
 }
 
 // A(s,m).
-fn answer(end: Relay, series: u8, mark: u8, log: &[u8], places: &mut [u64; 384]) -> Relay {
-    print_answer(series, mark);
-    print(b": ");
-    answer_numbered(end, series, mark, 0, log, places)
+fn answer(
+    rt: &impl Print,
+    end: Relay,
+    series: u8,
+    mark: u8,
+    log: &[u8],
+    places: &mut [u64; 384],
+) -> io::Result<Relay> {
+    print_answer(rt, series, mark)?;
+    print(rt, b": ")?;
+    answer_numbered(rt, end, series, mark, 0, log, places)
 }
 
 // A(s,m) with header number 1.
-fn answer_one(end: Relay, series: u8, mark: u8, log: &[u8], places: &mut [u64; 384]) -> Relay {
-    print_answer(series, mark);
-    print(b" number 1: ");
-    answer_numbered(end, series, mark, 1, log, places)
+fn answer_one(
+    rt: &impl Print,
+    end: Relay,
+    series: u8,
+    mark: u8,
+    log: &[u8],
+    places: &mut [u64; 384],
+) -> io::Result<Relay> {
+    print_answer(rt, series, mark)?;
+    print(rt, b" number 1: ")?;
+    answer_numbered(rt, end, series, mark, 1, log, places)
 }
 
-fn print_received(answer: Received) {
+fn print_received(rt: &impl Print, answer: Received) -> io::Result<()> {
     match answer {
         Received::Idle => {
-            print(b"idle");
+            print(rt, b"idle")?;
         }
         Received::Duplicate(last) => {
-            print(b"again ");
-            print_number(last as u64);
+            print(rt, b"again ")?;
+            print_number(rt, last as u64)?;
         }
         Received::Partial(last) => {
-            print(b"held, last ");
-            print_number(last as u64);
+            print(rt, b"held, last ")?;
+            print_number(rt, last as u64)?;
         }
         Received::Complete {
             last,
@@ -326,69 +341,85 @@ fn print_received(answer: Received) {
             origin: _,
             content: _,
         } => {
-            print(b"message ");
-            print_number(last as u64);
+            print(rt, b"message ")?;
+            print_number(rt, last as u64)?;
         }
         Received::Refused(r) => {
-            print_refusal(r);
+            print_refusal(rt, r)?;
         }
     }
-    print(b"\n");
+    print(rt, b"\n")
 }
 
 // What is received: its letter, R for S, series, number and mark, and what else is said of it.
-fn print_packet(letter: u8, series: u8, number: u8, mark: u8, what: &[u8]) {
+fn print_packet(
+    rt: &impl Print,
+    letter: u8,
+    series: u8,
+    number: u8,
+    mark: u8,
+    what: &[u8],
+) -> io::Result<()> {
     let name = [letter];
-    print(&name);
-    print(b"(");
-    print_byte(series);
-    print(b",");
-    print_byte(number);
-    print(b",");
-    print_byte(mark);
-    print(b")");
-    print(what);
-    print(b": ");
+    print(rt, &name)?;
+    print(rt, b"(")?;
+    print_byte(rt, series)?;
+    print(rt, b",")?;
+    print_byte(rt, number)?;
+    print(rt, b",")?;
+    print_byte(rt, mark)?;
+    print(rt, b")")?;
+    print(rt, what)?;
+    print(rt, b": ")
 }
 
 // Receive of a packet, and its answer.
-fn receive_packet(end: Relay, packet: &[u8], log: &mut [u8], buffer: &mut [u8]) -> Relay {
+fn receive_packet(
+    rt: &impl Print,
+    end: Relay,
+    packet: &[u8],
+    log: &mut [u8],
+    buffer: &mut [u8],
+) -> io::Result<Relay> {
     let step = end.receive(packet, log, buffer);
     let then = step.end;
     let answer = step.answer;
-    print_received(answer);
-    then
+    print_received(rt, answer)?;
+    Ok(then)
 }
 
 // R(s,k,m), without and with f4.
 fn receive(
+    rt: &impl Print,
     end: Relay,
     series: u8,
     number: u8,
     mark: u8,
     log: &mut [u8],
     buffer: &mut [u8],
-) -> Relay {
+) -> io::Result<Relay> {
     let packet = head(b'S', series, number, mark, note(), 0, 0);
-    print_packet(b'R', series, number, mark, b"");
-    receive_packet(end, &packet, log, buffer)
+    print_packet(rt, b'R', series, number, mark, b"")?;
+    receive_packet(rt, end, &packet, log, buffer)
 }
 
 fn receive_f4(
+    rt: &impl Print,
     end: Relay,
     series: u8,
     number: u8,
     mark: u8,
     log: &mut [u8],
     buffer: &mut [u8],
-) -> Relay {
+) -> io::Result<Relay> {
     let packet = f4_packet(b'S', series, number, mark, note());
-    print_packet(b'R', series, number, mark, b" f4");
-    receive_packet(end, &packet, log, buffer)
+    print_packet(rt, b'R', series, number, mark, b" f4")?;
+    receive_packet(rt, end, &packet, log, buffer)
 }
 
 // The same of a letter F or L.
 fn piece(
+    rt: &impl Print,
     end: Relay,
     letter: u8,
     series: u8,
@@ -396,13 +427,14 @@ fn piece(
     mark: u8,
     log: &mut [u8],
     buffer: &mut [u8],
-) -> Relay {
+) -> io::Result<Relay> {
     let packet = head(letter, series, number, mark, note(), 0, 0);
-    print_packet(letter, series, number, mark, b"");
-    receive_packet(end, &packet, log, buffer)
+    print_packet(rt, letter, series, number, mark, b"")?;
+    receive_packet(rt, end, &packet, log, buffer)
 }
 
 fn piece_f4(
+    rt: &impl Print,
     end: Relay,
     letter: u8,
     series: u8,
@@ -410,29 +442,36 @@ fn piece_f4(
     mark: u8,
     log: &mut [u8],
     buffer: &mut [u8],
-) -> Relay {
+) -> io::Result<Relay> {
     let packet = f4_packet(letter, series, number, mark, note());
-    print_packet(letter, series, number, mark, b" f4");
-    receive_packet(end, &packet, log, buffer)
+    print_packet(rt, letter, series, number, mark, b" f4")?;
+    receive_packet(rt, end, &packet, log, buffer)
 }
 
 // Connect.
-fn connect(end: Relay) -> Relay {
-    print(b"Connect\n");
-    end.connect()
+fn connect(rt: &impl Print, end: Relay) -> io::Result<Relay> {
+    print(rt, b"Connect\n")?;
+    Ok(end.connect())
 }
 
-fn print_seat(name: &[u8], seat: u8, series: u8) {
-    print(name);
-    print(b"(");
-    print_byte(seat);
-    print(b", ");
-    print_byte(series);
-    print(b")");
+fn print_seat(rt: &impl Print, name: &[u8], seat: u8, series: u8) -> io::Result<()> {
+    print(rt, name)?;
+    print(rt, b"(")?;
+    print_byte(rt, seat)?;
+    print(rt, b", ")?;
+    print_byte(rt, series)?;
+    print(rt, b")")
 }
 
 // Login of a packet, printed behind what it is.
-fn login_by(end: Relay, seat: u8, series: u8, packet: &[u8], places: &mut [u64; 384]) {
+fn login_by(
+    rt: &impl Print,
+    end: Relay,
+    seat: u8,
+    series: u8,
+    packet: &[u8],
+    places: &mut [u64; 384],
+) -> io::Result<()> {
     let content = answer_field();
     let mut out = [0u8; 200];
     let answer = end.login(
@@ -443,449 +482,533 @@ fn login_by(end: Relay, seat: u8, series: u8, packet: &[u8], places: &mut [u64; 
         places,
         &mut out,
     );
-    print(b": ");
+    print(rt, b": ")?;
     match answer {
         LoggedIn::Wrote(_) => {
-            print(b"taken");
+            print(rt, b"taken")?;
         }
         LoggedIn::Refused(r) => {
-            print_refusal(r);
+            print_refusal(rt, r)?;
         }
     }
-    print(b"\n");
+    print(rt, b"\n")
 }
 
 // Login(seat, s), of a packet without mark and start field.
-fn login(end: Relay, seat: u8, series: u8, places: &mut [u64; 384]) {
+fn login(
+    rt: &impl Print,
+    end: Relay,
+    seat: u8,
+    series: u8,
+    places: &mut [u64; 384],
+) -> io::Result<()> {
     let packet = login_packet();
-    print_seat(b"Login", seat, series);
-    login_by(end, seat, series, &packet, places);
+    print_seat(rt, b"Login", seat, series)?;
+    login_by(rt, end, seat, series, &packet, places)
 }
 
 // The same of no bytes.
-fn login_empty(end: Relay, seat: u8, series: u8, places: &mut [u64; 384]) {
-    print_seat(b"Login", seat, series);
-    print(b" no bytes");
-    login_by(end, seat, series, b"", places);
+fn login_empty(
+    rt: &impl Print,
+    end: Relay,
+    seat: u8,
+    series: u8,
+    places: &mut [u64; 384],
+) -> io::Result<()> {
+    print_seat(rt, b"Login", seat, series)?;
+    print(rt, b" no bytes")?;
+    login_by(rt, end, seat, series, b"", places)
 }
 
 // The same of mark 5 and a start in the series.
-fn login_from(end: Relay, seat: u8, series: u8, start: u8, places: &mut [u64; 384]) {
+fn login_from(
+    rt: &impl Print,
+    end: Relay,
+    seat: u8,
+    series: u8,
+    start: u8,
+    places: &mut [u64; 384],
+) -> io::Result<()> {
     let packet = start_packet(series, start);
-    print_seat(b"Login", seat, series);
-    print(b" start ");
-    print_byte(start);
-    login_by(end, seat, series, &packet, places);
+    print_seat(rt, b"Login", seat, series)?;
+    print(rt, b" start ")?;
+    print_byte(rt, start)?;
+    login_by(rt, end, seat, series, &packet, places)
 }
 
 // Send(seat, s).
-fn send(end: Relay, seat: u8, series: u8, log: &[u8], places: &mut [u64; 384]) {
+fn send(
+    rt: &impl Print,
+    end: Relay,
+    seat: u8,
+    series: u8,
+    log: &[u8],
+    places: &mut [u64; 384],
+) -> io::Result<()> {
     let mut out = [0u8; 100];
     let answer = end.send(size8(seat), wide16(series), places, log, &mut out);
-    print_seat(b"Send", seat, series);
-    print(b": ");
+    print_seat(rt, b"Send", seat, series)?;
+    print(rt, b": ")?;
     match answer {
         Sent::Drained => {
-            print(b"none");
+            print(rt, b"none")?;
         }
         Sent::Wrote { number, len: _ } => {
-            print(b"sent ");
-            print_number(number as u64);
+            print(rt, b"sent ")?;
+            print_number(rt, number as u64)?;
         }
         Sent::Refused(r) => {
-            print_refusal(r);
+            print_refusal(rt, r)?;
         }
     }
-    print(b"\n");
+    print(rt, b"\n")
 }
 
 // ─── What the calls left ───
 
 // The series of the day below: how many, and the first two.
-fn print_series(end: Relay) {
+fn print_series(rt: &impl Print, end: Relay) -> io::Result<()> {
     let day = end.day;
     let first = day.series[0];
     let second = day.series[1];
-    print(b"open below: ");
-    print_number(day.count as u64);
-    print(b" series, ");
-    print_number(first.series as u64);
-    print(b" and ");
-    print_number(second.series as u64);
-    print(b"\n");
+    print(rt, b"open below: ")?;
+    print_number(rt, day.count as u64)?;
+    print(rt, b" series, ")?;
+    print_number(rt, first.series as u64)?;
+    print(rt, b" and ")?;
+    print_number(rt, second.series as u64)?;
+    print(rt, b"\n")
 }
 
 // How many messages of series 1 the day below has.
-fn print_published(end: Relay) {
+fn print_published(rt: &impl Print, end: Relay) -> io::Result<()> {
     let day = end.day;
     let first = day.series[0];
-    print(b"published(1): ");
-    print_number(first.published as u64);
-    print(b"\n");
+    print(rt, b"published(1): ")?;
+    print_number(rt, first.published as u64)?;
+    print(rt, b"\n")
 }
 
 // How many bytes of the log are used.
-fn print_used(end: Relay) {
+fn print_used(rt: &impl Print, end: Relay) -> io::Result<()> {
     let day = end.day;
-    print(b"used: ");
-    print_number(day.used as u64);
-    print(b"\n");
+    print(rt, b"used: ")?;
+    print_number(rt, day.used as u64)?;
+    print(rt, b"\n")
 }
 
 // Whether a series has an open chain.
-fn print_chain(is_open: bool) {
+fn print_chain(rt: &impl Print, is_open: bool) -> io::Result<()> {
     if is_open {
-        print(b"open\n");
+        print(rt, b"open\n")?;
     } else {
-        print(b"none\n");
+        print(rt, b"none\n")?;
     }
+    Ok(())
 }
 
-fn first_chain(end: Relay) {
+fn first_chain(rt: &impl Print, end: Relay) -> io::Result<()> {
     let receiver = end.receiver;
     let live = receiver.live;
     let one = live.series[0];
-    print(b"chain(1): ");
-    print_chain(one.chain);
+    print(rt, b"chain(1): ")?;
+    print_chain(rt, one.chain)
 }
 
-fn second_chain(end: Relay) {
+fn second_chain(rt: &impl Print, end: Relay) -> io::Result<()> {
     let receiver = end.receiver;
     let live = receiver.live;
     let one = live.series[1];
-    print(b"chain(2): ");
-    print_chain(one.chain);
+    print(rt, b"chain(2): ")?;
+    print_chain(rt, one.chain)
 }
 
 // The last byte of a piece of ten bytes, and the byte behind it.
-fn print_behind(buffer: &[u8; 65536]) {
-    print(b"bytes 9 and 10 of the chain buffer: ");
-    print_byte(buffer[9]);
-    print(b" ");
-    print_byte(buffer[10]);
-    print(b"\n");
+fn print_behind(rt: &impl Print, buffer: &[u8; 65536]) -> io::Result<()> {
+    print(rt, b"bytes 9 and 10 of the chain buffer: ")?;
+    print_byte(rt, buffer[9])?;
+    print(rt, b" ")?;
+    print_byte(rt, buffer[10])?;
+    print(rt, b"\n")
 }
 
 // ─── The examples ───
 
-fn example_1(log: &[u8; 1000], places: &mut [u64; 384]) -> Relay {
-    print(b"1.\n");
-    let fresh = opened(0, 0);
-    login(fresh, 0, 1, places);
-    let end = answer(fresh, 1, 5, log, places);
-    print_series(end);
-    login(end, 0, 2, places);
-    send(end, 0, 2, log, places);
-    end
+fn example_1(rt: &impl Print, log: &[u8; 1000], places: &mut [u64; 384]) -> io::Result<Relay> {
+    print(rt, b"1.\n")?;
+    let fresh = opened(rt, 0, 0)?;
+    login(rt, fresh, 0, 1, places)?;
+    let end = answer(rt, fresh, 1, 5, log, places)?;
+    print_series(rt, end)?;
+    login(rt, end, 0, 2, places)?;
+    send(rt, end, 0, 2, log, places)?;
+    Ok(end)
 }
 
-fn example_2(end: Relay, log: &[u8; 1000], places: &mut [u64; 384]) -> Relay {
-    print(b"2. then\n");
-    let a = answer(end, 2, 4, log, places);
-    let b = answer(a, 2, 5, log, places);
-    send(b, 0, 2, log, places);
-    b
+fn example_2(
+    rt: &impl Print,
+    end: Relay,
+    log: &[u8; 1000],
+    places: &mut [u64; 384],
+) -> io::Result<Relay> {
+    print(rt, b"2. then\n")?;
+    let a = answer(rt, end, 2, 4, log, places)?;
+    let b = answer(rt, a, 2, 5, log, places)?;
+    send(rt, b, 0, 2, log, places)?;
+    Ok(b)
 }
 
-fn example_3(end: Relay, log: &mut [u8; 1000], buffer: &mut [u8; 65536]) -> Relay {
-    print(b"3. then\n");
-    let a = receive_f4(end, 1, 1, 5, log, buffer);
-    print_published(a);
-    let b = receive_f4(a, 1, 1, 5, log, buffer);
-    piece_f4(b, b'F', 2, 1, 5, log, buffer)
+fn example_3(
+    rt: &impl Print,
+    end: Relay,
+    log: &mut [u8; 1000],
+    buffer: &mut [u8; 65536],
+) -> io::Result<Relay> {
+    print(rt, b"3. then\n")?;
+    let a = receive_f4(rt, end, 1, 1, 5, log, buffer)?;
+    print_published(rt, a)?;
+    let b = receive_f4(rt, a, 1, 1, 5, log, buffer)?;
+    piece_f4(rt, b, b'F', 2, 1, 5, log, buffer)
 }
 
 // The new day of series 1, and what comes of the old one of series 2.
 fn new_day(
+    rt: &impl Print,
     end: Relay,
     log: &mut [u8; 1000],
     buffer: &mut [u8; 65536],
     places: &mut [u64; 384],
-) -> Relay {
-    print(b"4. then\n");
-    let a = answer(end, 1, 6, log, places);
-    send(a, 0, 2, log, places);
-    second_chain(a);
-    let b = piece_f4(a, b'L', 2, 1, 5, log, buffer);
-    second_chain(b);
-    let c = receive(b, 2, 0, 5, log, buffer);
-    let d = receive(c, 2, 1, 6, log, buffer);
-    answer(d, 2, 5, log, places)
+) -> io::Result<Relay> {
+    print(rt, b"4. then\n")?;
+    let a = answer(rt, end, 1, 6, log, places)?;
+    send(rt, a, 0, 2, log, places)?;
+    second_chain(rt, a)?;
+    let b = piece_f4(rt, a, b'L', 2, 1, 5, log, buffer)?;
+    second_chain(rt, b)?;
+    let c = receive(rt, b, 2, 0, 5, log, buffer)?;
+    let d = receive(rt, c, 2, 1, 6, log, buffer)?;
+    answer(rt, d, 2, 5, log, places)
 }
 
 fn example_4(
+    rt: &impl Print,
     end: Relay,
     log: &mut [u8; 1000],
     buffer: &mut [u8; 65536],
     places: &mut [u64; 384],
-) -> Relay {
-    let a = new_day(end, log, buffer, places);
-    login(a, 3, 1, places);
-    let b = answer(a, 2, 6, log, places);
-    send(b, 3, 1, log, places);
-    receive(b, 2, 1, 6, log, buffer)
+) -> io::Result<Relay> {
+    let a = new_day(rt, end, log, buffer, places)?;
+    login(rt, a, 3, 1, places)?;
+    let b = answer(rt, a, 2, 6, log, places)?;
+    send(rt, b, 3, 1, log, places)?;
+    receive(rt, b, 2, 1, 6, log, buffer)
 }
 
-fn example_5(end: Relay, log: &[u8; 1000], places: &mut [u64; 384]) {
-    print(b"5. then\n");
-    let a = answer_one(end, 1, 5, log, places);
-    answer_one(a, 1, 7, log, places);
+fn example_5(
+    rt: &impl Print,
+    end: Relay,
+    log: &[u8; 1000],
+    places: &mut [u64; 384],
+) -> io::Result<()> {
+    print(rt, b"5. then\n")?;
+    let a = answer_one(rt, end, 1, 5, log, places)?;
+    answer_one(rt, a, 1, 7, log, places)?;
+    Ok(())
 }
 
-fn examples_1_to_5() {
+fn examples_1_to_5(rt: &impl Print) -> io::Result<()> {
     let mut log = [0u8; 1000];
     let mut buffer = [187u8; 65536];
     let mut places = [0u64; 384];
-    let a = example_1(&log, &mut places);
-    let b = example_2(a, &log, &mut places);
-    let c = example_3(b, &mut log, &mut buffer);
-    let d = example_4(c, &mut log, &mut buffer, &mut places);
-    example_5(d, &log, &mut places);
+    let a = example_1(rt, &log, &mut places)?;
+    let b = example_2(rt, a, &log, &mut places)?;
+    let c = example_3(rt, b, &mut log, &mut buffer)?;
+    let d = example_4(rt, c, &mut log, &mut buffer, &mut places)?;
+    example_5(rt, d, &log, &mut places)
 }
 
-fn example_6() {
+fn example_6(rt: &impl Print) -> io::Result<()> {
     let mut log = [0u8; 1000];
     let mut buffer = [187u8; 65536];
     let mut places = [0u64; 384];
-    print(b"6.\n");
-    let a = answer(opened(0, 0), 1, 5, &log, &mut places);
-    let b = answer(a, 2, 5, &log, &mut places);
-    let c = receive(b, 2, 1, 5, &mut log, &mut buffer);
-    let d = answer(c, 1, 6, &log, &mut places);
-    let e = receive(d, 2, 1, 5, &mut log, &mut buffer);
-    let f = connect(e);
-    receive(f, 2, 1, 5, &mut log, &mut buffer);
+    print(rt, b"6.\n")?;
+    let a = answer(rt, opened(rt, 0, 0)?, 1, 5, &log, &mut places)?;
+    let b = answer(rt, a, 2, 5, &log, &mut places)?;
+    let c = receive(rt, b, 2, 1, 5, &mut log, &mut buffer)?;
+    let d = answer(rt, c, 1, 6, &log, &mut places)?;
+    let e = receive(rt, d, 2, 1, 5, &mut log, &mut buffer)?;
+    let f = connect(rt, e)?;
+    receive(rt, f, 2, 1, 5, &mut log, &mut buffer)?;
+    Ok(())
 }
 
-fn example_8() {
+fn example_8(rt: &impl Print) -> io::Result<()> {
     let mut log = [0u8; 25];
     let mut buffer = [187u8; 65536];
     let mut places = [0u64; 384];
-    print(b"8. log of 25 bytes\n");
-    let a = answer(opened(0, 0), 1, 5, &log, &mut places);
-    let b = receive_f4(a, 1, 1, 5, &mut log, &mut buffer);
-    print_published(b);
-    print_used(b);
-    let c = receive_f4(b, 1, 2, 5, &mut log, &mut buffer);
-    let d = receive(c, 1, 1, 5, &mut log, &mut buffer);
-    print_used(d);
+    print(rt, b"8. log of 25 bytes\n")?;
+    let a = answer(rt, opened(rt, 0, 0)?, 1, 5, &log, &mut places)?;
+    let b = receive_f4(rt, a, 1, 1, 5, &mut log, &mut buffer)?;
+    print_published(rt, b)?;
+    print_used(rt, b)?;
+    let c = receive_f4(rt, b, 1, 2, 5, &mut log, &mut buffer)?;
+    let d = receive(rt, c, 1, 1, 5, &mut log, &mut buffer)?;
+    print_used(rt, d)
 }
 
-fn example_9() {
+fn example_9(rt: &impl Print) -> io::Result<()> {
     let mut log = [0u8; 35];
     let mut buffer = [187u8; 65536];
     let mut places = [0u64; 384];
-    print(b"9. log of 35 bytes\n");
-    let a = answer(opened(0, 0), 1, 5, &log, &mut places);
-    let b = piece_f4(a, b'F', 1, 1, 5, &mut log, &mut buffer);
-    print_behind(&buffer);
-    first_chain(b);
-    let c = piece_f4(b, b'L', 1, 1, 5, &mut log, &mut buffer);
-    print_behind(&buffer);
-    first_chain(c);
-    piece_f4(c, b'L', 1, 1, 5, &mut log, &mut buffer);
+    print(rt, b"9. log of 35 bytes\n")?;
+    let a = answer(rt, opened(rt, 0, 0)?, 1, 5, &log, &mut places)?;
+    let b = piece_f4(rt, a, b'F', 1, 1, 5, &mut log, &mut buffer)?;
+    print_behind(rt, &buffer)?;
+    first_chain(rt, b)?;
+    let c = piece_f4(rt, b, b'L', 1, 1, 5, &mut log, &mut buffer)?;
+    print_behind(rt, &buffer)?;
+    first_chain(rt, c)?;
+    piece_f4(rt, c, b'L', 1, 1, 5, &mut log, &mut buffer)?;
+    Ok(())
 }
 
 // The contents of 10, of number 1 in series 1.
 fn narrow(
+    rt: &impl Print,
     end: Relay,
     letter: u8,
     name: u8,
     what: &[u8],
     log: &mut [u8],
     buffer: &mut [u8],
-) -> Relay {
+) -> io::Result<Relay> {
     let packet = narrow_packet(letter);
-    print_packet(name, 1, 1, 5, what);
-    receive_packet(end, &packet, log, buffer)
+    print_packet(rt, name, 1, 1, 5, what)?;
+    receive_packet(rt, end, &packet, log, buffer)
 }
 
-fn minus(end: Relay, log: &mut [u8], buffer: &mut [u8]) -> Relay {
+fn minus(rt: &impl Print, end: Relay, log: &mut [u8], buffer: &mut [u8]) -> io::Result<Relay> {
     let packet = minus_packet();
-    print_packet(b'R', 1, 1, 5, b" Number '-00'");
-    receive_packet(end, &packet, log, buffer)
+    print_packet(rt, b'R', 1, 1, 5, b" Number '-00'")?;
+    receive_packet(rt, end, &packet, log, buffer)
 }
 
-fn empty_bulletin(end: Relay, log: &mut [u8], buffer: &mut [u8]) -> Relay {
+fn empty_bulletin(
+    rt: &impl Print,
+    end: Relay,
+    log: &mut [u8],
+    buffer: &mut [u8],
+) -> io::Result<Relay> {
     let packet = head(b'S', 1, 1, 5, bulletin(), 0, 0);
-    print_packet(b'R', 1, 1, 5, b" TID 0x2003 empty");
-    receive_packet(end, &packet, log, buffer)
+    print_packet(rt, b'R', 1, 1, 5, b" TID 0x2003 empty")?;
+    receive_packet(rt, end, &packet, log, buffer)
 }
 
-fn last_without_buffer(end: Relay, log: &mut [u8]) -> Relay {
+fn last_without_buffer(rt: &impl Print, end: Relay, log: &mut [u8]) -> io::Result<Relay> {
     let mut none = [0u8; 0];
     let packet = head(b'L', 1, 1, 5, note(), 0, 0);
-    print_packet(b'L', 1, 1, 5, b" chain buffer of 0 bytes");
-    receive_packet(end, &packet, log, &mut none)
+    print_packet(rt, b'L', 1, 1, 5, b" chain buffer of 0 bytes")?;
+    receive_packet(rt, end, &packet, log, &mut none)
 }
 
-fn example_10(log: &mut [u8; 1000], buffer: &mut [u8; 65536]) -> Relay {
+fn example_10(
+    rt: &impl Print,
+    log: &mut [u8; 1000],
+    buffer: &mut [u8; 65536],
+) -> io::Result<Relay> {
     let mut places = [0u64; 384];
     let mut none = [0u8; 0];
-    print(b"10.\n");
-    let a = answer(opened(0, 0), 1, 5, log, &mut places);
-    let b = narrow(a, b'S', b'R', b" FID 4 of 3 bytes", log, buffer);
+    print(rt, b"10.\n")?;
+    let a = answer(rt, opened(rt, 0, 0)?, 1, 5, log, &mut places)?;
+    let b = narrow(rt, a, b'S', b'R', b" FID 4 of 3 bytes", log, buffer)?;
     let c = narrow(
+        rt,
         b,
         b'S',
         b'R',
         b" FID 4 of 3 bytes, log of 0 bytes",
         &mut none,
         buffer,
-    );
-    let d = minus(c, log, buffer);
-    empty_bulletin(d, log, buffer)
+    )?;
+    let d = minus(rt, c, log, buffer)?;
+    empty_bulletin(rt, d, log, buffer)
 }
 
 // The row without a number.
-fn example_without_number(end: Relay, log: &mut [u8; 1000], buffer: &mut [u8; 65536]) {
-    print(b"Not numbered, then\n");
-    let a = narrow(end, b'F', b'F', b" FID 4 of 3 bytes", log, buffer);
-    let b = last_without_buffer(a, log);
-    let c = narrow(b, b'F', b'F', b" FID 4 of 3 bytes", log, buffer);
-    first_chain(c);
-    let d = piece(c, b'L', 1, 1, 5, log, buffer);
-    first_chain(d);
+fn example_without_number(
+    rt: &impl Print,
+    end: Relay,
+    log: &mut [u8; 1000],
+    buffer: &mut [u8; 65536],
+) -> io::Result<()> {
+    print(rt, b"Not numbered, then\n")?;
+    let a = narrow(rt, end, b'F', b'F', b" FID 4 of 3 bytes", log, buffer)?;
+    let b = last_without_buffer(rt, a, log)?;
+    let c = narrow(rt, b, b'F', b'F', b" FID 4 of 3 bytes", log, buffer)?;
+    first_chain(rt, c)?;
+    let d = piece(rt, c, b'L', 1, 1, 5, log, buffer)?;
+    first_chain(rt, d)
 }
 
-fn wrong_contents() {
+fn wrong_contents(rt: &impl Print) -> io::Result<()> {
     let mut log = [0u8; 1000];
     let mut buffer = [187u8; 65536];
-    let end = example_10(&mut log, &mut buffer);
-    example_without_number(end, &mut log, &mut buffer);
+    let end = example_10(rt, &mut log, &mut buffer)?;
+    example_without_number(rt, end, &mut log, &mut buffer)
 }
 
-fn first_bulletin(end: Relay, log: &mut [u8], buffer: &mut [u8]) -> Relay {
+fn first_bulletin(
+    rt: &impl Print,
+    end: Relay,
+    log: &mut [u8],
+    buffer: &mut [u8],
+) -> io::Result<Relay> {
     let packet = bulletin_packet();
-    print_packet(b'F', 1, 1, 5, b" TID 0x2003 listed field");
-    receive_packet(end, &packet, log, buffer)
+    print_packet(rt, b'F', 1, 1, 5, b" TID 0x2003 listed field")?;
+    receive_packet(rt, end, &packet, log, buffer)
 }
 
-fn last_bulletin(end: Relay, log: &mut [u8], buffer: &mut [u8]) -> Relay {
+fn last_bulletin(
+    rt: &impl Print,
+    end: Relay,
+    log: &mut [u8],
+    buffer: &mut [u8],
+) -> io::Result<Relay> {
     let packet = f4_packet(b'L', 1, 1, 5, bulletin());
-    print_packet(b'L', 1, 1, 5, b" TID 0x2003 f4");
-    receive_packet(end, &packet, log, buffer)
+    print_packet(rt, b'L', 1, 1, 5, b" TID 0x2003 f4")?;
+    receive_packet(rt, end, &packet, log, buffer)
 }
 
-fn example_11(buffer: &mut [u8; 65536]) -> Relay {
+fn example_11(rt: &impl Print, buffer: &mut [u8; 65536]) -> io::Result<Relay> {
     let mut log = [0u8; 1000];
     let mut places = [0u64; 384];
-    print(b"11.\n");
-    let a = answer(opened(0, 0), 1, 5, &log, &mut places);
-    let b = first_bulletin(a, &mut log, buffer);
-    last_bulletin(b, &mut log, buffer)
+    print(rt, b"11.\n")?;
+    let a = answer(rt, opened(rt, 0, 0)?, 1, 5, &log, &mut places)?;
+    let b = first_bulletin(rt, a, &mut log, buffer)?;
+    last_bulletin(rt, b, &mut log, buffer)
 }
 
-fn example_12(end: Relay, buffer: &mut [u8; 65536]) {
+fn example_12(rt: &impl Print, end: Relay, buffer: &mut [u8; 65536]) -> io::Result<()> {
     let mut log = [0u8; 3];
-    print(b"12. then, log of 3 bytes\n");
-    let a = receive(end, 1, 2, 5, &mut log, buffer);
-    let b = piece(a, b'L', 1, 2, 5, &mut log, buffer);
-    let c = receive(b, 1, 1, 5, &mut log, buffer);
-    piece(c, b'F', 1, 2, 5, &mut log, buffer);
+    print(rt, b"12. then, log of 3 bytes\n")?;
+    let a = receive(rt, end, 1, 2, 5, &mut log, buffer)?;
+    let b = piece(rt, a, b'L', 1, 2, 5, &mut log, buffer)?;
+    let c = receive(rt, b, 1, 1, 5, &mut log, buffer)?;
+    piece(rt, c, b'F', 1, 2, 5, &mut log, buffer)?;
+    Ok(())
 }
 
-fn examples_11_and_12() {
+fn examples_11_and_12(rt: &impl Print) -> io::Result<()> {
     let mut buffer = [187u8; 65536];
-    let end = example_11(&mut buffer);
-    example_12(end, &mut buffer);
+    let end = example_11(rt, &mut buffer)?;
+    example_12(rt, end, &mut buffer)
 }
 
-fn example_13() {
+fn example_13(rt: &impl Print) -> io::Result<()> {
     let log = [0u8; 0];
     let mut places = [0u64; 384];
-    print(b"13.\n");
-    let end = opened(0, 0);
-    login_empty(end, 16, 1, &mut places);
-    login_empty(end, 15, 1, &mut places);
-    send(end, 255, 9, &log, &mut places);
+    print(rt, b"13.\n")?;
+    let end = opened(rt, 0, 0)?;
+    login_empty(rt, end, 16, 1, &mut places)?;
+    login_empty(rt, end, 15, 1, &mut places)?;
+    send(rt, end, 255, 9, &log, &mut places)
 }
 
 fn three_published(
+    rt: &impl Print,
     log: &mut [u8; 1000],
     buffer: &mut [u8; 65536],
     places: &mut [u64; 384],
-) -> Relay {
-    let a = answer(opened(0, 0), 1, 5, log, places);
-    let b = receive_f4(a, 1, 1, 5, log, buffer);
-    let c = receive_f4(b, 1, 2, 5, log, buffer);
-    receive_f4(c, 1, 3, 5, log, buffer)
+) -> io::Result<Relay> {
+    let a = answer(rt, opened(rt, 0, 0)?, 1, 5, log, places)?;
+    let b = receive_f4(rt, a, 1, 1, 5, log, buffer)?;
+    let c = receive_f4(rt, b, 1, 2, 5, log, buffer)?;
+    receive_f4(rt, c, 1, 3, 5, log, buffer)
 }
 
-fn three_seats(end: Relay, log: &[u8; 1000], places: &mut [u64; 384]) {
-    login_from(end, 0, 1, 1, places);
-    login_from(end, 15, 1, 3, places);
-    login_from(end, 7, 1, 5, places);
-    send(end, 15, 1, log, places);
-    send(end, 0, 1, log, places);
-    send(end, 15, 1, log, places);
-    send(end, 7, 1, log, places);
-    send(end, 0, 1, log, places);
+fn three_seats(
+    rt: &impl Print,
+    end: Relay,
+    log: &[u8; 1000],
+    places: &mut [u64; 384],
+) -> io::Result<()> {
+    login_from(rt, end, 0, 1, 1, places)?;
+    login_from(rt, end, 15, 1, 3, places)?;
+    login_from(rt, end, 7, 1, 5, places)?;
+    send(rt, end, 15, 1, log, places)?;
+    send(rt, end, 0, 1, log, places)?;
+    send(rt, end, 15, 1, log, places)?;
+    send(rt, end, 7, 1, log, places)?;
+    send(rt, end, 0, 1, log, places)
 }
 
 // The seats go on behind Connect.
 fn connected_again(
+    rt: &impl Print,
     end: Relay,
     log: &mut [u8; 1000],
     buffer: &mut [u8; 65536],
     places: &mut [u64; 384],
-) {
-    let b = connect(end);
-    send(b, 0, 1, log, places);
-    receive_f4(b, 1, 4, 5, log, buffer);
+) -> io::Result<()> {
+    let b = connect(rt, end)?;
+    send(rt, b, 0, 1, log, places)?;
+    receive_f4(rt, b, 1, 4, 5, log, buffer)?;
+    Ok(())
 }
 
-fn example_14() {
+fn example_14(rt: &impl Print) -> io::Result<()> {
     let mut log = [0u8; 1000];
     let mut buffer = [187u8; 65536];
     let mut places = [0u64; 384];
-    print(b"14.\n");
-    let a = three_published(&mut log, &mut buffer, &mut places);
-    three_seats(a, &log, &mut places);
-    connected_again(a, &mut log, &mut buffer, &mut places);
+    print(rt, b"14.\n")?;
+    let a = three_published(rt, &mut log, &mut buffer, &mut places)?;
+    three_seats(rt, a, &log, &mut places)?;
+    connected_again(rt, a, &mut log, &mut buffer, &mut places)
 }
 
 // Reserves above the log's length: 11 behind 16, and only where a day would be opened.
-fn reserves() {
+fn reserves(rt: &impl Print) -> io::Result<()> {
     let short = [0u8; 99];
     let long = [0u8; 100];
     let mut places = [0u64; 384];
-    print(b"Reserves 60 and 40, log of 99 bytes\n");
-    let a = answer(opened(60, 40), 1, 5, &short, &mut places);
-    let b = answer_one(a, 1, 5, &short, &mut places);
-    print(b"the same, log of 100 bytes\n");
-    let c = answer(b, 1, 5, &long, &mut places);
-    print(b"the same, log of 99 bytes\n");
-    let d = answer(c, 2, 5, &short, &mut places);
-    answer(d, 2, 6, &short, &mut places);
+    print(rt, b"Reserves 60 and 40, log of 99 bytes\n")?;
+    let a = answer(rt, opened(rt, 60, 40)?, 1, 5, &short, &mut places)?;
+    let b = answer_one(rt, a, 1, 5, &short, &mut places)?;
+    print(rt, b"the same, log of 100 bytes\n")?;
+    let c = answer(rt, b, 1, 5, &long, &mut places)?;
+    print(rt, b"the same, log of 99 bytes\n")?;
+    let d = answer(rt, c, 2, 5, &short, &mut places)?;
+    answer(rt, d, 2, 6, &short, &mut places)?;
+    Ok(())
 }
 
 // 18 by the sum of the larger of used and reserve: 26 and 52, 52 and 52, 42 and 52, 58 and 52; then 42 and 26, 52, 68.
-fn shares() {
+fn shares(rt: &impl Print) -> io::Result<()> {
     let mut log = [0u8; 100];
     let mut buffer = [187u8; 65536];
     let mut places = [0u64; 384];
-    print(b"Reserves 0 and 52, log of 100 bytes\n");
-    let a = answer(opened(0, 52), 1, 5, &log, &mut places);
-    let b = answer(a, 2, 5, &log, &mut places);
-    let c = receive_f4(b, 1, 1, 5, &mut log, &mut buffer);
-    let d = receive_f4(c, 1, 2, 5, &mut log, &mut buffer);
-    let e = receive(d, 1, 2, 5, &mut log, &mut buffer);
-    let f = receive(e, 1, 3, 5, &mut log, &mut buffer);
-    let g = receive_f4(f, 2, 1, 5, &mut log, &mut buffer);
-    let h = receive_f4(g, 2, 2, 5, &mut log, &mut buffer);
-    receive(h, 2, 3, 5, &mut log, &mut buffer);
+    print(rt, b"Reserves 0 and 52, log of 100 bytes\n")?;
+    let a = answer(rt, opened(rt, 0, 52)?, 1, 5, &log, &mut places)?;
+    let b = answer(rt, a, 2, 5, &log, &mut places)?;
+    let c = receive_f4(rt, b, 1, 1, 5, &mut log, &mut buffer)?;
+    let d = receive_f4(rt, c, 1, 2, 5, &mut log, &mut buffer)?;
+    let e = receive(rt, d, 1, 2, 5, &mut log, &mut buffer)?;
+    let f = receive(rt, e, 1, 3, 5, &mut log, &mut buffer)?;
+    let g = receive_f4(rt, f, 2, 1, 5, &mut log, &mut buffer)?;
+    let h = receive_f4(rt, g, 2, 2, 5, &mut log, &mut buffer)?;
+    receive(rt, h, 2, 3, 5, &mut log, &mut buffer)?;
+    Ok(())
 }
 
-fn main() {
-    examples_1_to_5();
-    example_6();
-    example_8();
-    example_9();
-    wrong_contents();
-    examples_11_and_12();
-    example_13();
-    example_14();
-    reserves();
-    shares();
+fn main(rt: HostRuntime) -> io::Result<()> {
+    examples_1_to_5(&rt)?;
+    example_6(&rt)?;
+    example_8(&rt)?;
+    example_9(&rt)?;
+    wrong_contents(&rt)?;
+    examples_11_and_12(&rt)?;
+    example_13(&rt)?;
+    example_14(&rt)?;
+    reserves(&rt)?;
+    shares(&rt)
 }
