@@ -2,9 +2,10 @@
 // says and prints is the crate play's: here is only reading and writing.
 #![tactic(auto)]
 
-use libc::{STDIN_FILENO, STDOUT_FILENO};
 use play::input::take_line;
 use play::player::Player;
+use std::io;
+use streams::read_full;
 
 // The player behind some lines, and how many bytes of the next one are there.
 #[derive(Clone, Copy)]
@@ -15,6 +16,7 @@ struct Reached {
 
 // Plays a line and prints its answer.
 fn print_line(
+    rt: &impl Print,
     player: Player,
     line: &[u8],
     have: usize,
@@ -23,15 +25,16 @@ fn print_line(
     bytes: &mut [u8],
     out: &mut [u8],
     text: &mut [u8],
-) -> Player {
+) -> io::Result<Player> {
     let r = player.play(line, have, log, chain, bytes, out, text);
     let n = r.len;
-    io::write_all(STDOUT_FILENO, &text[..n]);
-    r.player
+    rt.write_all(&text[..n])?;
+    Ok(r.player)
 }
 
 // Plays the lines that end in a piece of the input.
 fn print_piece(
+    rt: &impl Print,
     player: Player,
     have: usize,
     input: &[u8],
@@ -41,7 +44,7 @@ fn print_piece(
     bytes: &mut [u8],
     out: &mut [u8],
     text: &mut [u8],
-) -> Reached {
+) -> io::Result<Reached> {
     let mut now = Reached {
         player: player,
         have: have,
@@ -53,17 +56,18 @@ fn print_piece(
         if t.whole {
             let p = now.player;
             now = Reached {
-                player: print_line(p, line, t.have, log, chain, bytes, out, text),
+                player: print_line(rt, p, line, t.have, log, chain, bytes, out, text)?,
                 have: 0,
             };
         } else {
             now.have = t.have;
         }
     }
-    now
+    Ok(now)
 }
 
-fn main() {
+fn main(rt: HostRuntime) -> io::Result<()> {
+    let mut stdin = rt.reader();
     let mut input = [0u8; 65536];
     let mut line = [0u8; 140000];
     let mut log = [0u8; 1048576];
@@ -77,13 +81,14 @@ fn main() {
     };
     let mut turns: u32 = 4294967295;
     while turns > 0 {
-        let n = io::read_full(STDIN_FILENO, &mut input);
+        let n = read_full(&mut stdin, &mut input)?;
         if n == 0 {
             turns = 0;
         } else {
             let p = now.player;
             let have = now.have;
             now = print_piece(
+                &rt,
                 p,
                 have,
                 &input[..n],
@@ -93,7 +98,7 @@ fn main() {
                 &mut bytes,
                 &mut out,
                 &mut text,
-            );
+            )?;
             turns -= 1;
         }
     }
@@ -101,7 +106,8 @@ fn main() {
     let have = now.have;
     if have > 0 {
         print_line(
-            p, &line, have, &mut log, &mut chain, &mut bytes, &mut out, &mut text,
-        );
+            &rt, p, &line, have, &mut log, &mut chain, &mut bytes, &mut out, &mut text,
+        )?;
     }
+    Ok(())
 }
