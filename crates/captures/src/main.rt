@@ -8,8 +8,11 @@ ghost use Rattle.listing.specs.Lines.{listing_of};
 
 use check::same;
 use ftd::bytes::be32;
-use libc::STDOUT_FILENO;
 use listing::{Line, write_line};
+use std::io::Read;
+use std::rt::Files;
+use std::{fs, io};
+use streams::read_full;
 
 // What came of a record.
 #[derive(Clone, Copy)]
@@ -61,11 +64,12 @@ fn lists(capture: &[u8], more: bool, text: &[u8]) -> bool
 }
 
 // Reads n bytes to the start of a buffer; false where it has fewer bytes, or the file.
-fn fill(fd: i32, buffer: &mut [u8], n: usize) -> bool {
+fn fill<R: Read>(input: &mut R, buffer: &mut [u8], n: usize) -> io::Result<bool> {
     if buffer.len() < n {
-        return false;
+        return Ok(false);
     }
-    io::read_full(fd, &mut buffer[..n]) == n
+    let got = read_full(input, &mut buffer[..n])?;
+    Ok(got == n)
 }
 
 // The lister reads at most 65,536 bytes.
@@ -77,39 +81,39 @@ fn read_part(n: usize) -> usize
 
 // Reads a record and compares it. What the capture has behind the part that the lister reads goes to the text's buffer
 // and is dropped.
-fn next_record(fd: i32, capture: &mut [u8], text: &mut [u8]) -> Record {
+fn next_record<R: Read>(input: &mut R, capture: &mut [u8], text: &mut [u8]) -> io::Result<Record> {
     let mut head = [0u8; 8];
-    let got = io::read_full(fd, &mut head);
+    let got = read_full(input, &mut head)?;
     if got == 0 {
-        return Record::Nothing;
+        return Ok(Record::Nothing);
     }
     if got < 8 {
-        return Record::Broken;
+        return Ok(Record::Broken);
     }
     let length = be32(&head, 0) as usize;
     let n = read_part(length);
     let m = be32(&head, 4) as usize;
     if capture.len() < n {
-        return Record::Broken;
+        return Ok(Record::Broken);
     }
     if text.len() < m {
-        return Record::Broken;
+        return Ok(Record::Broken);
     }
-    if fill(fd, capture, n) {
-        if fill(fd, text, length - n) {
-            if fill(fd, text, m) {
+    if fill(input, capture, n)? {
+        if fill(input, text, length - n)? {
+            if fill(input, text, m)? {
                 if lists(&capture[..n], n < length, &text[..m]) {
-                    return Record::Same;
+                    return Ok(Record::Same);
                 }
-                return Record::Differs;
+                return Ok(Record::Differs);
             }
         }
     }
-    Record::Broken
+    Ok(Record::Broken)
 }
 
 // All records of a file.
-fn all_records(fd: i32) -> Tally {
+fn all_records<R: Read>(input: &mut R) -> io::Result<Tally> {
     let mut capture = [0u8; 65536];
     let mut text = [0u8; 65536];
     let mut t = Tally {
@@ -118,13 +122,13 @@ fn all_records(fd: i32) -> Tally {
         whole: false,
     };
     while t.records < 1000000 {
-        match next_record(fd, &mut capture, &mut text) {
+        match next_record(input, &mut capture, &mut text)? {
             Record::Nothing => {
                 t.whole = true;
-                return t;
+                return Ok(t);
             }
             Record::Broken => {
-                return t;
+                return Ok(t);
             }
             Record::Same => {
                 t.records += 1;
@@ -135,35 +139,33 @@ fn all_records(fd: i32) -> Tally {
             }
         }
     }
-    t
+    Ok(t)
 }
 
 // The line of a file.
-fn compare(name: &[u8]) {
-    io::write_all(STDOUT_FILENO, name);
-    let fd = os::open_read(name);
-    if fd < 0 {
-        io::write_all(STDOUT_FILENO, b" missing\n");
-        return;
+fn compare(rt: &(impl Files + Print), name: &str) -> io::Result<()> {
+    rt.write_all(name.as_bytes())?;
+    match fs::open(rt, name) {
+        Err(_) => rt.write_all(b" missing\n"),
+        Ok(mut file) => {
+            let t = all_records(&mut file)?;
+            rt.write_all(b" ")?;
+            rt.print(t.records)?;
+            rt.write_all(b" ")?;
+            rt.print(t.differ)?;
+            if t.whole {
+                return rt.write_all(b"\n");
+            }
+            rt.write_all(b" missing\n")
+        }
     }
-    let t = all_records(fd);
-    libc::close(fd);
-    io::write_all(STDOUT_FILENO, b" ");
-    io::print_decimal(STDOUT_FILENO, t.records);
-    io::write_all(STDOUT_FILENO, b" ");
-    io::print_decimal(STDOUT_FILENO, t.differ);
-    if t.whole {
-        io::write_all(STDOUT_FILENO, b"\n");
-        return;
-    }
-    io::write_all(STDOUT_FILENO, b" missing\n");
 }
 
-fn main() {
-    compare(b"valid");
-    compare(b"damaged");
-    compare(b"cut");
-    compare(b"empty");
-    compare(b"full");
-    compare(b"more");
+fn main(rt: HostRuntime) -> io::Result<()> {
+    compare(&rt, "valid")?;
+    compare(&rt, "damaged")?;
+    compare(&rt, "cut")?;
+    compare(&rt, "empty")?;
+    compare(&rt, "full")?;
+    compare(&rt, "more")
 }
