@@ -12,7 +12,10 @@ use calendar::trading::{Calendar, SetAnswer, TradeTime, mark_date};
 use ftd::bytes::be32;
 use ftd::refusal::number;
 use ftd::values::is_date;
-use libc::STDOUT_FILENO;
+use std::io::Read;
+use std::rt::Files;
+use std::{fs, io};
+use streams::read_full;
 
 // What came of a file: how many records, how many that differ, and whether all its bytes are records.
 #[derive(Clone, Copy)]
@@ -58,20 +61,20 @@ fn is_set(answer: SetAnswer, n: u32) -> bool {
 }
 
 // Reads n numbers; false where there is no room for them, or the file has fewer.
-fn numbers(fd: i32, out: &mut [u32], n: usize) -> bool {
+fn numbers<R: Read>(input: &mut R, out: &mut [u32], n: usize) -> io::Result<bool> {
     if out.len() < n {
-        return false;
+        return Ok(false);
     }
     let mut i: usize = 0;
     while i < n {
         let mut four = [0u8; 4];
-        if io::read_full(fd, &mut four) < 4 {
-            return false;
+        if read_full(input, &mut four)? < 4 {
+            return Ok(false);
         }
         out[i] = be32(&four, 0);
         i += 1;
     }
-    true
+    Ok(true)
 }
 
 // A record that is not there whole.
@@ -114,18 +117,23 @@ fn compare_answer(
 }
 
 // Set, with n numbers of sessions and m holidays, which follow.
-fn compare_set(fd: i32, calendar: Calendar, n: usize, m: usize) -> Compared {
+fn compare_set<R: Read>(
+    input: &mut R,
+    calendar: Calendar,
+    n: usize,
+    m: usize,
+) -> io::Result<Compared> {
     let mut sessions = [0u32; 64];
     let mut holidays = [0u32; 64];
     let mut said = [0u32; 64];
-    if numbers(fd, &mut sessions, n) {
-        if numbers(fd, &mut holidays, m) {
-            if numbers(fd, &mut said, 1) {
-                return compare_answer(calendar, &sessions, n, &holidays, m, said[0]);
+    if numbers(input, &mut sessions, n)? {
+        if numbers(input, &mut holidays, m)? {
+            if numbers(input, &mut said, 1)? {
+                return Ok(compare_answer(calendar, &sessions, n, &holidays, m, said[0]));
             }
         }
     }
-    broken(calendar)
+    Ok(broken(calendar))
 }
 
 // The bytes are no date item.
@@ -137,20 +145,20 @@ fn no_date(s: &[u8]) -> bool {
 }
 
 // A record by its letter.
-fn compare_record(fd: i32, calendar: Calendar, head: &[u8]) -> Compared
+fn compare_record<R: Read>(input: &mut R, calendar: Calendar, head: &[u8]) -> io::Result<Compared>
     requires { 9 ≡ length head.now }
 {
     let x = be32(head, 1);
     let y = be32(head, 5);
     let letter = head[0];
     match letter {
-        b'V' => told(calendar, is_date(&head[1..])),
-        b'W' => told(calendar, no_date(&head[1..])),
-        b'D' => told(calendar, is_number(date_of(x), y)),
-        b'M' => told(calendar, mark_date(x) == y),
-        b'A' => told(calendar, is_answer(calendar.ask(x), y)),
-        b'S' => compare_set(fd, calendar, x as usize, y as usize),
-        _ => broken(calendar),
+        b'V' => Ok(told(calendar, is_date(&head[1..]))),
+        b'W' => Ok(told(calendar, no_date(&head[1..]))),
+        b'D' => Ok(told(calendar, is_number(date_of(x), y))),
+        b'M' => Ok(told(calendar, mark_date(x) == y)),
+        b'A' => Ok(told(calendar, is_answer(calendar.ask(x), y))),
+        b'S' => compare_set(input, calendar, x as usize, y as usize),
+        _ => Ok(broken(calendar)),
     }
 }
 
@@ -165,7 +173,7 @@ fn wrong(right: bool) -> u64
 }
 
 // All records of a file.
-fn all_records(fd: i32) -> Tally {
+fn all_records<R: Read>(input: &mut R) -> io::Result<Tally> {
     let mut calendar = Calendar::fresh();
     let mut t = Tally {
         records: 0,
@@ -174,51 +182,49 @@ fn all_records(fd: i32) -> Tally {
     };
     while t.records < 1000000 {
         let mut head = [0u8; 9];
-        let got = io::read_full(fd, &mut head);
+        let got = read_full(input, &mut head)?;
         if got == 0 {
             t.whole = true;
-            return t;
+            return Ok(t);
         }
         if got < 9 {
-            return t;
+            return Ok(t);
         }
-        let c = compare_record(fd, calendar, &head);
+        let c = compare_record(input, calendar, &head)?;
         if c.whole {
             calendar = c.calendar;
             t.records += 1;
             t.differ += wrong(c.right);
         } else {
-            return t;
+            return Ok(t);
         }
     }
-    t
+    Ok(t)
 }
 
 // The line of a file.
-fn compare(name: &[u8]) {
-    io::write_all(STDOUT_FILENO, name);
-    let fd = os::open_read(name);
-    if fd < 0 {
-        io::write_all(STDOUT_FILENO, b" missing\n");
-        return;
+fn compare(rt: &(impl Files + Print), name: &str) -> io::Result<()> {
+    rt.write_all(name.as_bytes())?;
+    match fs::open(rt, name) {
+        Err(_) => rt.write_all(b" missing\n"),
+        Ok(mut file) => {
+            let t = all_records(&mut file)?;
+            rt.write_all(b" ")?;
+            rt.print(t.records)?;
+            rt.write_all(b" ")?;
+            rt.print(t.differ)?;
+            if t.whole {
+                return rt.write_all(b"\n");
+            }
+            rt.write_all(b" broken\n")
+        }
     }
-    let t = all_records(fd);
-    libc::close(fd);
-    io::write_all(STDOUT_FILENO, b" ");
-    io::print_decimal(STDOUT_FILENO, t.records);
-    io::write_all(STDOUT_FILENO, b" ");
-    io::print_decimal(STDOUT_FILENO, t.differ);
-    if t.whole {
-        io::write_all(STDOUT_FILENO, b"\n");
-        return;
-    }
-    io::write_all(STDOUT_FILENO, b" broken\n");
 }
 
-fn main() {
-    compare(b"items");
-    compare(b"examples");
-    compare(b"days");
-    compare(b"marks");
-    compare(b"times");
+fn main(rt: HostRuntime) -> io::Result<()> {
+    compare(&rt, "items")?;
+    compare(&rt, "examples")?;
+    compare(&rt, "days")?;
+    compare(&rt, "marks")?;
+    compare(&rt, "times")
 }
