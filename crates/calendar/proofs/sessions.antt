@@ -1,3 +1,4 @@
 -- The laws of sessions.
 pub mod Laws
+pub mod Common
 pub mod One

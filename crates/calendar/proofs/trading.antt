@@ -3,3 +3,4 @@ pub mod Copied
 pub mod Laws
 pub mod Times
 pub mod Taken
+pub mod Leaving

@@ -23,25 +23,9 @@ use Rattle.ftd.specs.Return.{Returns}
 use Rattle.ftd.proofs.Return.{returns}
 use Rattle.fix.specs.Follow.{ComesBack}
 use Rattle.fix.specs.Follow.{Event, frame, set_to, number_if_next, took_number, is_set, expected_then, frames}
-
--- What one read does with the number expected.
-pub data Did (expected : ℕ) (r : Reading) : Type 0 where
-  stays : number_if_next r.answer ≡ none → r.expected ≡ expected → Did expected r
-  takes : number_if_next r.answer ≡ some expected → r.expected ≡ expected + 1 → Did expected r
+use Rattle.fix.proofs.read.Dids.{Did, stays, takes, numbered-did}
 
 module _ (m : Message) (duplicate : Bool) (expected : ℕ) where
-  numbered-did : Did expected (numbered_of m duplicate expected)
-  unfolding numbered_of
-  numbered-did = go (eqb m.number expected) refl (ltb expected m.number) duplicate
-    where
-      go : (x : Bool) → eqb m.number expected ≡ x → (y z : Bool) → Did expected
-          (cond x (reading (expected + 1) (Next m))
-          (cond y (reading expected (Gap m)) (cond z (reading expected (Again m)) (reading expected (Refused LowNumber)))))
-      go true e y z = takes (ap some (eqb-true m.number expected e)) refl
-      go false e true z = stays refl refl
-      go false e false true = stays refl refl
-      go false e false false = stays refl refl
-
   judged-did : Did expected (judged_of m duplicate expected)
   unfolding judged_of
   judged-did = go (is_reset m.kind) m.fill
@@ -49,9 +33,9 @@ module _ (m : Message) (duplicate : Bool) (expected : ℕ) where
       go : (x y : Bool) → Did expected
           (cond x (cond y (numbered_of m duplicate expected) (reading expected (Reset m)))
           (numbered_of m duplicate expected))
-      go true true = numbered-did
+      go true true = numbered-did m duplicate expected
       go true false = stays refl refl
-      go false y = numbered-did
+      go false y = numbered-did m duplicate expected
 
 checked-did : (m : Message) (fs : List Given) (expected : ℕ) → Did expected (checked_of m fs expected)
 unfolding checked_of

@@ -20,7 +20,8 @@ use Rattle.calendar.specs.Calendar.Times.{day_at, second_at, Trades, Follows, Ha
 use Rattle.calendar.proofs.Some.{or-neither, some_at, some-found, none-at}
 use Rattle.calendar.proofs.days.Laws.{day-laws}
 use Rattle.calendar.proofs.holidays.Near.{next-trading}
-use Rattle.calendar.proofs.sessions.One.{one-alone, both}
+use Rattle.calendar.proofs.sessions.Common.{both}
+use Rattle.calendar.proofs.sessions.One.{one-alone}
 
 -- ─── Tests and what they say ───
 

@@ -1,5 +1,5 @@
 use borrow.Author.Rules.{rules}
-use Rattle.book.proofs.sums.Rounding.{up_above, up-below, up-half}
+use Rattle.book.proofs.sums.Halves.{up_above, up-below, up-half}
 use Rattle.book.proofs.sums.goes_up.Goals as goal
 
 pub returns-then-left-remainder : goal.returns-then-left-remainder
