@@ -33,6 +33,10 @@ class BadEdit(Exception):
     pass
 
 
+class NotProved(Exception):
+    pass
+
+
 def parts(path):
     """What is wrong, where it is to be refused (or None), and the replacements (file, old, new) of an edit."""
     lines = path.read_text().split("\n")
@@ -181,8 +185,7 @@ def try_all(room, edits):
     done = rt(room / "crates" / crate, "check", "--jobs", "1")
     if done.returncode != 0:
         print(done.stdout[-2000:])
-        print(f"wrong programs: crate {crate} itself is not proved", file=sys.stderr)
-        return len(edits)
+        raise NotProved(crate)
     failed = 0
     for path, _ in edits:
         line, fine = try_one(room, path, crate)
@@ -234,8 +237,12 @@ def main(words):
             finally:
                 free.append(room)
 
-        with concurrent.futures.ThreadPoolExecutor(jobs) as pool:
-            failed = sum(pool.map(one, parts_of))
+        try:
+            with concurrent.futures.ThreadPoolExecutor(jobs) as pool:
+                failed = sum(pool.map(one, parts_of))
+        except NotProved as crate:
+            print(f"wrong programs: crate {crate} itself is not proved", file=sys.stderr)
+            return 2
     print(f"wrong programs: {len(edits)} tried, {len(edits) - failed} refused where they have to be, {failed} not")
     return 1 if failed else 0
 
