@@ -28,6 +28,10 @@ for f in sources:
     words.update(re.findall(r"[^\W\d][\w\-′?→]*", (root / f).read_text()))
     words.update(pathlib.Path(f).parts)
     words.add(pathlib.Path(f).stem)
+# Goals that only a wrong program has, which its edit names.
+for f in files:
+    if f.endswith(".edit"):
+        words.update(re.findall(r"goal\.(returns-[\w\-]+)", (root / f).read_text()))
 
 
 def is_path(name):

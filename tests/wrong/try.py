@@ -11,7 +11,8 @@
 
 A file has the format of the gate's edits (crates/*/must-fail): `file:`, `old:` and `new:` lines. Its first line says what is wrong with
 the program, its second where it has to be refused: `at: FILE NAME`, the file of the first error and the name of what stands there (a
-proof's need or law, a function). A program that is refused elsewhere, say for its shape, counts as a failure like one that survives.
+proof's goal or law, a function). A program that is refused elsewhere, or where a proof names what the edit took away, counts as a failure
+like one that survives.
 The tree is copied and each edit is checked in a copy of its crate, over what the check of the unchanged crate kept (`rt check`), two at
 a time or RT_JOBS. One line for each edit and a count; exit status 1 if one survives, is refused elsewhere or cannot be made, 2 if the
 unchanged crate is not proved. With WRONG_LOGS=FOLDER what the checker said of each edit is kept there.
@@ -170,6 +171,8 @@ def try_one(room, path, crate):
         if "logic=not-proved" not in log:
             first = next((l for l in log.split("\n") if "error" in l), "")[:200]
             return f"{label}: BAD EDIT: it did not reach the prover: {first}", False
+        if gone := re.search(r"error: .*(?:has no `[^`]*` that can be named|has no field|is not in scope: add)", log):
+            return f"{label}: BAD EDIT: it names what is not there: {gone.group(0)[:160]}", False
         place = first_error(log, folder)
         if place != at:
             return f"{label}: REFUSED ELSEWHERE: {place}; expected {at} ({took})", False
