@@ -5,8 +5,9 @@
     tests/copies.py --selftest   that, and shows on planted sources that it can fail
 
 It follows every call by name: functions of the module, imported ones, paths into other crates, methods (where only the name is known,
-those of every type that has one), and the constants that a function names. In each function it looks at parameters and results by value,
-at locals, at array and byte-string expressions, and into each struct and enum that is named there by value or made there, field by field.
+those of every type that has one), and the constants that a function names, a static too where it takes more than one element of it.
+In each function it looks at parameters and results by value, at locals, at array and byte-string expressions, and into each struct and
+enum that is named there by value or made there, field by field.
 What it cannot tell is an error, not a pass: a call that leads nowhere, a length or an element that it cannot read. The kit's std has
 functions over numbers alone; of these it takes those of std::num. It prints each function and constant that it looked at.
 Exit status: 0 nothing found, 1 something found or not resolved.
@@ -25,6 +26,14 @@ KEYWORDS = set("as break const continue crate else enum extern false fn for ghos
                "Self static struct super true type use where while".split())
 NUMBERS = {"u8", "u16", "u32", "u64", "usize", "i8", "i16", "i32", "i64", "isize", "bool", "f32", "f64"}
 TOKEN = re.compile(r'b"(?:[^"\\]|\\.)*"|b\'(?:[^\'\\]|\\.)\'|\'[A-Za-z_]\w*(?!\')|0[xX][0-9a-fA-F_]+|\d[\d_]*|[^\W\d]\w*|::|->|=>|\.\.=|\.\.|&&|\|\||[<>=!]=|\S')
+
+
+# Methods of std that look at a slice, an array, a number or an option: none makes an array of its own but `map`, which
+# makes one of as many elements as it is given.
+STD_METHODS = frozenset((
+    "contains", "enumerate", "is_empty", "is_some", "iter", "len", "map", "max", "min", "position", "take",
+    "unwrap_or", "wrapping_add",
+))
 
 
 class Unresolved(Exception):
@@ -56,6 +65,7 @@ class Sources:
 
     def __init__(self, root):
         self.functions, self.types, self.consts, self.uses, self.methods = {}, {}, {}, {}, {}
+        self.statics = set()
         for path in sorted(root.glob("crates/*/src/**/*.rt")):
             crate = path.relative_to(root).parts[1]
             parts = list(path.relative_to(root / "crates" / crate / "src").with_suffix("").parts)
@@ -84,12 +94,14 @@ class Sources:
                 i = ts.index(";", i) + 1
             elif t == "type":
                 raise Unresolved(f"{module}: a type alias is not followed")
-            elif t == "const":
+            elif t in ("const", "static"):
                 name, end = ts[i + 1], i
                 while ts[end] != ";":
                     end = closing(ts, end) if ts[end] in "([{" else end + 1
                 equals = ts.index("=", i)
                 self.consts[f"{before}::{name}"] = (module, owner, ts[i + 3:equals], ts[equals + 1:end])
+                if t == "static":
+                    self.statics.add(f"{before}::{name}")
                 i = end + 1
             elif t in ("struct", "enum"):
                 name, j = ts[i + 1], i + 2
@@ -97,8 +109,16 @@ class Sources:
                 self.types[f"{module}::{name}"] = (t, module, ts[j + 1:end - 1])
                 i = end + (1 if end < len(ts) and ts[end] == ";" else 0)
             elif t == "impl":
-                end = closing(ts, i + 2)
-                self.items(module, ts[i + 1], ts[i + 3:end - 1])
+                brace = ts.index("{", i)
+                head, end = ts[i + 1:brace], closing(ts, brace)
+                held = ts[brace + 1:end - 1]
+                if "for" in head:
+                    # Of a trait: a method of it is found by its name, and what its own type names stand for is not needed.
+                    head = head[head.index("for") + 1:]
+                    while "type" in held:
+                        at = held.index("type")
+                        del held[at:held.index(";", at) + 1]
+                self.items(module, head[0], held)
                 i = end
             elif t == "fn":
                 name, j = ts[i + 1], i + 2
@@ -199,7 +219,7 @@ class Search:
                     self.found.append(f"{where}: an array of {n} bytes")
                 self.type(where, module, owner, inner[:split])
                 i = end
-            elif t in NUMBERS or t in "(),<>" or t == "mut" or t.startswith("'"):
+            elif t in NUMBERS or t in "(),<>" or t in ("mut", "Option", "Result") or t.startswith("'") or re.fullmatch("[A-Z]", t):
                 i += 1
             else:
                 path, i = self.path(ts, i)
@@ -262,7 +282,7 @@ class Search:
         for part in parts:
             if ":" in part:
                 self.type(full, module, owner, part[part.index(":") + 1:])
-            elif part not in ([], ["self"], ["mut", "self"]):
+            elif part not in ([], ["self"], ["mut", "self"], ["&", "self"]):
                 raise Unresolved(f"{full}: the parameter {' '.join(part)}")
         if owner and any("self" in p for p in parts):
             self.made(full, f"{module}::{owner}")
@@ -318,7 +338,8 @@ class Search:
 
     def method(self, full, module, owner, ts, i):
         name = ts[i + 1]
-        if name == "len":
+        # `take` is a method of the book too: behind another call it is the iterator's.
+        if name in STD_METHODS and (name not in self.s.methods or ts[i - 1] == ")"):
             return
         if ts[i - 1] == "self" and owner:
             self.todo.append(f"{module}::{owner}::{name}")
@@ -330,8 +351,12 @@ class Search:
 
     def named(self, full, module, owner, path, after):
         target = self.s.resolve(module, owner, path)
+        if after == "!" and path == ["matches"]:
+            return  # a test; its words are read as any others
         if after == "!":
             raise Unresolved(f"{full}: the macro {path[-1]}")
+        if target in self.s.statics and after == "[":
+            return  # one element of it: a static is not laid out anew where it is used
         if target in self.s.consts:
             self.constant(target)
         elif target in self.s.types:
@@ -343,6 +368,8 @@ class Search:
             self.todo.append(target)
         elif target.startswith("std::num::") and after == "(":
             self.seen["fn", target + " (kit)"] = True
+        elif path in (["Some"], ["Ok"], ["Err"]) and after == "(":
+            return  # std's variants: made of what stands in the parentheses, or a pattern
         elif after == "(":
             raise Unresolved(f"{full}: the call {'::'.join(path)}")
         elif len(path) > 1:
@@ -378,12 +405,14 @@ PLANTED = [
     ("one without its type", "let b = [0; 65]; x[0] = b[1];", "", True),
     ("one as a struct's field", "let h = Held { one: Inner { held: lent() } }; use_it(h);", "", True),
     ("a constant array", "x[0] = TABLE[1];", "", True),
+    ("a static taken whole", "let b = LASTING; x[0] = b[1];", "", True),
     ("a constant of a sum", "x[0] = SUMS[1];", "", True),
     ("a byte string", 'x[0] = b"' + "x" * 65 + '"[1];', "", True),
     ("a parameter by value", "", "b: [u8; 65]", True),
     ("a call that leads nowhere", "elsewhere(x);", "", True),
     ("a method that is not there", "x.copy_from_slice(x);", "", True),
     ("an array of 64 bytes", "let b: [u8; 64] = [0; 64]; x[0] = b[1];", "", False),
+    ("an element of a static", "x[0] = LASTING[1];", "", False),
     ("a constant of 64", "x[0] = FEW[1];", "", False),
     ("a lent array of 65", "", "b: &[u8; 65]", False),
 ]
@@ -393,6 +422,7 @@ def planted(code, parameter):
     lib = f"""
 const SIXTY: usize = 60;
 const TABLE: [u8; 65] = [0; 65];
+static LASTING: [u8; 65] = [0; 65];
 const SUMS: [u8; SIXTY + 5] = [0; SIXTY + 5];
 const FEW: [u8; 64] = [0; 64];
 pub struct Inner {{ held: [u8; 65], }}

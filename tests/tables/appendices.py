@@ -530,7 +530,7 @@ def column(name, ty, values, width=100):
             now = "   "
         now += word
     lines.append(now)
-    return "const %s: [%s; %d] = [\n%s\n];" % (name, ty, len(values), "\n".join(lines))
+    return "static %s: [%s; %d] = [\n%s\n];" % (name, ty, len(values), "\n".join(lines))
 
 
 def rattle(std):

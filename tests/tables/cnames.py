@@ -170,7 +170,7 @@ def compare_code(spec, fields):
     numbers = dict(re.findall(r"^(\w+_kind) = (\d+)$", spec, re.M))
 
     def column(name):
-        found = re.search(r"const %s: \[\w+; (\d+)\] = \[([^\]]*)\]" % name, code)
+        found = re.search(r"static %s: \[\w+; (\d+)\] = \[([^\]]*)\]" % name, code)
         entries = re.findall(r"(\w+)(?:,|\s*\Z)(?: // (\w+) (\S+): (\S+))?\s*", found.group(2))
         need(len(entries) == int(found.group(1)), "column", name)
         return entries

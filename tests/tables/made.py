@@ -77,7 +77,7 @@ def compare(std):
     code = text("src", "table.rt")
     names = {n: int(v) for n, v in re.findall(r"pub const (\w+): u8 = (\d+);", text("src", "kinds.rt"))}
     for name, column in columns(rows, places).items():
-        found = re.search(r"const %s: \[\w+; (\d+)\] = \[([^\]]*)\]" % name, code)
+        found = re.search(r"static %s: \[\w+; (\d+)\] = \[([^\]]*)\]" % name, code)
         entries = re.findall(r"(\w+)(?:,|\s*\Z)(?: // (\w+) (\S+): (\S+))?\s*", found.group(2))
         same("column " + name, column, [names[e[0]] if e[0] in names else int(e[0]) for e in entries])
         if name == "KIND":

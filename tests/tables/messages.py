@@ -21,7 +21,7 @@ def main():
     have = [(int(t, 16), 0 if d == "Up" else 1, int(f, 16), int(lo), int(hi)) for t, d, f, lo, hi in listed]
     code = made.text("src", "composition.rt")
     names = ("TID", "DIRECTION", "FID", "LEAST", "MOST")
-    body = [re.search(r"const %s: \[\w+; \d+\] = \[(.*?)\];" % n, code, re.S).group(1) for n in names]
+    body = [re.search(r"static %s: \[\w+; \d+\] = \[(.*?)\];" % n, code, re.S).group(1) for n in names]
     columns = list(zip(*([int(x, 0) for x in re.findall(r"\w+", re.sub(r"//[^\n]*", "", b))] for b in body)))
     wrong = sum(a != b for a, b in zip(have, want)) + abs(len(have) - len(want))
     wrong += sum(a != b for a, b in zip(columns, want)) + abs(len(columns) - len(want))

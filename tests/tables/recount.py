@@ -124,7 +124,7 @@ kind = lambda r: kinds[r[6]] if r[6] is not None else base[r[3]]
 
 
 def const(name):
-    m = re.search(r"const %s: \[(u8|u16); (\d+)\] = \[([^\]]*)\]" % name, rattle)
+    m = re.search(r"static %s: \[(u8|u16); (\d+)\] = \[([^\]]*)\]" % name, rattle)
     vs = [int(x) for x in re.findall(r"\d+", m.group(3))]
     assert len(vs) == int(m.group(2)) and max(vs) < {"u8": 256, "u16": 65536}[m.group(1)], name
     return vs

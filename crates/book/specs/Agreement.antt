@@ -1,16 +1,16 @@
 -- What the book shows after any list of calls (request No. 2), said over the list of all that was taken since Start.
 use Rattle.std.specs.Prelude.{ℕ, ◌<◌, ◌≤◌, ◌≡◌, List, [], ◌∷◌, ◌++◌, Bool, true, false, cond, not, ◌&&◌, ℤ, pos, ◌+ℤ◌, ◌-ℤ◌, ◌*ℤ◌}
 use Rattle.std.specs.Int.Signed.{lt_z}
-use Rattle.book.specs.declared.levels.Listed.TheVariants.{NoLevel, At}
 use Rattle.book.specs.declared.event.Event.{Event}
 use Rattle.book.specs.declared.event.Event.TheVariants.{Nothing, Quotation, Match}
 use Rattle.book.specs.declared.calls.Book.{Book}
-use Rattle.book.specs.declared.calls.Outcome.{Outcome}
-use Rattle.book.specs.declared.calls.Outcome.TheVariants.{Done, Refused}
+use Rattle.book.specs.Types.{Outcome}
 use Rattle.book.specs.Levels.{same_price}
 use Rattle.book.specs.Quantity.{twos}
 use Rattle.book.specs.Sums.{mean_of}
 use Rattle.book.specs.Calls.{fresh_book, start_of, take_of, events_of, level_of, book_mean}
+use Rattle.std.specs.Prelude.{None, Ok, Err}
+use Rattle.book.specs.Types.{some_level}
 
 -- ─── The quantity at a price, as the request says it ───
 
@@ -18,8 +18,8 @@ abbrev pub same_side : Bool → Bool → Bool
 same_side true b = b
 same_side false b = not b
 
--- A side's quantity at a price after one event more: an absolute one; an increment added; a match's volume taken where a
--- level stood; anything else leaves it.
+-- A side's quantity at a price after one event more: an absolute one; an increment added; a match's volume taken where
+-- a level stood; anything else leaves it.
 unfoldable pub changed : Bool → ℤ → ℤ → Event → ℤ
 changed buying p q Nothing = q
 changed buying p q (Quotation absolute side o) =
@@ -68,8 +68,8 @@ world b es = record { book = b; taken = es }
 
 -- What an answer leaves of the list: the new one, or the old one.
 abbrev pub list_after : Outcome → List Event → List Event → List Event
-list_after Done new old = new
-list_after (Refused r) new old = old
+list_after (Ok tt) new old = new
+list_after (Err r) new old = old
 
 unfoldable pub made : World → Call → World
 made w (start code) =
@@ -86,21 +86,21 @@ after w (c ∷ cs) = after (made w c) cs
 
 pub record Shows (b : Book) (es : List Event) : Type 0 where
   -- What is listed on a side is the quantity at its price, and above zero.
-  pub listed : (buying : Bool) (i : ℕ) (p : ℤ) (n : ℕ) → level_of b buying i ≡ At p n
+  pub listed : (buying : Bool) (i : ℕ) (p : ℤ) (n : ℕ) → level_of b buying i ≡ some_level p n
       → (quantity_of es buying p ≡ pos n) × (0 < n)
   -- Each that is above zero is listed.
   pub all : (buying : Bool) (p : ℤ) (n : ℕ) → quantity_of es buying p ≡ pos n → 0 < n
-      → (i : ℕ) × (level_of b buying i ≡ At p n)
+      → (i : ℕ) × (level_of b buying i ≡ some_level p n)
   -- None is below zero.
   pub quantities : (buying : Bool) (p : ℤ) → (n : ℕ) × (quantity_of es buying p ≡ pos n)
   -- Best first, without a gap: before a level of the buying side stands one with a higher price,
-  pub from_highest : (i j : ℕ) (p : ℤ) (n : ℕ) → i < j → level_of b true j ≡ At p n
-      → (r : ℤ) × (m : ℕ) × (level_of b true i ≡ At r m) × (lt_z p r ≡ true)
+  pub from_highest : (i j : ℕ) (p : ℤ) (n : ℕ) → i < j → level_of b true j ≡ some_level p n
+      → (r : ℤ) × (m : ℕ) × (level_of b true i ≡ some_level r m) × (lt_z p r ≡ true)
   -- and of the selling side one with a lower price.
-  pub from_lowest : (i j : ℕ) (p : ℤ) (n : ℕ) → i < j → level_of b false j ≡ At p n
-      → (r : ℤ) × (m : ℕ) × (level_of b false i ≡ At r m) × (lt_z r p ≡ true)
-  -- At most 64.
-  pub few : (buying : Bool) (i : ℕ) → 64 ≤ i → level_of b buying i ≡ NoLevel
+  pub from_lowest : (i j : ℕ) (p : ℤ) (n : ℕ) → i < j → level_of b false j ≡ some_level p n
+      → (r : ℤ) × (m : ℕ) × (level_of b false i ≡ some_level r m) × (lt_z r p ≡ true)
+  -- some_level most 64.
+  pub few : (buying : Bool) (i : ℕ) → 64 ≤ i → level_of b buying i ≡ None
   -- The mean is that of the two sums.
   pub mean : book_mean b ≡ mean_of (turnover_of es) (volume_of es)
 

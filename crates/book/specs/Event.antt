@@ -7,13 +7,12 @@ use Rattle.ftd.specs.Table.{width_of}
 use Rattle.ftd.specs.Places.{item_bytes}
 use Rattle.ftd.specs.Signed.{float_value}
 use Rattle.ftd.specs.Signed.Integer.{signed_units}
-use Rattle.ftd.specs.declared.signed.Signed.{Signed}
-use Rattle.ftd.specs.declared.signed.Signed.TheVariants.{NoValue, Value}
 use Rattle.book.specs.declared.levels.Level.{Level}
 use Rattle.book.specs.declared.event.Event.{Event}
 use Rattle.book.specs.declared.event.Event.TheVariants.{Nothing, Quotation, Match}
-use Rattle.book.specs.declared.event.Price.{Price}
-use Rattle.book.specs.declared.event.Price.TheVariants.{NoPrice, Units}
+use Rattle.book.specs.Types.{Price}
+use Rattle.std.specs.Prelude.{Some, None}
+use Rattle.ftd.specs.Types.{MaybeSigned}
 
 -- ─── What is read (Appendices A and D) ───
 
@@ -48,17 +47,17 @@ same_bytes (x ∷ xs) (y ∷ ys) = cond (eqb x y) (same_bytes xs ys) false
 -- ─── Prices ───
 
 -- A price in units of 0.0001: Float 12,4.
-abbrev pub units_of : Signed → Price
-units_of NoValue = NoPrice
-units_of (Value negative units) = Units (signed_units negative units)
+abbrev pub units_of : MaybeSigned → Price
+units_of None = None
+units_of (Some found) = Some (signed_units found.negative found.units)
 
 unfoldable pub price_of : List ℕ → Price
 price_of l = units_of (float_value 4 l)
 
 -- An event at a price that was read, with a volume.
 abbrev pub priced : Price → ℕ → (Level → Event) → Event
-priced NoPrice v make = Nothing
-priced (Units p) v make = make (record { price = p; quantity = v })
+priced None v make = Nothing
+priced (Some p) v make = make (record { price = p; quantity = v })
 
 -- ─── Quotations ───
 
@@ -103,8 +102,8 @@ event_of code tid f =
 -- ─── Bounds that a read price keeps, for the code ───
 
 abbrev pub PriceInside : Price → Type 0
-PriceInside NoPrice = Unit
-PriceInside (Units p) = nat_abs p ≤ 99999999999
+PriceInside None = Unit
+PriceInside (Some p) = nat_abs p ≤ 99999999999
 
 abbrev pub Inside : Event → Type 0
 Inside Nothing = Unit

@@ -1,4 +1,5 @@
--- Worked examples of requests No. 2 and No. 9, computed over the definitions; the others are run by the program `bookcheck`.
+-- Worked examples of requests No. 2 and No. 9, computed over the definitions; the others are run by the program
+-- `bookcheck`.
 use Rattle.std.specs.Prelude.{ℕ, zero, suc, ◌-◌, List, [], ◌∷◌, ◌++◌, Bool, true, false, cond, ◌&&◌, ℤ, pos, negsuc, T}
 use Rattle.ftd.specs.Bytes.{bytes32, joined}
 use Rattle.ftd.specs.Refusal.{number_of}
@@ -6,19 +7,16 @@ use Rattle.ftd.specs.Fields.{field_with}
 use Rattle.ftd.specs.Signed.Write.{float_bytes}
 use Rattle.ftd.specs.Bench.{same}
 use Rattle.book.specs.declared.levels.Level.{Level}
-use Rattle.book.specs.declared.levels.Listed.{Listed}
-use Rattle.book.specs.declared.levels.Listed.TheVariants.{NoLevel, At}
-use Rattle.book.specs.declared.sums.Mean.{Mean}
-use Rattle.book.specs.declared.sums.Mean.TheVariants.{NoMean, Price}
+use Rattle.book.specs.Types.{Mean}
 use Rattle.book.specs.declared.calls.Book.{Book}
-use Rattle.book.specs.declared.calls.Outcome.{Outcome}
-use Rattle.book.specs.declared.calls.Outcome.TheVariants.{Done, Refused}
+use Rattle.book.specs.Types.{Outcome}
 use Rattle.book.specs.declared.calls.Step.{Step}
-use Rattle.book.specs.declared.sums.Total.{Total}
-use Rattle.book.specs.declared.sums.Total.TheVariants.{Beyond, Within}
+use Rattle.book.specs.Types.{Total}
 use Rattle.book.specs.Levels.{used}
 use Rattle.book.specs.Sums.{added_to, mean_of}
 use Rattle.book.specs.Calls.{started, take_of, level_of, book_mean}
+use Rattle.std.specs.Prelude.{Some, None, Ok, Err}
+use Rattle.book.specs.Types.{MaybeLevel}
 
 -- ─── Messages ───
 
@@ -94,12 +92,12 @@ levels_shown [] = 0 ∷ []
 levels_shown (l ∷ ls) = cond (used l) (1 ∷ l.quantity ∷ (signed l.price ++ levels_shown ls)) (0 ∷ [])
 
 abbrev pub mean_shown : Mean → List ℕ
-mean_shown NoMean = 0 ∷ []
-mean_shown (Price p) = 1 ∷ signed p
+mean_shown None = 0 ∷ []
+mean_shown (Some p) = 1 ∷ signed p
 
 abbrev pub answer_shown : Outcome → ℕ
-answer_shown Done = 0
-answer_shown (Refused r) = number_of r
+answer_shown (Ok tt) = 0
+answer_shown (Err r) = number_of r
 
 abbrev pub step_shown : Step → List ℕ
 step_shown s =
@@ -198,9 +196,9 @@ examples =
 -- ─── Several levels, read place after place ───
 
 -- What Level answers: 1, quantity and price, or 0.
-abbrev pub place_shown : Listed → List ℕ
-place_shown NoLevel = 0 ∷ []
-place_shown (At price quantity) = 1 ∷ quantity ∷ signed price
+abbrev pub place_shown : MaybeLevel → List ℕ
+place_shown None = 0 ∷ []
+place_shown (Some found) = 1 ∷ found.quantity ∷ signed found.price
 
 -- Of n places of a side, from one on.
 abbrev pub places_shown : Book → Bool → ℕ → ℕ → List ℕ
@@ -272,10 +270,11 @@ abbrev pub adds : ℤ → ℤ → List ℕ → Addition
 adds sum more paper = record { sum = sum; more = more; paper = paper }
 
 abbrev pub total_shown : Total → List ℕ
-total_shown Beyond = 0 ∷ []
-total_shown (Within z) = 1 ∷ signed z
+total_shown None = 0 ∷ []
+total_shown (Some z) = 1 ∷ signed z
 
--- Around 14 and 15: the limit itself is no refusal, on either side of zero; one unit more is, though later fields undo it.
+-- Around 14 and 15: the limit itself is no refusal, on either side of zero; one unit more is, though later fields undo
+-- it.
 abbrev pub additions : List Addition
 additions =
     adds (pos 8999999999910000000) (pos 99999999999000000) (0 ∷ [])

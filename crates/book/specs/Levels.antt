@@ -3,8 +3,8 @@ use Rattle.std.specs.Prelude.{ℕ, suc, List, [], ◌∷◌, ◌++◌, Bool, tru
 use Rattle.std.specs.Int.Signed.{lt_z}
 use Rattle.book.specs.declared.levels.Level.{Level}
 use Rattle.book.specs.declared.levels.Side.{Side}
-use Rattle.book.specs.declared.levels.Listed.{Listed}
-use Rattle.book.specs.declared.levels.Listed.TheVariants.{NoLevel, At}
+use Rattle.std.specs.Prelude.{None}
+use Rattle.book.specs.Types.{MaybeLevel, some_level}
 
 -- ─── Prices ───
 
@@ -31,9 +31,9 @@ abbrev pub no_levels : Side
 no_levels = side_with (replicate 64 empty)
 
 -- The level at a place, counted from 0, best first.
-unfoldable pub level_in : Side → ℕ → Listed
+unfoldable pub level_in : Side → ℕ → MaybeLevel
 level_in s i = cond (used (get_or s.levels i empty))
-    (At (get_or s.levels i empty).price (get_or s.levels i empty).quantity) NoLevel
+    (some_level (get_or s.levels i empty).price (get_or s.levels i empty).quantity) None
 
 -- All 64 places are used.
 unfoldable pub is_full : Side → Bool
@@ -66,8 +66,8 @@ inserted i x l = take i l ++ pushed x (drop i l)
 unfoldable pub removed : ℕ → List Level → List Level
 removed i l = take i l ++ (drop (suc i) l ++ (empty ∷ []))
 
--- A level put where places start with that of its price: in place of one at the same price, or pushed in; with quantity 0
--- the one at the same price is taken out.
+-- A level put where places start with that of its price: in place of one at the same price, or pushed in; with quantity
+-- 0 the one at the same price is taken out.
 abbrev pub put_first : Level → List Level → List Level
 put_first x [] = []
 put_first x (y ∷ ys) =

@@ -1,3 +1,4 @@
+pub mod Types
 pub mod Levels
 pub mod Quantity
 pub mod Sums

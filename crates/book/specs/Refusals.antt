@@ -2,10 +2,10 @@
 use Rattle.std.specs.Prelude.{ℕ, ◌≡◌, List}
 use Rattle.ftd.specs.declared.refusal.Refusal.{Refusal}
 use Rattle.book.specs.declared.calls.Book.{Book}
-use Rattle.book.specs.declared.calls.Outcome.TheVariants.{Refused}
 use Rattle.book.specs.Calls.{start_of, take_of}
+use Rattle.std.specs.Prelude.{Err}
 
 pub record RefusalsLeave : Type 0 where
-  pub start : (b : Book) (code : List ℕ) (r : Refusal) → (start_of b code).answer ≡ Refused r → (start_of b code).book ≡ b
-  pub take : (b : Book) (tid : ℕ) (content : List ℕ) (r : Refusal) → (take_of b tid content).answer ≡ Refused r
+  pub start : (b : Book) (code : List ℕ) (r : Refusal) → (start_of b code).answer ≡ Err r → (start_of b code).book ≡ b
+  pub take : (b : Book) (tid : ℕ) (content : List ℕ) (r : Refusal) → (take_of b tid content).answer ≡ Err r
       → (take_of b tid content).book ≡ b

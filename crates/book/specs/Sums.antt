@@ -4,12 +4,10 @@ use Rattle.std.specs.Prelude.{ℕ, ◌+◌, ◌-◌, ◌/◌, ◌%◌, Bool, tru
 use Rattle.std.specs.Int.Signed.{lt_z}
 use Rattle.book.specs.declared.levels.Level.{Level}
 use Rattle.book.specs.declared.sums.Sums.{Sums}
-use Rattle.book.specs.declared.sums.Totals.{Totals}
-use Rattle.book.specs.declared.sums.Totals.TheVariants.{Over, Both}
-use Rattle.book.specs.declared.sums.Total.{Total}
-use Rattle.book.specs.declared.sums.Total.TheVariants.{Beyond, Within}
-use Rattle.book.specs.declared.sums.Mean.{Mean}
-use Rattle.book.specs.declared.sums.Mean.TheVariants.{NoMean, Price}
+use Rattle.book.specs.Types.{Totals}
+use Rattle.book.specs.Types.{Total}
+use Rattle.book.specs.Types.{Mean}
+use Rattle.std.specs.Prelude.{Some, None}
 
 abbrev pub no_sums : Sums
 no_sums = record { turnover = pos 0; volume = pos 0 }
@@ -20,14 +18,14 @@ beyond z = cond (lt_z (pos 9000000000000000000) z) true (lt_z z (negsuc 89999999
 
 -- A sum with what is added to it, or refusal 24. The sum itself is never beyond the limit in a book that calls made.
 unfoldable pub added_to : ℤ → ℤ → Total
-added_to sum x = cond (beyond sum) Beyond (cond (beyond (sum +ℤ x)) Beyond (Within (sum +ℤ x)))
+added_to sum x = cond (beyond sum) None (cond (beyond (sum +ℤ x)) None (Some (sum +ℤ x)))
 
 abbrev pub both_of : Total → Total → Totals
-both_of Beyond t = Over
-both_of (Within turnover) Beyond = Over
-both_of (Within turnover) (Within volume) = Both (record { turnover = turnover; volume = volume })
+both_of None t = None
+both_of (Some turnover) None = None
+both_of (Some turnover) (Some volume) = Some (record { turnover = turnover; volume = volume })
 
--- Both sums with a match: price times volume, with its sign, and volume.
+-- Some sums with a match: price times volume, with its sign, and volume.
 unfoldable pub summed_with : Sums → Level → Totals
 summed_with s o = both_of (added_to s.turnover (o.price *ℤ pos o.quantity)) (added_to s.volume (pos o.quantity))
 
@@ -48,4 +46,4 @@ with_sign (negsuc n) size = neg_ℤ (pos size)
 
 -- The mean match price: the sum of price times volume over the sum of volumes, to the nearest; none without volume.
 unfoldable pub mean_of : ℤ → ℤ → Mean
-mean_of sum volume = cond (lt_z (pos 0) volume) (Price (with_sign sum (nearest_of (nat_abs sum) (nat_abs volume)))) NoMean
+mean_of sum volume = cond (lt_z (pos 0) volume) (Some (with_sign sum (nearest_of (nat_abs sum) (nat_abs volume)))) None

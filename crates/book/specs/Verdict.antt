@@ -5,20 +5,18 @@ use Rattle.ftd.specs.Bytes.{Bytes}
 use Rattle.ftd.specs.Fields.{most_content}
 use Rattle.ftd.specs.Content.{content_check}
 use Rattle.ftd.specs.declared.composition.Direction.TheVariants.{Down}
-use Rattle.ftd.specs.declared.items.Checked.{Checked}
-use Rattle.ftd.specs.declared.items.Checked.TheVariants.{Passed}
-use Rattle.ftd.specs.declared.items.Checked.TheVariants.{Refused as Unfit}
+use Rattle.ftd.specs.Types.{Checked}
 use Rattle.ftd.specs.declared.refusal.Refusal.{Refusal}
 use Rattle.ftd.specs.declared.refusal.Refusal.TheVariants.{Item, Quantity, Levels, Volume}
 use Rattle.book.specs.declared.event.Event.{Event}
 use Rattle.book.specs.declared.event.Event.TheVariants.{Nothing, Quotation, Match}
 use Rattle.book.specs.declared.calls.Book.{Book}
-use Rattle.book.specs.declared.calls.Outcome.{Outcome}
-use Rattle.book.specs.declared.calls.Outcome.TheVariants.{Done, Refused}
+use Rattle.book.specs.Types.{Outcome}
 use Rattle.book.specs.Levels.{same_price}
 use Rattle.book.specs.Quantity.{twos}
 use Rattle.book.specs.Calls.{fresh_book, start_of, applied, take_of, events_of}
 use Rattle.book.specs.Agreement.{quantity_of, turnover_of, volume_of, Call, world, after}
+use Rattle.std.specs.Prelude.{Ok, Err}
 
 -- ─── The prices above zero ───
 
@@ -57,8 +55,8 @@ no_quantity z = lt_z z (pos 0) || lt_z (pos 4294967295) z
 -- it. 22: no quantity. 23: it is above zero, was not, and 64 others are.
 abbrev pub quotation_verdict : ℤ → ℤ → ℕ → Outcome
 quotation_verdict old new n =
-    cond (no_quantity new) (Refused Quantity)
-    (cond (lt_z (pos 0) new && (not (lt_z (pos 0) old) && leb 64 n)) (Refused Levels) Done)
+    cond (no_quantity new) (Err Quantity)
+    (cond (lt_z (pos 0) new && (not (lt_z (pos 0) old) && leb 64 n)) (Err Levels) (Ok tt))
 
 -- A level stands, and has less than a volume.
 abbrev pub is_short : ℤ → ℕ → Bool
@@ -72,12 +70,12 @@ too_far z = lt_z (pos 9000000000000000000) z || lt_z z (negsuc 89999999999999999
 -- is short. 24: the volume is above 1,000,000, or a sum too far.
 abbrev pub match_verdict : ℤ → ℤ → ℕ → ℤ → ℤ → Outcome
 match_verdict buying selling v turnover volume =
-    cond (is_short buying v || is_short selling v) (Refused Quantity)
-    (cond (ltb 1000000 v || (too_far turnover || too_far volume)) (Refused Volume) Done)
+    cond (is_short buying v || is_short selling v) (Err Quantity)
+    (cond (ltb 1000000 v || (too_far turnover || too_far volume)) (Err Volume) (Ok tt))
 
 -- One event more behind those taken.
 unfoldable pub verdict_of : List Event → Event → Outcome
-verdict_of es Nothing = Done
+verdict_of es Nothing = (Ok tt)
 verdict_of es (Quotation absolute buying o) =
     quotation_verdict (quantity_of es buying o.price)
     (quantity_of (es ++ (Quotation absolute buying o ∷ [])) buying o.price) (length (prices_of es buying))
@@ -88,12 +86,12 @@ verdict_of es (Match o) =
 -- ─── A message ───
 
 abbrev pub or_else : Outcome → Outcome → Outcome
-or_else Done next = next
-or_else (Refused r) next = Refused r
+or_else (Ok tt) next = next
+or_else (Err r) next = Err r
 
 -- Its events in order: the verdict on the first that is refused, those before it taken.
 abbrev pub verdicts_of : List Event → List Event → Outcome
-verdicts_of es [] = Done
+verdicts_of es [] = (Ok tt)
 verdicts_of es (e ∷ new) = or_else (verdict_of es e) (verdicts_of (es ++ (e ∷ [])) new)
 
 -- An event of a message is refused, and each before it is not, those before that one taken.
@@ -102,13 +100,13 @@ pub record FirstRefused (es new : List Event) (r : Refusal) : Type 0 where
   pub event : Event
   pub behind : List Event
   pub whole : new ≡ before ++ (event ∷ behind)
-  pub passed : (xs : List Event) (x : Event) (ys : List Event) → before ≡ xs ++ (x ∷ ys) → verdict_of (es ++ xs) x ≡ Done
-  pub refused : verdict_of (es ++ before) event ≡ Refused r
+  pub passed : (xs : List Event) (x : Event) (ys : List Event) → before ≡ xs ++ (x ∷ ys) → verdict_of (es ++ xs) x ≡ (Ok tt)
+  pub refused : verdict_of (es ++ before) event ≡ Err r
 
 -- 7 to 10 come before.
 abbrev pub after_check : Checked → Outcome → Outcome
-after_check Passed verdict = verdict
-after_check (Unfit r) verdict = Refused r
+after_check (Ok tt) verdict = verdict
+after_check (Err r) verdict = Err r
 
 -- ─── The theorem ───
 
@@ -151,9 +149,9 @@ Wide (Match o) = Unit
 
 pub record BookRefusals : Type 0 where
   -- Start takes a code, and it is the book's then; it answers 9 exactly if it is none.
-  pub start : (b : Book) (code : List ℕ) → ((start_of b code).answer ≡ Done) ↔ IsCode code
-  pub no_code : (b : Book) (code : List ℕ) → ((start_of b code).answer ≡ Refused Item) ↔ (IsCode code → ⊥)
-  pub named : (b : Book) (code : List ℕ) → (start_of b code).answer ≡ Done → (start_of b code).book.code ≡ code
+  pub start : (b : Book) (code : List ℕ) → ((start_of b code).answer ≡ (Ok tt)) ↔ IsCode code
+  pub no_code : (b : Book) (code : List ℕ) → ((start_of b code).answer ≡ Err Item) ↔ (IsCode code → ⊥)
+  pub named : (b : Book) (code : List ℕ) → (start_of b code).answer ≡ (Ok tt) → (start_of b code).book.code ≡ code
   -- What an increment adds.
   pub increment : (v : ℕ) → v ≤ 4294967295 → Increment v (twos v)
   -- What is counted for 23: every price above zero, each once, and no other.
@@ -163,7 +161,7 @@ pub record BookRefusals : Type 0 where
       → (applied (after (world fresh_book []) calls).book e).answer
       ≡ verdict_of (after (world fresh_book []) calls).taken e
   -- a message is refused exactly if one of its events is, by the first,
-  pub first : (es new : List Event) (r : Refusal) → (verdicts_of es new ≡ Refused r) ↔ FirstRefused es new r
+  pub first : (es new : List Event) (r : Refusal) → (verdicts_of es new ≡ Err r) ↔ FirstRefused es new r
   -- and answered so, 7 to 10 first.
   pub message : (calls : List Call) (tid : ℕ) (content : List ℕ) → Bytes content
       → (take_of (after (world fresh_book []) calls).book tid content).answer

@@ -1,23 +1,21 @@
 // The book of a contract and its calls: Start, Take, Level and Mean (request No. 2).
 ghost use Rattle.std.specs.Prelude.{◌≡◌, false, ◌≤◌, nat_abs};
 ghost use Rattle.book.specs.Event.{Inside};
-ghost use Rattle.book.specs.Calls.{fresh_book, start_of, take_of, level_of, book_mean, quote_on, one_more, lowered, quotation_on};
-ghost use Rattle.book.specs.Calls.{match_check, Takes, matched_with, match_summed, match_on, applied, walked, events_of};
+ghost use Rattle.book.specs.Calls.{fresh_book, start_of, take_of, level_of, book_mean};
+ghost use Rattle.book.specs.Calls.{quote_on, one_more, lowered, quotation_on, match_check, Takes};
+ghost use Rattle.book.specs.Calls.{matched_with, match_summed, match_on, applied, walked, events_of};
 ghost use Rattle.book.specs.Levels.{quantity_at};
 ghost use Rattle.book.specs.Quantity.{lacks};
-ghost use Rattle.book.specs.declared.calls.Outcome.TheVariants.{Done, Refused};
 
 use crate::event::{Event, event_of};
 use crate::levels::{
-    Level, Listed, Side, held_at, is_full, level_in, no_levels, place_of, put_at, quantity_at,
+    Level, Side, held_at, is_full, level_in, no_levels, place_of, put_at, quantity_at,
 };
-use crate::quantity::{Quantity, is_lacking, new_quantity};
-use crate::sums::{Mean, Sums, Totals, add_match, no_sums, sums_mean};
-use ftd::bytes::copy_at;
+use crate::quantity::{is_lacking, new_quantity};
+use crate::sums::{Sums, add_match, no_sums, sums_mean};
 use ftd::composition::Direction;
 use ftd::content::check_content;
 use ftd::fields::{MOST_CONTENT, field_size};
-use ftd::items::Checked;
 use ftd::kinds::STRING;
 use ftd::refusal::Refusal;
 use ftd::values::is_value;
@@ -31,25 +29,18 @@ pub struct Book {
     pub sums: Sums,
 }
 
-// What Start and Take answer.
-#[derive(Clone, Copy)]
-pub enum Outcome {
-    Done,
-    Refused(Refusal),
-}
-
 // What Start and Take leave: the book, and the answer.
 #[derive(Clone, Copy)]
 pub struct Step {
     pub book: Book,
-    pub answer: Outcome,
+    pub answer: Result<(), Refusal>,
 }
 
 // What a quotation leaves of a side.
 #[derive(Clone, Copy)]
 pub struct SideStep {
     pub side: Side,
-    pub answer: Outcome,
+    pub answer: Result<(), Refusal>,
 }
 
 // 22, 23, or a quotation's quantity is put at its price.
@@ -58,39 +49,33 @@ fn quote(side: Side, absolute: bool, buying: bool, offer: Level) -> SideStep
 {
     let at = place_of(side, buying, offer);
     let old = held_at(side, at, offer);
-    match new_quantity(absolute, old, offer.quantity) {
-        Quantity::Wrong => SideStep {
+    let Some(n) = new_quantity(absolute, old, offer.quantity) else {
+        return SideStep {
             side,
-            answer: Outcome::Refused(Refusal::Quantity),
-        },
-        Quantity::Is(n) => {
-            if one_more(side, old, n) {
-                return SideStep {
-                    side,
-                    answer: Outcome::Refused(Refusal::Levels),
-                };
-            }
-            let mut new = offer;
-            new.quantity = n;
-            SideStep {
-                side: put_at(side, at, old, new),
-                answer: Outcome::Done,
-            }
-        }
+            answer: Err(Refusal::Quantity),
+        };
+    };
+    if one_more(side, old, n) {
+        return SideStep {
+            side,
+            answer: Err(Refusal::Levels),
+        };
+    }
+    // Stays: `Level { quantity: n, ..offer }` was tried; the proof then lacks that the price copied fits.
+    let mut new = offer;
+    new.quantity = n;
+    SideStep {
+        side: put_at(side, at, old, new),
+        answer: Ok(()),
     }
 }
 
 // 23: a level more than the side has places.
+#[tactic(auto, unfolding(crate::specs::Calls::one_more))]
 fn one_more(side: Side, old: u32, n: u32) -> bool
     ensures { result ≡ one_more side old n }
 {
-    if n == 0 {
-        return false;
-    }
-    if old == 0 {
-        return is_full(side);
-    }
-    false
+    n != 0 && old == 0 && is_full(side)
 }
 
 // A match's volume taken from the level at its price, where one stands.
@@ -103,6 +88,7 @@ fn lower(side: Side, buying: bool, offer: Level) -> Side
     if old == 0 {
         return side;
     }
+    // Stays: `Level { quantity: .., ..offer }` was tried; the proof then lacks that the price copied fits.
     let mut new = offer;
     new.quantity = old - offer.quantity;
     put_at(side, at, old, new)
@@ -110,60 +96,54 @@ fn lower(side: Side, buying: bool, offer: Level) -> Side
 
 // A refused step leaves the book.
 fn refused(book: Book, r: Refusal) -> Step
-    ensures { result ≡ record { book = book; answer = Refused r } }
+    ensures { result ≡ record { book = book; answer = Err r } }
 {
     Step {
         book,
-        answer: Outcome::Refused(r),
+        answer: Err(r),
     }
 }
 
 // 22 and the first of 24: on either side a level stands and has less than the match takes; a volume above 1,000,000.
-fn check_match(book: Book, offer: Level) -> Outcome
+fn check_match(book: Book, offer: Level) -> Result<(), Refusal>
     ensures { (result ≡ match_check book offer) × Takes book offer result }
 {
-    let bids = book.buying;
-    let asks = book.selling;
-    if is_lacking(quantity_at(bids, true, offer), offer.quantity) {
-        return Outcome::Refused(Refusal::Quantity);
+    if is_lacking(quantity_at(book.buying, true, offer), offer.quantity) {
+        return Err(Refusal::Quantity);
     }
-    if is_lacking(quantity_at(asks, false, offer), offer.quantity) {
-        return Outcome::Refused(Refusal::Quantity);
+    if is_lacking(quantity_at(book.selling, false, offer), offer.quantity) {
+        return Err(Refusal::Quantity);
     }
     if 1000000 < offer.quantity {
-        return Outcome::Refused(Refusal::Volume);
+        return Err(Refusal::Volume);
     }
-    Outcome::Done
+    Ok(())
 }
 
 // A match's volume is taken from both sides, and the sums go on.
 fn take_match(book: Book, offer: Level, sums: Sums) -> Book
-    requires { Takes book offer Done }
+    requires { Takes book offer (Ok tt) }
     ensures { result ≡ matched_with book offer sums }
 {
-    let code = book.code;
-    let bids = book.buying;
-    let asks = book.selling;
     Book {
-        code: code,
-        buying: lower(bids, true, offer),
-        selling: lower(asks, false, offer),
-        sums: sums,
+        buying: lower(book.buying, true, offer),
+        selling: lower(book.selling, false, offer),
+        sums,
+        ..book
     }
 }
 
 // The rest of 24, or the match is taken.
 fn sum_match(book: Book, offer: Level) -> Step
-    requires { (nat_abs offer.price ≤ 99999999999) × Takes book offer Done }
+    requires { (nat_abs offer.price ≤ 99999999999) × Takes book offer (Ok tt) }
     ensures { result ≡ match_summed book offer }
 {
-    let sums = book.sums;
-    match add_match(sums, offer) {
-        Totals::Over => refused(book, Refusal::Volume),
-        Totals::Both(next) => Step {
-            book: take_match(book, offer, next),
-            answer: Outcome::Done,
-        },
+    let Some(next) = add_match(book.sums, offer) else {
+        return refused(book, Refusal::Volume);
+    };
+    Step {
+        book: take_match(book, offer, next),
+        answer: Ok(()),
     }
 }
 
@@ -172,45 +152,33 @@ fn apply_match(book: Book, offer: Level) -> Step
     requires { nat_abs offer.price ≤ 99999999999 }
     ensures { result ≡ match_on book offer }
 {
-    match check_match(book, offer) {
-        Outcome::Refused(r) => refused(book, r),
-        Outcome::Done => sum_match(book, offer),
+    if let Err(r) = check_match(book, offer) {
+        return refused(book, r);
     }
+    sum_match(book, offer)
 }
 
 // A quotation on its side of the book.
 fn apply_quotation(book: Book, absolute: bool, buying: bool, offer: Level) -> Step
     ensures { result ≡ quotation_on book absolute buying offer }
 {
-    let code = book.code;
-    let bids = book.buying;
-    let asks = book.selling;
-    let sums = book.sums;
     if buying {
-        let step = quote(bids, absolute, true, offer);
-        let side = step.side;
-        let answer = step.answer;
+        let step = quote(book.buying, absolute, true, offer);
         return Step {
             book: Book {
-                code: code,
-                buying: side,
-                selling: asks,
-                sums: sums,
+                buying: step.side,
+                ..book
             },
-            answer: answer,
+            answer: step.answer,
         };
     }
-    let step = quote(asks, absolute, false, offer);
-    let side = step.side;
-    let answer = step.answer;
+    let step = quote(book.selling, absolute, false, offer);
     Step {
         book: Book {
-            code: code,
-            buying: bids,
-            selling: side,
-            sums: sums,
+            selling: step.side,
+            ..book
         },
-        answer: answer,
+        answer: step.answer,
     }
 }
 
@@ -222,7 +190,7 @@ fn apply(book: Book, event: Event) -> Step
     match event {
         Event::Nothing => Step {
             book,
-            answer: Outcome::Done,
+            answer: Ok(()),
         },
         Event::Quotation {
             absolute,
@@ -245,20 +213,15 @@ fn walk(book: Book, tid: u32, content: &[u8]) -> Step
         if n == 0 {
             return Step {
                 book: current,
-                answer: Outcome::Done,
+                answer: Ok(()),
             };
         }
         let end = at + n;
         let step = apply(current, event_of(&code, tid, &content[at..end]));
-        let answer = step.answer;
-        match answer {
-            Outcome::Refused(_) => {
-                return step;
-            }
-            Outcome::Done => {}
+        if step.answer.is_err() {
+            return step;
         }
-        let next = step.book;
-        current = next;
+        current = step.book;
         at = end;
     }
 }
@@ -283,60 +246,46 @@ impl Book {
     pub fn start(self, code: &[u8]) -> Step
         ensures { result ≡ start_of self code.now }
     {
-        if code.len() == 10 {
-            if is_value(STRING, 0, code) {
-                let mut bytes: [u8; 10] = [0; 10];
-                copy_at(&mut bytes, 0, code);
-                return Step {
-                    book: Book {
-                        code: bytes,
-                        buying: no_levels(),
-                        selling: no_levels(),
-                        sums: no_sums(),
-                    },
-                    answer: Outcome::Done,
-                };
-            }
+        if code.len() != 10 || !is_value(STRING, 0, code) {
             return refused(self, Refusal::Item);
         }
-        refused(self, Refusal::Item)
+        let mut book = Book::fresh();
+        book.code.copy_from_slice(code);
+        Step {
+            book,
+            answer: Ok(()),
+        }
     }
 
     // Take: a message, by TID and content; 7 to 10, then field by field 22, 23 and 24. A refused one leaves the book.
     pub fn take(self, tid: u32, content: &[u8]) -> Step
         ensures { result ≡ take_of self tid content.now }
     {
-        match check_content(tid, Direction::Down, content, MOST_CONTENT) {
-            Checked::Refused(r) => {
-                return refused(self, r);
-            }
-            Checked::Passed => {}
+        if let Err(r) = check_content(tid, Direction::Down, content, MOST_CONTENT) {
+            return refused(self, r);
         }
         let step = walk(self, tid, content);
-        let answer = step.answer;
-        match answer {
-            Outcome::Refused(r) => refused(self, r),
-            Outcome::Done => step,
+        if let Err(r) = step.answer {
+            return refused(self, r);
         }
+        step
     }
 
     // Level: the pair at a place of a side, best first, or none.
-    pub fn level(self, buying: bool, i: usize) -> Listed
+    pub fn level(self, buying: bool, i: usize) -> Option<Level>
         ensures { result ≡ level_of self buying i }
     {
-        let bids = self.buying;
-        let asks = self.selling;
         if buying {
-            return level_in(bids, i);
+            level_in(self.buying, i)
+        } else {
+            level_in(self.selling, i)
         }
-        level_in(asks, i)
     }
 
     // Mean: the day's mean match price, or none.
-    pub fn mean(self) -> Mean
+    pub fn mean(self) -> Option<i64>
         ensures { result ≡ book_mean self }
     {
-        let sums = self.sums;
-        sums_mean(sums)
+        sums_mean(self.sums)
     }
 }

@@ -1,13 +1,15 @@
 // What a field of a message says to the book of a contract.
 ghost use Rattle.std.specs.Prelude.{◌≡◌, ◌+◌, ◌≤◌, length, drop, pos};
 ghost use Rattle.ftd.specs.Bytes.{part};
-ghost use Rattle.book.specs.Event.{same_bytes, event_of, quotation_in, match_in, sided, faced, price_of, PriceInside, Inside};
+ghost use Rattle.book.specs.Event.{same_bytes, event_of, quotation_in, match_in, sided, faced, price_of};
+ghost use Rattle.book.specs.Event.{PriceInside, Inside};
 ghost use Rattle.book.specs.Event.Laws.{EventLaws};
 
 use crate::levels::Level;
 use ftd::bytes::be32;
 use ftd::signed::{Signed, read_float};
 
+// Stays: `buying` and `absolute` are bools, as items of Bool_Flag; the definitions of specs/Event.antt take them so.
 // A quotation of a side, absolute or an increment; a match; or nothing. Price and volume stand as a level, an increment
 // as the unsigned number in its four bytes.
 #[derive(Clone, Copy)]
@@ -21,85 +23,51 @@ pub enum Event {
     Match(Level),
 }
 
-// A price that was read.
-#[derive(Clone, Copy)]
-pub enum Price {
-    NoPrice,
-    Units(i64),
-}
-
 // The bytes from a place on are those of the code.
 fn same_code(code: &[u8], field: &[u8], at: usize) -> bool
     requires { (at + 10 ≤ length field.now) × (length code.now ≡ 10) }
     ensures { result ≡ same_bytes (part field.now at 10) code.now }
 {
-    let mut i: usize = 0;
-    while i < 10 {
-        if field[at + i] == code[i] {
-            i += 1;
-        } else {
-            return false;
-        }
-    }
-    true
-}
-
-// Units as a signed number.
-fn above(units: u64) -> i64
-    requires { units ≤ 99999999999 }
-    ensures { result ≡ pos units }
-{
-    units as i64
+    &field[at..at + 10] == code
 }
 
 // The price in twelve bytes: Float 12,4.
-fn price_of(s: &[u8]) -> Price
+fn price_of(s: &[u8]) -> Option<i64>
     requires { length s.now ≡ 12 }
     ensures { (result ≡ price_of s.now) × PriceInside result }
 {
-    match read_float(4, s) {
-        Signed::NoValue => Price::NoPrice,
-        Signed::Value { negative, units } => {
-            if negative {
-                return Price::Units(0 - above(units));
-            }
-            Price::Units(above(units))
-        }
-    }
+    let Signed { negative, units } = read_float(4, s)?;
+    let price = units as i64;
+    Some(if negative { -price } else { price })
 }
 
 // The side of a quotation: Direction 0 is buying, 1 selling; any other is not used.
+#[tactic(auto, unfolding(crate::specs::Event::faced))]
 fn facing(absolute: bool, direction: u8, offer: Level) -> Event
     ensures { result ≡ faced absolute direction offer }
 {
-    if direction == 0 {
-        return Event::Quotation {
-            absolute,
-            buying: true,
-            offer,
-        };
+    let buying = match direction {
+        0 => true,
+        1 => false,
+        _ => return Event::Nothing,
+    };
+    Event::Quotation {
+        absolute,
+        buying,
+        offer,
     }
-    if direction == 1 {
-        return Event::Quotation {
-            absolute,
-            buying: false,
-            offer,
-        };
-    }
-    Event::Nothing
 }
 
 // The kind of a quotation: VolumeType 0 is an increment, 1 absolute; any other is not used.
+#[tactic(auto, unfolding(crate::specs::Event::sided))]
 fn quotation(kind: u8, direction: u8, offer: Level) -> Event
     ensures { result ≡ sided kind direction offer }
 {
-    if kind == 0 {
-        return facing(false, direction, offer);
+    match kind {
+        0 => facing(false, direction, offer),
+        1 => facing(true, direction, offer),
+        _ => Event::Nothing,
     }
-    if kind == 1 {
-        return facing(true, direction, offer);
-    }
-    Event::Nothing
 }
 
 // A quotation of the contract, in a MarketOrderDataField with its FID and length.
@@ -107,25 +75,14 @@ fn quotation_in(code: &[u8], field: &[u8]) -> Event
     requires { (length field.now ≡ 39) × (length code.now ≡ 10) }
     ensures { (result ≡ quotation_in code.now (drop 6 field.now)) × Inside result }
 {
-    if same_code(code, field, 6) {
-        match price_of(&field[19..31]) {
-            Price::NoPrice => {
-                return Event::Nothing;
-            }
-            Price::Units(price) => {
-                let volume = be32(field, 31);
-                return quotation(
-                    field[17],
-                    field[18],
-                    Level {
-                        price,
-                        quantity: volume,
-                    },
-                );
-            }
-        }
+    if !same_code(code, field, 6) {
+        return Event::Nothing;
     }
-    Event::Nothing
+    let Some(price) = price_of(&field[19..31]) else {
+        return Event::Nothing;
+    };
+    let quantity = be32(field, 31);
+    quotation(field[17], field[18], Level { price, quantity })
 }
 
 // A match of the contract, in a MarketMatchIncDataField with its FID and length.
@@ -133,44 +90,27 @@ fn match_in(code: &[u8], field: &[u8]) -> Event
     requires { (length field.now ≡ 35) × (length code.now ≡ 10) }
     ensures { (result ≡ match_in code.now (drop 6 field.now)) × Inside result }
 {
-    if same_code(code, field, 6) {
-        match price_of(&field[18..30]) {
-            Price::NoPrice => {
-                return Event::Nothing;
-            }
-            Price::Units(price) => {
-                let volume = be32(field, 30);
-                return Event::Match(Level {
-                    price,
-                    quantity: volume,
-                });
-            }
-        }
+    if !same_code(code, field, 6) {
+        return Event::Nothing;
     }
-    Event::Nothing
+    let Some(price) = price_of(&field[18..30]) else {
+        return Event::Nothing;
+    };
+    let quantity = be32(field, 30);
+    Event::Match(Level { price, quantity })
 }
 
 // What a field, with its FID and length, says to the book of a contract.
+#[tactic(auto, unfolding(crate::specs::Event::event_of))]
 pub(crate) fn event_of(code: &[u8], tid: u32, field: &[u8]) -> Event
     requires { length code.now ≡ 10 }
     ensures { (result ≡ event_of code.now tid field.now) × Inside result }
 {
-    if tid == 0x2001 {
-        if field.len() == 39 {
-            if be32(field, 0) == 0x000D {
-                return quotation_in(code, field);
-            }
-        }
-        return Event::Nothing;
+    match tid {
+        0x2001 if field.len() == 39 && be32(field, 0) == 0x000D => quotation_in(code, field),
+        0x2002 if field.len() == 35 && be32(field, 0) == 0x000A => match_in(code, field),
+        _ => Event::Nothing,
     }
-    if tid == 0x2002 {
-        if field.len() == 35 {
-            if be32(field, 0) == 0x000A {
-                return match_in(code, field);
-            }
-        }
-    }
-    Event::Nothing
 }
 
 // What a field says, whatever its values, as a promise.

@@ -1,7 +1,7 @@
 // The price levels of a side, best first.
 ghost use Rattle.std.specs.Prelude.{◌≡◌, ◌<◌, ◌≤◌, get_or, set};
-ghost use Rattle.book.specs.Levels.{better, same_price, place_in, no_levels, held_by, empty, inserted, removed, put_at, quantity_at};
-ghost use Rattle.book.specs.Levels.{level_in, is_full, side_with};
+ghost use Rattle.book.specs.Levels.{better, same_price, place_in, no_levels, held_by, empty, inserted, removed, put_at};
+ghost use Rattle.book.specs.Levels.{quantity_at, level_in, is_full, side_with};
 
 // A level: a price in units of 0.0001, and the quantity there. With quantity 0 the place is not used. Laid
 // out as in C: the book of C and Rust (`exports`) holds levels as they are here.
@@ -13,16 +13,10 @@ pub struct Level {
 }
 
 // The levels of a side, best first; the places behind them are not used.
+// Stays: an array kept in order by hand, no BTreeMap: no heap (01), and the C interface hands the book over by value.
 #[derive(Clone, Copy)]
 pub struct Side {
     pub levels: [Level; 64],
-}
-
-// What stands at a place of a side.
-#[derive(Clone, Copy)]
-pub enum Listed {
-    NoLevel,
-    At { price: i64, quantity: u32 },
 }
 
 // No level.
@@ -38,58 +32,40 @@ pub fn no_levels() -> Side
 }
 
 // A level's price is better than another's: on the buying side higher, on the selling side lower.
+#[tactic(auto, unfolding(crate::specs::Levels::better))]
 fn is_better(buying: bool, a: Level, b: Level) -> bool
     ensures { result ≡ better buying a.price b.price }
 {
     if buying {
-        return b.price < a.price;
+        b.price < a.price
+    } else {
+        a.price < b.price
     }
-    a.price < b.price
-}
-
-fn same_price(a: Level, b: Level) -> bool
-    ensures { result ≡ same_price a.price b.price }
-{
-    if a.price < b.price {
-        return false;
-    }
-    if b.price < a.price {
-        return false;
-    }
-    true
 }
 
 // The place of a level's price: behind the levels that are better.
+// Stays: 64 for a place behind all is what `place_in` of specs/Levels.antt says.
 pub(crate) fn place_of(side: Side, buying: bool, new: Level) -> usize
     ensures { (result ≡ place_in buying new.price side.levels) × (result ≤ 64) }
 {
-    let mut i: usize = 0;
-    while i < 64 {
-        let one = side.levels[i];
-        if one.quantity == 0 {
-            return i;
-        }
-        if is_better(buying, one, new) {
-            i += 1;
-        } else {
-            return i;
-        }
-    }
-    i
+    let levels = side.levels;
+    levels
+        .iter()
+        .position(|&one| one.quantity == 0 || !is_better(buying, one, new))
+        .unwrap_or(64)
 }
 
 // The quantity that stands at a place at a level's price, or 0.
+// Stays: 0 for no level is what `held_by` of specs/Levels.antt says.
+#[tactic(auto, unfolding(crate::specs::Levels::held_by))]
 pub(crate) fn held_at(side: Side, i: usize, new: Level) -> u32
     ensures { result ≡ held_by new.price (get_or side.levels i empty) }
 {
-    if i < 64 {
-        let one = side.levels[i];
-        if same_price(one, new) {
-            return one.quantity;
-        }
-        return 0;
+    if i < 64 && side.levels[i].price == new.price {
+        side.levels[i].quantity
+    } else {
+        0
     }
-    0
 }
 
 // The quantity at a level's price, 0 where no level stands.
@@ -100,28 +76,20 @@ pub(crate) fn quantity_at(side: Side, buying: bool, new: Level) -> u32
 }
 
 // The level at a place.
-pub(crate) fn level_in(side: Side, i: usize) -> Listed
+#[tactic(auto, unfolding(crate::specs::Levels::level_in))]
+pub(crate) fn level_in(side: Side, i: usize) -> Option<Level>
     ensures { result ≡ level_in side i }
 {
-    if i < 64 {
-        let one = side.levels[i];
-        if one.quantity == 0 {
-            return Listed::NoLevel;
-        }
-        return Listed::At {
-            price: one.price,
-            quantity: one.quantity,
-        };
-    }
-    Listed::NoLevel
+    let one = *side.levels.get(i)?;
+    if one.quantity == 0 { None } else { Some(one) }
 }
 
 // All 64 places are used.
+#[tactic(auto, unfolding(crate::specs::Levels::is_full))]
 pub(crate) fn is_full(side: Side) -> bool
     ensures { result ≡ is_full side }
 {
-    let last = side.levels[63];
-    0 < last.quantity
+    0 < side.levels[63].quantity
 }
 
 // A level pushed in at a place.
@@ -130,15 +98,11 @@ fn insert(side: Side, at: usize, new: Level) -> Side
     ensures { result ≡ side_with (inserted at new side.levels) }
 {
     let mut levels = side.levels;
-    let mut held = new;
-    let mut i: usize = at;
-    while i < 64 {
-        let next = levels[i];
-        levels[i] = held;
-        held = next;
-        i += 1;
+    if at < 64 {
+        levels.copy_within(at..63, at + 1);
+        levels[at] = new;
     }
-    Side { levels: levels }
+    Side { levels }
 }
 
 // The level at a place taken out.
@@ -147,17 +111,12 @@ fn remove(side: Side, at: usize) -> Side
     ensures { result ≡ side_with (removed at side.levels) }
 {
     let mut levels = side.levels;
-    let mut i: usize = at;
-    while i < 63 {
-        let next = levels[i + 1];
-        levels[i] = next;
-        i += 1;
-    }
-    levels[i] = Level {
+    levels.copy_within(at + 1.., at);
+    levels[63] = Level {
         price: 0,
         quantity: 0,
     };
-    Side { levels: levels }
+    Side { levels }
 }
 
 // The level at a place replaced.
@@ -167,7 +126,7 @@ fn replace(side: Side, at: usize, new: Level) -> Side
 {
     let mut levels = side.levels;
     levels[at] = new;
-    Side { levels: levels }
+    Side { levels }
 }
 
 // A level put: `at` is its price's place, `old` what stood there.

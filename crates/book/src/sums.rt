@@ -12,27 +12,6 @@ pub struct Sums {
     pub volume: i64,
 }
 
-// Both sums within their limit, or one beyond it.
-#[derive(Clone, Copy)]
-pub enum Totals {
-    Over,
-    Both(Sums),
-}
-
-// A sum within its limit, or beyond it.
-#[derive(Clone, Copy)]
-pub enum Total {
-    Beyond,
-    Within(i64),
-}
-
-// The mean match price in units of 0.0001, or none.
-#[derive(Clone, Copy)]
-pub enum Mean {
-    NoMean,
-    Price(i64),
-}
-
 // Nothing matched yet.
 pub fn no_sums() -> Sums
     ensures { result ≡ no_sums }
@@ -43,48 +22,39 @@ pub fn no_sums() -> Sums
     }
 }
 
-// A volume as a signed number.
-fn signed_volume(volume: u32) -> i64
-    ensures { result ≡ pos volume }
-{
-    volume as i64
-}
-
 // Price times volume.
 fn product(offer: Level) -> i64
     requires { (nat_abs offer.price ≤ 99999999999) × (offer.quantity ≤ 1000000) }
     ensures { (result ≡ offer.price *ℤ pos offer.quantity) × (nat_abs result ≤ 99999999999000000) }
 {
-    offer.price * signed_volume(offer.quantity)
+    offer.price * i64::from(offer.quantity)
 }
 
 // A sum beyond its limit on either side of zero.
+#[tactic(auto, unfolding(crate::specs::Sums::beyond))]
 fn is_beyond(sum: i64) -> bool
     ensures { result ≡ beyond sum }
 {
-    if 9000000000000000000 < sum {
-        return true;
-    }
-    sum < -9000000000000000000
+    9000000000000000000 < sum || sum < -9000000000000000000
 }
 
 // A sum and what is added to it.
-fn added(sum: i64, x: i64) -> Total
+fn added(sum: i64, x: i64) -> Option<i64>
     requires { nat_abs x ≤ 99999999999000000 }
     ensures { result ≡ added_to sum x }
 {
     if is_beyond(sum) {
-        return Total::Beyond;
+        return None;
     }
     let next = sum + x;
     if is_beyond(next) {
-        return Total::Beyond;
+        return None;
     }
-    Total::Within(next)
+    Some(next)
 }
 
 // The sum of price times volume with a match.
-fn add_turnover(sum: i64, offer: Level) -> Total
+fn add_turnover(sum: i64, offer: Level) -> Option<i64>
     requires { (nat_abs offer.price ≤ 99999999999) × (offer.quantity ≤ 1000000) }
     ensures { result ≡ added_to sum (offer.price *ℤ pos offer.quantity) }
 {
@@ -92,64 +62,46 @@ fn add_turnover(sum: i64, offer: Level) -> Total
 }
 
 // The sum of volumes with a match.
-fn add_volume(sum: i64, volume: u32) -> Total
+fn add_volume(sum: i64, volume: u32) -> Option<i64>
     requires { volume ≤ 1000000 }
     ensures { result ≡ added_to sum (pos volume) }
 {
-    added(sum, signed_volume(volume))
+    added(sum, i64::from(volume))
 }
 
 // Both sums with a match.
-pub(crate) fn add_match(sums: Sums, offer: Level) -> Totals
+#[tactic(auto, unfolding(crate::specs::Sums::summed_with))]
+pub(crate) fn add_match(sums: Sums, offer: Level) -> Option<Sums>
     requires { (nat_abs offer.price ≤ 99999999999) × (offer.quantity ≤ 1000000) }
     ensures { result ≡ summed_with sums offer }
 {
-    match add_turnover(sums.turnover, offer) {
-        Total::Beyond => Totals::Over,
-        Total::Within(turnover) => match add_volume(sums.volume, offer.quantity) {
-            Total::Beyond => Totals::Over,
-            Total::Within(volume) => Totals::Both(Sums { turnover, volume }),
-        },
-    }
-}
-
-// The size of a number, of the least one too.
-fn size_of(x: i64) -> u64
-    ensures { result ≡ nat_abs x }
-{
-    if x < 0 {
-        return (-1 - x) as u64 + 1;
-    }
-    x as u64
+    let turnover = add_turnover(sums.turnover, offer)?;
+    let volume = add_volume(sums.volume, offer.quantity)?;
+    Some(Sums { turnover, volume })
 }
 
 // A size with the sign of a sum.
+#[tactic(auto, unfolding(crate::specs::Sums::with_sign))]
 fn with_sign(sum: i64, size: u64) -> i64
     requires { size ≤ nat_abs sum }
     ensures { result ≡ with_sign sum size }
 {
-    if sum < 0 {
-        if 0 < size {
-            return -1 - (size - 1) as i64;
-        }
-        return 0;
+    if sum < 0 && 0 < size {
+        -1 - (size - 1) as i64
+    } else {
+        size as i64
     }
-    size as i64
 }
 
-// A quotient cut down is one too low. The remainder is compared with what it leaves of the volume: its double may not fit.
+// A quotient cut down is one too low. The remainder is compared with what it leaves of the volume: its double may not
+// fit.
+#[tactic(auto, unfolding(crate::specs::Sums::goes_up))]
 fn goes_up(quotient: u64, remainder: u64, volume: u64) -> bool
     requires { remainder ≤ volume }
     ensures { result ≡ goes_up quotient remainder volume }
 {
     let left = volume - remainder;
-    if left < remainder {
-        return true;
-    }
-    if remainder < left {
-        return false;
-    }
-    quotient % 2 == 1
+    left < remainder || (left == remainder && quotient % 2 == 1)
 }
 
 // The whole number nearest to a size over a volume, at the exact half the even one.
@@ -165,17 +117,18 @@ fn nearest(size: u64, volume: u64) -> u64
 }
 
 // The mean of two sums.
-fn mean_of(sum: i64, volume: i64) -> Mean
+#[tactic(auto, unfolding(crate::specs::Sums::mean_of))]
+fn mean_of(sum: i64, volume: i64) -> Option<i64>
     ensures { result ≡ mean_of sum volume }
 {
     if 0 < volume {
-        return Mean::Price(with_sign(sum, nearest(size_of(sum), size_of(volume))));
+        return Some(with_sign(sum, nearest(sum.unsigned_abs(), volume.unsigned_abs())));
     }
-    Mean::NoMean
+    None
 }
 
 // The mean of the sums.
-pub(crate) fn sums_mean(sums: Sums) -> Mean
+pub(crate) fn sums_mean(sums: Sums) -> Option<i64>
     ensures { result ≡ mean_of sums.turnover sums.volume }
 {
     mean_of(sums.turnover, sums.volume)

@@ -1,13 +1,12 @@
 // The worked examples of the book (request No. 2): makes the calls of standard input, and prints each answer with what
-// the book then shows, buying, selling and mean, in units of 0.0001. A call is a byte, a length of four bytes and that many
-// bytes: 0 and a code, or 1, a TID of four bytes and a content.
+// the book then shows, buying, selling and mean, in units of 0.0001. A call is a byte, a length of four bytes and that
+// many bytes: 0 and a code, or 1, a TID of four bytes and a content.
 #![tactic(auto)]
 
-use book::calls::{Book, Outcome, Step};
-use book::levels::Listed;
-use book::sums::Mean;
+use book::calls::{Book, Step};
+use book::levels::Level;
 use ftd::bytes::{be32, size32};
-use ftd::refusal::number;
+use ftd::refusal::{Refusal, number};
 use ftd::signed::{Signed, from_integer};
 use std::io;
 use streams::read_full;
@@ -18,41 +17,34 @@ fn print(rt: &impl Print, text: &[u8]) -> io::Result<()> {
 
 // Units, with their sign.
 fn print_units(rt: &impl Print, x: i64) -> io::Result<()> {
-    match from_integer(x) {
-        Signed::NoValue => print(rt, b"?"),
-        Signed::Value { negative, units } => {
-            if negative {
-                print(rt, b"-")?;
-            }
-            rt.print(units)
-        }
+    let Some(Signed { negative, units }) = from_integer(x) else {
+        return print(rt, b"?");
+    };
+    if negative {
+        print(rt, b"-")?;
     }
+    rt.print(units)
 }
 
 // The level at a place, behind a space where it is not the first; false where there is none.
 fn print_level(rt: &impl Print, book: Book, buying: bool, i: usize) -> io::Result<bool> {
-    match book.level(buying, i) {
-        Listed::NoLevel => Ok(false),
-        Listed::At { price, quantity } => {
-            if 0 < i {
-                print(rt, b" ")?;
-            }
-            rt.print(quantity as u64)?;
-            print(rt, b"@")?;
-            print_units(rt, price)?;
-            Ok(true)
-        }
+    let Some(Level { price, quantity }) = book.level(buying, i) else {
+        return Ok(false);
+    };
+    if 0 < i {
+        print(rt, b" ")?;
     }
+    rt.print(u64::from(quantity))?;
+    print(rt, b"@")?;
+    print_units(rt, price)?;
+    Ok(true)
 }
 
 // A side, best first.
 fn print_side(rt: &impl Print, book: Book, buying: bool) -> io::Result<()> {
-    let mut i: usize = 0;
-    while i < 64 {
-        if print_level(rt, book, buying, i)? {
-            i += 1;
-        } else {
-            return Ok(());
+    for i in 0..Book::MOST_LEVELS {
+        if !print_level(rt, book, buying, i)? {
+            break;
         }
     }
     Ok(())
@@ -60,26 +52,24 @@ fn print_side(rt: &impl Print, book: Book, buying: bool) -> io::Result<()> {
 
 fn print_mean(rt: &impl Print, book: Book) -> io::Result<()> {
     match book.mean() {
-        Mean::NoMean => print(rt, b"-"),
-        Mean::Price(p) => print_units(rt, p),
+        None => print(rt, b"-"),
+        Some(p) => print_units(rt, p),
     }
 }
 
-fn print_outcome(rt: &impl Print, answer: Outcome) -> io::Result<()> {
-    match answer {
-        Outcome::Done => print(rt, b"0 "),
-        Outcome::Refused(r) => {
-            rt.print(number(r) as u64)?;
-            print(rt, b" ")
-        }
-    }
+fn print_outcome(rt: &impl Print, answer: Result<(), Refusal>) -> io::Result<()> {
+    let n = match answer {
+        Ok(()) => 0,
+        Err(r) => number(r),
+    };
+    rt.print(u64::from(n))?;
+    print(rt, b" ")
 }
 
 // An answer, and what the book shows.
 fn print_step(rt: &impl Print, step: Step) -> io::Result<Book> {
     let book = step.book;
-    let answer = step.answer;
-    print_outcome(rt, answer)?;
+    print_outcome(rt, step.answer)?;
     print_side(rt, book, true)?;
     print(rt, b"|")?;
     print_side(rt, book, false)?;
@@ -114,8 +104,7 @@ fn calls(rt: &impl Print, input: &[u8]) -> io::Result<()> {
         if input.len() - start < n {
             return Ok(());
         }
-        let next = call(rt, book, input[at], &input[start..start + n])?;
-        book = next;
+        book = call(rt, book, input[at], &input[start..start + n])?;
         at = start + n;
     }
     Ok(())

@@ -3,11 +3,10 @@
 // number k and mark m, F and L the same of these letters; f4 is one field of FID 0x7000 with 4 bytes.
 #![tactic(auto)]
 
-use flow::receiver::{Confirmed, Received};
-use flow::sender::{LoggedIn, Opened, Sent};
+use flow::receiver::Received;
+use flow::sender::Sent;
 use ftd::bytes::{copy_at, size8, wide16};
 use ftd::refusal::{Refusal, number};
-use ftd::tags::TradeDate;
 use relay::relay::Relay;
 use std::io;
 
@@ -30,16 +29,10 @@ fn print_refusal(rt: &impl Print, r: Refusal) -> io::Result<()> {
 
 // The mark of the day below.
 fn print_day(rt: &impl Print, end: Relay) -> io::Result<()> {
-    let day = end.day;
-    let date = day.date;
     print(rt, b", day ")?;
-    match date {
-        TradeDate::None => {
-            print(rt, b"none")?;
-        }
-        TradeDate::At(d) => {
-            print_number(rt, d as u64)?;
-        }
+    match end.day.date {
+        None => print(rt, b"none")?,
+        Some(d) => print_number(rt, d as u64)?,
     }
     print(rt, b"\n")
 }
@@ -107,7 +100,6 @@ fn bulletin_field() -> [u8; 828] {
 // A login packet without tags and start field.
 fn login_packet() -> [u8; 146] {
     let mut packet = [0u8; 146];
-    let field = login_field();
     packet[0] = 1;
     packet[3] = 142;
     packet[4] = 1;
@@ -115,7 +107,7 @@ fn login_packet() -> [u8; 146] {
     packet[9] = b'S';
     packet[17] = 1;
     packet[19] = 126;
-    copy_at(&mut packet, 20, &field);
+    copy_at(&mut packet, 20, &login_field());
     packet
 }
 
@@ -173,8 +165,7 @@ fn login_tid() -> Tid {
 // The login field with a start field.
 fn start_content(series: u8, start: u8) -> [u8; 138] {
     let mut content = [0u8; 138];
-    let field = login_field();
-    copy_at(&mut content, 0, &field);
+    copy_at(&mut content, 0, &login_field());
     content[129] = 4;
     content[131] = 6;
     content[133] = series;
@@ -186,9 +177,8 @@ fn start_content(series: u8, start: u8) -> [u8; 138] {
 fn start_packet(series: u8, start: u8) -> [u8; 164] {
     let mut packet = [0u8; 164];
     let before = head(b'S', 0, 0, 5, login_tid(), 2, 138);
-    let content = start_content(series, start);
     copy_at(&mut packet, 0, &before);
-    copy_at(&mut packet, 26, &content);
+    copy_at(&mut packet, 26, &start_content(series, start));
     packet
 }
 
@@ -196,9 +186,8 @@ fn start_packet(series: u8, start: u8) -> [u8; 164] {
 fn answer_packet(number: u8, mark: u8) -> [u8; 163] {
     let mut packet = [0u8; 163];
     let before = head(b'S', 0, number, mark, login_tid(), 1, 137);
-    let content = answer_field();
     copy_at(&mut packet, 0, &before);
-    copy_at(&mut packet, 26, &content);
+    copy_at(&mut packet, 26, &answer_field());
     packet
 }
 
@@ -206,9 +195,8 @@ fn answer_packet(number: u8, mark: u8) -> [u8; 163] {
 fn f4_packet(letter: u8, series: u8, number: u8, mark: u8, tid: Tid) -> [u8; 36] {
     let mut packet = [0u8; 36];
     let before = head(letter, series, number, mark, tid, 1, 10);
-    let content = F4;
     copy_at(&mut packet, 0, &before);
-    copy_at(&mut packet, 26, &content);
+    copy_at(&mut packet, 26, &F4);
     packet
 }
 
@@ -216,27 +204,24 @@ fn f4_packet(letter: u8, series: u8, number: u8, mark: u8, tid: Tid) -> [u8; 36]
 fn narrow_packet(letter: u8) -> [u8; 35] {
     let mut packet = [0u8; 35];
     let before = head(letter, 1, 1, 5, note(), 1, 9);
-    let content = NARROW;
     copy_at(&mut packet, 0, &before);
-    copy_at(&mut packet, 26, &content);
+    copy_at(&mut packet, 26, &NARROW);
     packet
 }
 
 fn minus_packet() -> [u8; 152] {
     let mut packet = [0u8; 152];
     let before = head(b'S', 1, 1, 5, note(), 1, 126);
-    let content = minus_field();
     copy_at(&mut packet, 0, &before);
-    copy_at(&mut packet, 26, &content);
+    copy_at(&mut packet, 26, &minus_field());
     packet
 }
 
 fn bulletin_packet() -> [u8; 854] {
     let mut packet = [0u8; 854];
     let before = head(b'F', 1, 1, 5, bulletin(), 1, 828);
-    let content = bulletin_field();
     copy_at(&mut packet, 0, &before);
-    copy_at(&mut packet, 26, &content);
+    copy_at(&mut packet, 26, &bulletin_field());
     packet
 }
 
@@ -244,19 +229,11 @@ fn bulletin_packet() -> [u8; 854] {
 
 // A box opened with series 1 and 2 and their reserves.
 fn opened(rt: &impl Print, first: usize, second: usize) -> io::Result<Relay> {
-    let fresh = Relay::fresh();
-    let series = [1u16, 2];
-    let reserves = [first, second];
-    let step = fresh.open(&series, &reserves);
-    let end = step.end;
-    let answer = step.answer;
-    match answer {
-        Opened::Done => {}
-        Opened::Refused(r) => {
-            print_refusal(rt, r)?;
-        }
+    let step = Relay::fresh().open(&[1, 2], &[first, second]);
+    if let Err(r) = step.answer {
+        print_refusal(rt, r)?;
     }
-    Ok(end)
+    Ok(step.end)
 }
 
 // Answer with a header number.
@@ -271,19 +248,15 @@ fn answer_numbered(
 ) -> io::Result<Relay> {
     let packet = answer_packet(number, mark);
     let step = end.confirm_login(wide16(series), &packet, log, places);
-    let then = step.end;
-    let answer = step.answer;
-    match answer {
-        Confirmed::Last(last) => {
+    match step.answer {
+        Ok(last) => {
             print(rt, b"last ")?;
             print_number(rt, last as u64)?;
         }
-        Confirmed::Refused(r) => {
-            print_refusal(rt, r)?;
-        }
+        Err(r) => print_refusal(rt, r)?,
     }
-    print_day(rt, then)?;
-    Ok(then)
+    print_day(rt, step.end)?;
+    Ok(step.end)
 }
 
 fn print_answer(rt: &impl Print, series: u8, mark: u8) -> io::Result<()> {
@@ -324,9 +297,7 @@ fn answer_one(
 
 fn print_received(rt: &impl Print, answer: Received) -> io::Result<()> {
     match answer {
-        Received::Idle => {
-            print(rt, b"idle")?;
-        }
+        Received::Idle => print(rt, b"idle")?,
         Received::Duplicate(last) => {
             print(rt, b"again ")?;
             print_number(rt, last as u64)?;
@@ -335,18 +306,11 @@ fn print_received(rt: &impl Print, answer: Received) -> io::Result<()> {
             print(rt, b"held, last ")?;
             print_number(rt, last as u64)?;
         }
-        Received::Complete {
-            last,
-            tid: _,
-            origin: _,
-            content: _,
-        } => {
+        Received::Complete { last, .. } => {
             print(rt, b"message ")?;
             print_number(rt, last as u64)?;
         }
-        Received::Refused(r) => {
-            print_refusal(rt, r)?;
-        }
+        Received::Refused(r) => print_refusal(rt, r)?,
     }
     print(rt, b"\n")
 }
@@ -360,8 +324,7 @@ fn print_packet(
     mark: u8,
     what: &[u8],
 ) -> io::Result<()> {
-    let name = [letter];
-    print(rt, &name)?;
+    print(rt, &[letter])?;
     print(rt, b"(")?;
     print_byte(rt, series)?;
     print(rt, b",")?;
@@ -382,10 +345,8 @@ fn receive_packet(
     buffer: &mut [u8],
 ) -> io::Result<Relay> {
     let step = end.receive(packet, log, buffer);
-    let then = step.end;
-    let answer = step.answer;
-    print_received(rt, answer)?;
-    Ok(then)
+    print_received(rt, step.answer)?;
+    Ok(step.end)
 }
 
 // R(s,k,m), without and with f4.
@@ -472,24 +433,19 @@ fn login_by(
     packet: &[u8],
     places: &mut [u64; 384],
 ) -> io::Result<()> {
-    let content = answer_field();
     let mut out = [0u8; 200];
     let answer = end.login(
         size8(seat),
         wide16(series),
         packet,
-        &content,
+        &answer_field(),
         places,
         &mut out,
     );
     print(rt, b": ")?;
     match answer {
-        LoggedIn::Wrote(_) => {
-            print(rt, b"taken")?;
-        }
-        LoggedIn::Refused(r) => {
-            print_refusal(rt, r)?;
-        }
+        Ok(_) => print(rt, b"taken")?,
+        Err(r) => print_refusal(rt, r)?,
     }
     print(rt, b"\n")
 }
@@ -550,16 +506,12 @@ fn send(
     print_seat(rt, b"Send", seat, series)?;
     print(rt, b": ")?;
     match answer {
-        Sent::Drained => {
-            print(rt, b"none")?;
-        }
-        Sent::Wrote { number, len: _ } => {
+        Ok(None) => print(rt, b"none")?,
+        Ok(Some(Sent { number, .. })) => {
             print(rt, b"sent ")?;
             print_number(rt, number as u64)?;
         }
-        Sent::Refused(r) => {
-            print_refusal(rt, r)?;
-        }
+        Err(r) => print_refusal(rt, r)?,
     }
     print(rt, b"\n")
 }
@@ -568,59 +520,46 @@ fn send(
 
 // The series of the day below: how many, and the first two.
 fn print_series(rt: &impl Print, end: Relay) -> io::Result<()> {
-    let day = end.day;
-    let first = day.series[0];
-    let second = day.series[1];
     print(rt, b"open below: ")?;
-    print_number(rt, day.count as u64)?;
+    print_number(rt, end.day.count as u64)?;
     print(rt, b" series, ")?;
-    print_number(rt, first.series as u64)?;
+    print_number(rt, end.day.series[0].series as u64)?;
     print(rt, b" and ")?;
-    print_number(rt, second.series as u64)?;
+    print_number(rt, end.day.series[1].series as u64)?;
     print(rt, b"\n")
 }
 
 // How many messages of series 1 the day below has.
 fn print_published(rt: &impl Print, end: Relay) -> io::Result<()> {
-    let day = end.day;
-    let first = day.series[0];
     print(rt, b"published(1): ")?;
-    print_number(rt, first.published as u64)?;
+    print_number(rt, end.day.series[0].published as u64)?;
     print(rt, b"\n")
 }
 
 // How many bytes of the log are used.
 fn print_used(rt: &impl Print, end: Relay) -> io::Result<()> {
-    let day = end.day;
     print(rt, b"used: ")?;
-    print_number(rt, day.used as u64)?;
+    print_number(rt, end.day.used as u64)?;
     print(rt, b"\n")
 }
 
 // Whether a series has an open chain.
 fn print_chain(rt: &impl Print, is_open: bool) -> io::Result<()> {
     if is_open {
-        print(rt, b"open\n")?;
+        print(rt, b"open\n")
     } else {
-        print(rt, b"none\n")?;
+        print(rt, b"none\n")
     }
-    Ok(())
 }
 
 fn first_chain(rt: &impl Print, end: Relay) -> io::Result<()> {
-    let receiver = end.receiver;
-    let live = receiver.live;
-    let one = live.series[0];
     print(rt, b"chain(1): ")?;
-    print_chain(rt, one.chain)
+    print_chain(rt, end.receiver.live.series[0].chain)
 }
 
 fn second_chain(rt: &impl Print, end: Relay) -> io::Result<()> {
-    let receiver = end.receiver;
-    let live = receiver.live;
-    let one = live.series[1];
     print(rt, b"chain(2): ")?;
-    print_chain(rt, one.chain)
+    print_chain(rt, end.receiver.live.series[1].chain)
 }
 
 // The last byte of a piece of ten bytes, and the byte behind it.

@@ -1,10 +1,15 @@
--- Some number below n has a property: found, passed over, and none. Assumes nothing.
-use Prim.Native.Nat.{ℕ, zero, suc, ◌+◌, ◌<◌, ◌≤◌}
+-- Some number below n has a property: found, none, and as std's `any` says it. Assumes nothing.
+use Prim.Native.Nat.{ℕ, zero, suc, ◌+◌, ◌<◌}
 use native.Mathlib.Omega.{arith}
-use mathlib.Core.Path.{◌≡◌, refl, sym, ◌∙◌}
+use mathlib.Core.List.{List, [], ◌∷◌}
+use mathlib.Core.Path.{◌≡◌, refl, sym, ap, ◌∙◌}
 use mathlib.Core.Bool.{Bool, true, false, ◌||◌, false≢true}
 use borrow.Author.Tests.{eqb-true, eqb-false}
 use lib.Dec.{eqb}
+use lib.ListN.{length, get_or}
+use Rattle.std.specs.List.{list_any, range_with_len}
+use Rattle.std.proofs.Math.Bool.{or_assoc, or-false}
+use Rattle.std.proofs.lemmas.List.FromFn.{length-range_with_len, get_or-range_with_len}
 use Rattle.calendar.specs.Calendar.{some}
 
 pub or_right : (a : Bool) → (a || true) ≡ true
@@ -48,16 +53,28 @@ module _ (p : ℕ → Bool) where
       go true q = absurd (false≢true (sym e ∙ some_at n i h q))
       go false q = refl
 
-  -- A loop that asks of i = 0, 1, ..; `r` is the answer for i.
-  pub some-here : (n i : ℕ) (r : Bool) → i < n → r ≡ p i → r ≡ true → true ≡ some n p
-  some-here n i r h q e = sym (some_at n i h (sym q ∙ e))
+  -- A number below so many, asked by a list: of its elements in order, or of the numbers themselves.
+  after : (xs : List ℕ) (q : ℕ → Bool) (a : ℕ) → ((i j : ℕ) → j ≡ a + i → i < length xs → p j ≡ q (get_or xs i 0))
+      → some (a + length xs) p ≡ (some a p || list_any q xs)
+  after [] q a h =
+      let e : a + 0 ≡ a = omega arith in
+      rw (e, or-false (some a p))
+  after (x ∷ xs) q a h =
+      let e : a + suc (length xs) ≡ suc a + length xs = omega arith in
+      let here : p a ≡ q x = h 0 a (omega arith) (omega arith) in
+      let there = λ (i j : ℕ) (w : j ≡ suc a + i) (k : i < length xs). h (suc i) j (omega arith) (omega arith) in
+      rw (e, after xs q (suc a) there, ← here, or_assoc (some a p) (p a) (list_any q xs))
 
-  pub some_turn : (i : ℕ) (r : Bool) → some i p ≡ false → r ≡ p i → r ≡ false → some (i + 1) p ≡ false
-  some_turn i r w q e =
-      let s : i + 1 ≡ suc i = omega arith in
-      rw (s, w, ← q, e)
+  pub some-list : (xs : List ℕ) (q : ℕ → Bool) (n : ℕ) → length xs ≡ n
+      → ((i : ℕ) → i < n → p i ≡ q (get_or xs i 0)) → list_any q xs ≡ some n p
+  some-list xs q n e h =
+      let z : 0 + length xs ≡ n = omega (arith, e) in
+      let each : (i j : ℕ) → j ≡ 0 + i → i < length xs → p j ≡ q (get_or xs i 0) = λ i j w k.
+      let s : j ≡ i = omega arith in
+      rw s (h i (omega (arith, e))) in
+      rw z at (sym (after xs q 0 each))
 
-  pub some-none : (n i : ℕ) → some i p ≡ false → i ≤ n → n ≤ i → false ≡ some n p
-  some-none n i w h k =
-      let e : i ≡ n = omega arith in
-      sym (rw e at w)
+  pub some-range : (n : ℕ) → list_any p (range_with_len 0 n) ≡ some n p
+  some-range n =
+      some-list (range_with_len 0 n) p n (length-range_with_len 0 n)
+      (λ i k. let e : i ≡ get_or (range_with_len 0 n) i 0 = omega (arith, get_or-range_with_len 0 n i 0 k) in ap p e)

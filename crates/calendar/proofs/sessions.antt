@@ -1,4 +1,3 @@
 -- The laws of sessions.
-pub mod Laws
 pub mod Common
 pub mod One

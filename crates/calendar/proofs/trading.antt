@@ -1,5 +1,4 @@
 -- The laws of the calendar.
-pub mod Copied
 pub mod Laws
 pub mod Times
 pub mod Taken

@@ -8,12 +8,11 @@ use Rattle.ftd.specs.Gregorian.{real_date}
 use Rattle.ftd.specs.declared.refusal.Refusal.{Refusal}
 use Rattle.ftd.specs.declared.refusal.Refusal.TheVariants.{Sessions, Holiday}
 use Rattle.calendar.specs.declared.trading.Calendar.{Calendar}
-use Rattle.calendar.specs.declared.trading.SetAnswer.{SetAnswer}
-use Rattle.calendar.specs.declared.trading.SetAnswer.TheVariants.{Done, Refused}
+use Rattle.calendar.specs.Types.{SetAnswer}
 use Rattle.calendar.specs.declared.trading.SetStep.{SetStep}
-use Rattle.calendar.specs.declared.trading.TradeTime.{TradeTime}
-use Rattle.calendar.specs.declared.trading.TradeTime.TheVariants.{Outside, Inside}
+use Rattle.calendar.specs.Types.{TradeTime}
 use Rattle.calendar.specs.Days.{date_number}
+use Rattle.std.specs.Prelude.{Some, None, Ok, Err}
 
 -- Some number below n has a property.
 abbrev pub some : ℕ → (ℕ → Bool) → Bool
@@ -93,9 +92,9 @@ step c a = record { calendar = c; answer = a }
 
 unfoldable pub set_of : Calendar → List ℕ → List ℕ → SetStep
 set_of c sessions holidays =
-    cond (wrong_sessions sessions) (step c (Refused Sessions))
-    (cond (wrong_holidays holidays) (step c (Refused Holiday))
-    (step (record { sessions = padded 24 sessions; holidays = padded 32 holidays }) Done))
+    cond (wrong_sessions sessions) (step c (Err Sessions))
+    (cond (wrong_holidays holidays) (step c (Err Holiday))
+    (step (record { sessions = padded 24 sessions; holidays = padded 32 holidays }) (Ok tt)))
 
 -- ─── Trading days ───
 
@@ -151,7 +150,7 @@ trade_day c t = cond (in_session true c.sessions (china_second t)) (next_trading
 unfoldable pub ask_of : Calendar → ℕ → TradeTime
 ask_of c t =
     cond (is_trading c.holidays (china_day t) && in_session false c.sessions (china_second t))
-    (Inside (date_number (trade_day c t))) Outside
+    (Some (date_number (trade_day c t))) None
 
 unfoldable pub mark_date : ℕ → ℕ
 mark_date mark = date_number (china_day mark)

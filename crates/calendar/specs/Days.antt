@@ -5,8 +5,8 @@ pub mod Helpers
 use Rattle.std.specs.Prelude.{ℕ, zero, suc, ◌+◌, ◌-◌, ◌*◌, List, [], ◌∷◌, Bool, cond, take, ltb}
 use Rattle.ftd.specs.Gregorian.{months, real_date}
 use Rattle.calendar.specs.declared.days.CivilDate.{CivilDate}
-use Rattle.calendar.specs.declared.days.DayFound.{DayFound}
-use Rattle.calendar.specs.declared.days.DayFound.TheVariants.{NoDay, Day}
+use Rattle.calendar.specs.Types.{DayFound}
+use Rattle.std.specs.Prelude.{Some, None}
 
 -- A year, a month from 1, a day from 1.
 abbrev pub date : ℕ → ℕ → ℕ → CivilDate
@@ -50,7 +50,7 @@ day_of c = years_days 1970 (c.year - 1970) + (total (take (c.month - 1) (months 
 
 -- Of any date: none where it is no real date, or before 1970.
 unfoldable pub day_for : CivilDate → DayFound
-day_for c = cond (ltb c.year 1970) NoDay (cond (real_date c.year c.month c.day) (Day (day_of c)) NoDay)
+day_for c = cond (ltb c.year 1970) None (cond (real_date c.year c.month c.day) (Some (day_of c)) None)
 
 -- ─── A date as a number ───
 

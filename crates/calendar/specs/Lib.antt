@@ -1,3 +1,4 @@
+pub mod Types
 pub mod Days
 pub mod Calendar
 pub mod Refusals

@@ -2,10 +2,10 @@
 use Rattle.std.specs.Prelude.{ℕ, ◌≡◌, List}
 use Rattle.ftd.specs.declared.refusal.Refusal.{Refusal}
 use Rattle.calendar.specs.declared.trading.Calendar.{Calendar}
-use Rattle.calendar.specs.declared.trading.SetAnswer.TheVariants.{Refused}
 use Rattle.calendar.specs.Calendar.{set_of}
+use Rattle.std.specs.Prelude.{Err}
 
 pub record RefusalsLeave : Type 0 where
   pub set : (c : Calendar) (sessions holidays : List ℕ) (r : Refusal)
-      → (set_of c sessions holidays).answer ≡ Refused r
+      → (set_of c sessions holidays).answer ≡ Err r
       → (set_of c sessions holidays).calendar ≡ c

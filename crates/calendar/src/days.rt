@@ -15,13 +15,6 @@ pub struct CivilDate {
     pub day: u32,
 }
 
-// What the day of a date is: none where it is no real date, or before 1970.
-#[derive(Clone, Copy)]
-pub enum DayFound {
-    NoDay,
-    Day(u32),
-}
-
 // The days before a year, from the year 1 on.
 fn before_year(year: u64) -> u64
     requires { (1 ≤ year) × (year < 4294967296) }
@@ -38,40 +31,38 @@ fn year_at(n: u64) -> u64
 {
     let year = n * 400 / 146097 + 1;
     if before_year(year + 1) <= n {
-        return year + 1;
+        year + 1
+    } else {
+        year
     }
-    year
 }
 
 // The days before a month of its year: as if February had 30, less what it lacks.
+#[tactic(auto, unfolding(crate::specs::Days::Helpers::before_month))]
 fn before_month(leap: bool, month: u64) -> u64
     requires { (1 ≤ month) × (month ≤ 13) }
     ensures { result ≡ before_month leap month }
 {
     let days = (367 * month - 362) / 12;
     if month <= 2 {
-        return days;
+        days
+    } else if leap {
+        days - 1
+    } else {
+        days - 2
     }
-    if leap {
-        return days - 1;
-    }
-    days - 2
 }
 
 // What February lacks of 30 days, for a day of the year behind it.
+#[tactic(auto, unfolding(crate::specs::Days::Helpers::lacking_at))]
 fn lacking(leap: bool, n: u64) -> u64
     ensures { (result ≡ lacking_at leap n) × (result ≤ 2) }
 {
-    if leap {
-        if n < 60 {
-            return 0;
-        }
-        return 1;
+    if n < 59 + u64::from(leap) {
+        0
+    } else {
+        2 - u64::from(leap)
     }
-    if n < 59 {
-        return 0;
-    }
-    2
 }
 
 // The month of a day of the year, from 0.
@@ -109,19 +100,14 @@ fn counted_day(year: u32, month: u32, day: u32) -> u32
 }
 
 // The day of a date.
-pub fn day_of(date: CivilDate) -> DayFound
+pub fn day_of(date: CivilDate) -> Option<u32>
     ensures { result ≡ day_for date }
 {
-    let year = date.year;
-    let month = date.month;
-    let day = date.day;
-    if year < 1970 {
-        return DayFound::NoDay;
+    let CivilDate { year, month, day } = date;
+    if year < 1970 || !is_real(year, month, day) {
+        return None;
     }
-    if is_real(year, month, day) {
-        return DayFound::Day(counted_day(year, month, day));
-    }
-    DayFound::NoDay
+    Some(counted_day(year, month, day))
 }
 
 // What holds of days and dates, as a promise.

@@ -17,32 +17,14 @@ fn real_number(n: u32) -> bool
 pub(crate) fn wrong_holidays(s: &[u32]) -> bool
     ensures { result ≡ wrong_holidays s.now }
 {
-    if 32 < s.len() {
-        return true;
-    }
-    let mut i: usize = 0;
-    while i < s.len() {
-        if real_number(s[i]) {
-            i += 1;
-        } else {
-            return true;
-        }
-    }
-    false
+    32 < s.len() || s.iter().any(|&n| !real_number(n))
 }
 
 // A date stands among the holidays.
 fn is_holiday(s: &[u32; 32], date: u32) -> bool
     ensures { result ≡ is_holiday s.now date }
 {
-    let mut i: usize = 0;
-    while i < 32 {
-        if s[i] == date {
-            return true;
-        }
-        i += 1;
-    }
-    false
+    s.contains(&date)
 }
 
 // The date of a day as a number; up to 2106.
@@ -59,13 +41,7 @@ pub(crate) fn trades(s: &[u32; 32], day: u32) -> bool
     requires { day ≤ 49755 }
     ensures { result ≡ is_trading s.now day }
 {
-    if (day + 3) % 7 < 5 {
-        if is_holiday(s, date_number(day)) {
-            return false;
-        }
-        return true;
-    }
-    false
+    (day + 3) % 7 < 5 && !is_holiday(s, date_number(day))
 }
 
 // The next trading day. There is one: no other bound is needed.
@@ -74,10 +50,8 @@ pub(crate) fn next_trading(s: &[u32; 32], day: u32) -> u32
     ensures { (result ≡ next_trading s.now day) × (result ≤ 49755) }
 {
     let mut next = day + 1;
-    loop {
-        if trades(s, next) {
-            return next;
-        }
+    while !trades(s, next) {
         next += 1;
     }
+    next
 }

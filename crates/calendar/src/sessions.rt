@@ -8,10 +8,7 @@ fn holds_at(s: &[u32], second: u32, i: usize) -> bool
     requires { 3 * i + 2 < length s.now }
     ensures { result ≡ holds s.now second i }
 {
-    if s[3 * i] <= second {
-        return second < s[3 * i + 1];
-    }
-    false
+    s[3 * i] <= second && second < s[3 * i + 1]
 }
 
 // It is late.
@@ -27,10 +24,7 @@ fn wrong_at(s: &[u32], i: usize) -> bool
     requires { 3 * i + 2 < length s.now }
     ensures { result ≡ wrong_session s.now i }
 {
-    if s[3 * i + 1] <= s[3 * i] {
-        return true;
-    }
-    86400 < s[3 * i + 1]
+    s[3 * i + 1] <= s[3 * i] || 86400 < s[3 * i + 1]
 }
 
 // Two have a second in common.
@@ -38,10 +32,7 @@ fn overlap_at(s: &[u32], i: usize, j: usize) -> bool
     requires { (3 * i + 2 < length s.now) × (3 * j + 2 < length s.now) }
     ensures { result ≡ overlap s.now i j }
 {
-    if s[3 * i] < s[3 * j + 1] {
-        return s[3 * j] < s[3 * i + 1];
-    }
-    false
+    s[3 * i] < s[3 * j + 1] && s[3 * j] < s[3 * i + 1]
 }
 
 // One overlaps one before it.
@@ -49,14 +40,7 @@ fn overlaps_before(s: &[u32], i: usize) -> bool
     requires { 3 * i + 2 < length s.now }
     ensures { result ≡ overlaps_before s.now i }
 {
-    let mut j: usize = 0;
-    while j < i {
-        if overlap_at(s, i, j) {
-            return true;
-        }
-        j += 1;
-    }
-    false
+    (0..i).any(|j| overlap_at(s, i, j))
 }
 
 // One of the first n is wrong.
@@ -64,14 +48,7 @@ fn any_wrong(s: &[u32], n: usize) -> bool
     requires { 3 * n ≤ length s.now }
     ensures { result ≡ some n (wrong_session s.now) }
 {
-    let mut i: usize = 0;
-    while i < n {
-        if wrong_at(s, i) {
-            return true;
-        }
-        i += 1;
-    }
-    false
+    (0..n).any(|i| wrong_at(s, i))
 }
 
 // Two of the first n overlap.
@@ -79,31 +56,15 @@ fn any_overlap(s: &[u32], n: usize) -> bool
     requires { 3 * n ≤ length s.now }
     ensures { result ≡ some n (overlaps_before s.now) }
 {
-    let mut i: usize = 0;
-    while i < n {
-        if overlaps_before(s, i) {
-            return true;
-        }
-        i += 1;
-    }
-    false
+    (0..n).any(|i| overlaps_before(s, i))
 }
 
 // 26.
 pub(crate) fn wrong_sessions(s: &[u32]) -> bool
     ensures { result ≡ wrong_sessions s.now }
 {
-    if s.len() % 3 != 0 {
-        return true;
-    }
     let n = s.len() / 3;
-    if 8 < n {
-        return true;
-    }
-    if any_wrong(s, n) {
-        return true;
-    }
-    any_overlap(s, n)
+    s.len() % 3 != 0 || 8 < n || any_wrong(s, n) || any_overlap(s, n)
 }
 
 // A session counts: it has the second, and is late where only late ones count.
@@ -111,25 +72,12 @@ fn counts_at(s: &[u32], only: bool, second: u32, i: usize) -> bool
     requires { 3 * i + 2 < length s.now }
     ensures { result ≡ counts only s.now second i }
 {
-    if holds_at(s, second, i) {
-        if only {
-            return late_at(s, i);
-        }
-        return true;
-    }
-    false
+    holds_at(s, second, i) && (!only || late_at(s, i))
 }
 
 // A second is in a session; of the late ones only.
 pub(crate) fn in_session(s: &[u32; 24], only: bool, second: u32) -> bool
     ensures { result ≡ in_session only s.now second }
 {
-    let mut i: usize = 0;
-    while i < 8 {
-        if counts_at(s, only, second, i) {
-            return true;
-        }
-        i += 1;
-    }
-    false
+    (0..8).any(|i| counts_at(s, only, second, i))
 }

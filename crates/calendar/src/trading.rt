@@ -12,43 +12,18 @@ use crate::sessions::{in_session, wrong_sessions};
 use ftd::refusal::Refusal;
 
 // Sessions in 8 places of three numbers, holidays in 32; an unused place is 0.
+// Stays: arrays of numbers, no Vec: no heap (01), and the C interface hands the calendar over by value.
 #[derive(Clone, Copy)]
 pub struct Calendar {
     pub sessions: [u32; 24],
     pub holidays: [u32; 32],
 }
 
-// What Set answers.
-#[derive(Clone, Copy)]
-pub enum SetAnswer {
-    Done,
-    Refused(Refusal),
-}
-
 // What Set leaves: the calendar, and its answer.
 #[derive(Clone, Copy)]
 pub struct SetStep {
     pub calendar: Calendar,
-    pub answer: SetAnswer,
-}
-
-// What a time is: outside every session, or inside one, with its trade date YYYYMMDD.
-#[derive(Clone, Copy)]
-pub enum TradeTime {
-    Outside,
-    Inside(u32),
-}
-
-// Numbers copied to a buffer's start.
-fn copy(out: &mut [u32], s: &[u32])
-    requires { length s.now ≤ length out.old }
-    ensures { out.new ≡ s.now ++ drop (length s.now) out.old }
-{
-    let mut i: usize = 0;
-    while i < s.len() {
-        out[i] = s[i];
-        i += 1;
-    }
+    pub answer: Result<(), Refusal>,
 }
 
 // The day in China, and the second of that day.
@@ -87,45 +62,43 @@ impl Calendar {
         if wrong_sessions(sessions) {
             return SetStep {
                 calendar: self,
-                answer: SetAnswer::Refused(Refusal::Sessions),
+                answer: Err(Refusal::Sessions),
             };
         }
         if wrong_holidays(holidays) {
             return SetStep {
                 calendar: self,
-                answer: SetAnswer::Refused(Refusal::Holiday),
+                answer: Err(Refusal::Holiday),
             };
         }
         let mut places = [0u32; 24];
-        copy(&mut places, sessions);
+        places[..sessions.len()].copy_from_slice(sessions);
         let mut dates = [0u32; 32];
-        copy(&mut dates, holidays);
+        dates[..holidays.len()].copy_from_slice(holidays);
         SetStep {
             calendar: Calendar {
                 sessions: places,
                 holidays: dates,
             },
-            answer: SetAnswer::Done,
+            answer: Ok(()),
         }
     }
 
     // Whether a time, in seconds since 1970 UTC, is inside a session, and its trade date.
-    pub fn ask(self, seconds: u32) -> TradeTime
+    pub fn ask(self, seconds: u32) -> Option<u32>
         ensures { result ≡ ask_of self seconds }
     {
         let day = china_day(seconds);
         let second = china_second(seconds);
-        let sessions = self.sessions;
-        let holidays = self.holidays;
-        if trades(&holidays, day) {
-            if in_session(&sessions, false, second) {
-                if in_session(&sessions, true, second) {
-                    return TradeTime::Inside(date_number(next_trading(&holidays, day)));
-                }
-                return TradeTime::Inside(date_number(day));
-            }
+        if !trades(&self.holidays, day) || !in_session(&self.sessions, false, second) {
+            return None;
         }
-        TradeTime::Outside
+        let date = if in_session(&self.sessions, true, second) {
+            date_number(next_trading(&self.holidays, day))
+        } else {
+            date_number(day)
+        };
+        Some(date)
     }
 }
 

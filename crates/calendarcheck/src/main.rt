@@ -8,9 +8,9 @@
 ghost use Rattle.std.specs.Prelude.{◌≡◌, ◌≤◌, length};
 
 use calendar::days::{CivilDate, date_of};
-use calendar::trading::{Calendar, SetAnswer, TradeTime, mark_date};
+use calendar::trading::{Calendar, mark_date};
 use ftd::bytes::be32;
-use ftd::refusal::number;
+use ftd::refusal::{Refusal, number};
 use ftd::values::is_date;
 use std::io::Read;
 use std::rt::Files;
@@ -25,39 +25,30 @@ struct Tally {
     whole: bool,
 }
 
-// What came of a record: it is there whole, and it is right; and the calendar behind it.
+// What came of a whole record: the calendar behind it, and whether it is right.
 #[derive(Clone, Copy)]
 struct Compared {
     calendar: Calendar,
-    whole: bool,
     right: bool,
 }
 
 // The date's number is that one.
 fn is_number(date: CivilDate, n: u32) -> bool {
-    if date.year != n / 10000 {
-        return false;
-    }
-    if date.month != n / 100 % 100 {
-        return false;
-    }
-    date.day == n % 100
+    date.year == n / 10000 && date.month == n / 100 % 100 && date.day == n % 100
 }
 
 // A trade date is that one, 0 for outside.
-fn is_answer(answer: TradeTime, n: u32) -> bool {
-    match answer {
-        TradeTime::Outside => n == 0,
-        TradeTime::Inside(date) => date == n,
-    }
+fn is_answer(answer: Option<u32>, n: u32) -> bool {
+    answer.unwrap_or(0) == n
 }
 
 // Set's answer is that one, 0 for set.
-fn is_set(answer: SetAnswer, n: u32) -> bool {
-    match answer {
-        SetAnswer::Done => n == 0,
-        SetAnswer::Refused(r) => number(r) as u32 == n,
-    }
+fn is_set(answer: Result<(), Refusal>, n: u32) -> bool {
+    let said = match answer {
+        Ok(()) => 0,
+        Err(r) => number(r),
+    };
+    u32::from(said) == n
 }
 
 // Reads n numbers; false where there is no room for them, or the file has fewer.
@@ -65,37 +56,17 @@ fn numbers<R: Read>(input: &mut R, out: &mut [u32], n: usize) -> io::Result<bool
     if out.len() < n {
         return Ok(false);
     }
-    let mut i: usize = 0;
-    while i < n {
+    for x in out[..n].iter_mut() {
         let mut four = [0u8; 4];
         if read_full(input, &mut four)? < 4 {
             return Ok(false);
         }
-        out[i] = be32(&four, 0);
-        i += 1;
+        *x = u32::from_be_bytes(four);
     }
     Ok(true)
 }
 
-// A record that is not there whole.
-fn broken(calendar: Calendar) -> Compared {
-    Compared {
-        calendar,
-        whole: false,
-        right: false,
-    }
-}
-
-// A record that leaves the calendar.
-fn told(calendar: Calendar, right: bool) -> Compared {
-    Compared {
-        calendar,
-        whole: true,
-        right,
-    }
-}
-
-// Set, with the first n numbers of sessions and the first m holidays.
+// Set, with the first n numbers of sessions and the first m holidays; none where there are fewer.
 fn compare_answer(
     calendar: Calendar,
     sessions: &[u32],
@@ -103,73 +74,53 @@ fn compare_answer(
     holidays: &[u32],
     m: usize,
     said: u32,
-) -> Compared {
-    if sessions.len() < n {
-        return broken(calendar);
-    }
-    if holidays.len() < m {
-        return broken(calendar);
-    }
-    let step = calendar.set(&sessions[..n], &holidays[..m]);
-    let answer = step.answer;
-    let next = step.calendar;
-    told(next, is_set(answer, said))
+) -> Option<Compared> {
+    let step = calendar.set(sessions.get(..n)?, holidays.get(..m)?);
+    Some(Compared {
+        calendar: step.calendar,
+        right: is_set(step.answer, said),
+    })
 }
 
-// Set, with n numbers of sessions and m holidays, which follow.
+// Set, with n numbers of sessions and m holidays, which follow; none where they are not there whole.
 fn compare_set<R: Read>(
     input: &mut R,
     calendar: Calendar,
     n: usize,
     m: usize,
-) -> io::Result<Compared> {
+) -> io::Result<Option<Compared>> {
     let mut sessions = [0u32; 64];
     let mut holidays = [0u32; 64];
     let mut said = [0u32; 64];
-    if numbers(input, &mut sessions, n)? {
-        if numbers(input, &mut holidays, m)? {
-            if numbers(input, &mut said, 1)? {
-                return Ok(compare_answer(calendar, &sessions, n, &holidays, m, said[0]));
-            }
-        }
+    if numbers(input, &mut sessions, n)?
+        && numbers(input, &mut holidays, m)?
+        && numbers(input, &mut said, 1)?
+    {
+        return Ok(compare_answer(calendar, &sessions, n, &holidays, m, said[0]));
     }
-    Ok(broken(calendar))
+    Ok(None)
 }
 
-// The bytes are no date item.
-fn no_date(s: &[u8]) -> bool {
-    if is_date(s) {
-        return false;
-    }
-    true
-}
-
-// A record by its letter.
-fn compare_record<R: Read>(input: &mut R, calendar: Calendar, head: &[u8]) -> io::Result<Compared>
+// A record by its letter; none where it is not there whole.
+fn compare_record<R: Read>(
+    input: &mut R,
+    calendar: Calendar,
+    head: &[u8],
+) -> io::Result<Option<Compared>>
     requires { 9 ≡ length head.now }
 {
     let x = be32(head, 1);
     let y = be32(head, 5);
-    let letter = head[0];
-    match letter {
-        b'V' => Ok(told(calendar, is_date(&head[1..]))),
-        b'W' => Ok(told(calendar, no_date(&head[1..]))),
-        b'D' => Ok(told(calendar, is_number(date_of(x), y))),
-        b'M' => Ok(told(calendar, mark_date(x) == y)),
-        b'A' => Ok(told(calendar, is_answer(calendar.ask(x), y))),
-        b'S' => compare_set(input, calendar, x as usize, y as usize),
-        _ => Ok(broken(calendar)),
-    }
-}
-
-// One more that differs, or none.
-fn wrong(right: bool) -> u64
-    ensures { result ≤ 1 }
-{
-    if right {
-        return 0;
-    }
-    1
+    let right = match head[0] {
+        b'V' => is_date(&head[1..]),
+        b'W' => !is_date(&head[1..]),
+        b'D' => is_number(date_of(x), y),
+        b'M' => mark_date(x) == y,
+        b'A' => is_answer(calendar.ask(x), y),
+        b'S' => return compare_set(input, calendar, x as usize, y as usize),
+        _ => return Ok(None),
+    };
+    Ok(Some(Compared { calendar, right }))
 }
 
 // All records of a file.
@@ -180,7 +131,7 @@ fn all_records<R: Read>(input: &mut R) -> io::Result<Tally> {
         differ: 0,
         whole: false,
     };
-    while t.records < 1000000 {
+    for _ in 0..1000000u64 {
         let mut head = [0u8; 9];
         let got = read_full(input, &mut head)?;
         if got == 0 {
@@ -190,14 +141,12 @@ fn all_records<R: Read>(input: &mut R) -> io::Result<Tally> {
         if got < 9 {
             return Ok(t);
         }
-        let c = compare_record(input, calendar, &head)?;
-        if c.whole {
-            calendar = c.calendar;
-            t.records += 1;
-            t.differ += wrong(c.right);
-        } else {
+        let Some(c) = compare_record(input, calendar, &head)? else {
             return Ok(t);
-        }
+        };
+        calendar = c.calendar;
+        t.records += 1;
+        t.differ += u64::from(!c.right);
     }
     Ok(t)
 }
@@ -205,19 +154,18 @@ fn all_records<R: Read>(input: &mut R) -> io::Result<Tally> {
 // The line of a file.
 fn compare(rt: &(impl Files + Print), name: &str) -> io::Result<()> {
     rt.write_all(name.as_bytes())?;
-    match fs::open(rt, name) {
-        Err(_) => rt.write_all(b" missing\n"),
-        Ok(mut file) => {
-            let t = all_records(&mut file)?;
-            rt.write_all(b" ")?;
-            rt.print(t.records)?;
-            rt.write_all(b" ")?;
-            rt.print(t.differ)?;
-            if t.whole {
-                return rt.write_all(b"\n");
-            }
-            rt.write_all(b" broken\n")
-        }
+    let Ok(mut file) = fs::open(rt, name) else {
+        return rt.write_all(b" missing\n");
+    };
+    let t = all_records(&mut file)?;
+    rt.write_all(b" ")?;
+    rt.print(t.records)?;
+    rt.write_all(b" ")?;
+    rt.print(t.differ)?;
+    if t.whole {
+        rt.write_all(b"\n")
+    } else {
+        rt.write_all(b" broken\n")
     }
 }
 

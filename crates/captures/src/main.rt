@@ -49,15 +49,11 @@ fn lists(capture: &[u8], more: bool, text: &[u8]) -> bool
                 return same(&out[..len], &text[to..]);
             }
             Line::More { len, next } => {
-                if text.len() - to < len {
+                if text.len() - to < len || !same(&out[..len], &text[to..to + len]) {
                     return false;
                 }
-                if same(&out[..len], &text[to..to + len]) {
-                    at = next;
-                    to += len;
-                } else {
-                    return false;
-                }
+                at = next;
+                to += len;
             }
         }
     }
@@ -76,7 +72,7 @@ fn fill<R: Read>(input: &mut R, buffer: &mut [u8], n: usize) -> io::Result<bool>
 fn read_part(n: usize) -> usize
     ensures { (result ≤ 65536) × (result ≤ n) }
 {
-    if n < 65536 { n } else { 65536 }
+    n.min(65536)
 }
 
 // Reads a record and compares it. What the capture has behind the part that the lister reads goes to the text's buffer
@@ -93,23 +89,17 @@ fn next_record<R: Read>(input: &mut R, capture: &mut [u8], text: &mut [u8]) -> i
     let length = be32(&head, 0) as usize;
     let n = read_part(length);
     let m = be32(&head, 4) as usize;
-    if capture.len() < n {
+    if capture.len() < n || text.len() < m {
         return Ok(Record::Broken);
     }
-    if text.len() < m {
+    if !fill(input, capture, n)? || !fill(input, text, length - n)? || !fill(input, text, m)? {
         return Ok(Record::Broken);
     }
-    if fill(input, capture, n)? {
-        if fill(input, text, length - n)? {
-            if fill(input, text, m)? {
-                if lists(&capture[..n], n < length, &text[..m]) {
-                    return Ok(Record::Same);
-                }
-                return Ok(Record::Differs);
-            }
-        }
+    if lists(&capture[..n], n < length, &text[..m]) {
+        Ok(Record::Same)
+    } else {
+        Ok(Record::Differs)
     }
-    Ok(Record::Broken)
 }
 
 // All records of a file.
@@ -121,7 +111,7 @@ fn all_records<R: Read>(input: &mut R) -> io::Result<Tally> {
         differ: 0,
         whole: false,
     };
-    while t.records < 1000000 {
+    for _ in 0..1000000u64 {
         match next_record(input, &mut capture, &mut text)? {
             Record::Nothing => {
                 t.whole = true;
@@ -145,19 +135,18 @@ fn all_records<R: Read>(input: &mut R) -> io::Result<Tally> {
 // The line of a file.
 fn compare(rt: &(impl Files + Print), name: &str) -> io::Result<()> {
     rt.write_all(name.as_bytes())?;
-    match fs::open(rt, name) {
-        Err(_) => rt.write_all(b" missing\n"),
-        Ok(mut file) => {
-            let t = all_records(&mut file)?;
-            rt.write_all(b" ")?;
-            rt.print(t.records)?;
-            rt.write_all(b" ")?;
-            rt.print(t.differ)?;
-            if t.whole {
-                return rt.write_all(b"\n");
-            }
-            rt.write_all(b" missing\n")
-        }
+    let Ok(mut file) = fs::open(rt, name) else {
+        return rt.write_all(b" missing\n");
+    };
+    let t = all_records(&mut file)?;
+    rt.write_all(b" ")?;
+    rt.print(t.records)?;
+    rt.write_all(b" ")?;
+    rt.print(t.differ)?;
+    if t.whole {
+        rt.write_all(b"\n")
+    } else {
+        rt.write_all(b" missing\n")
     }
 }
 

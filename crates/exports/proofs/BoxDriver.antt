@@ -6,16 +6,12 @@ use mathlib.Core.Bool.{Bool, true, false, cond}
 use mathlib.Core.Option.{Option, none, some}
 use lib.ListN.{get_elem?}
 use lib.Dec.{eqb}
-use Rattle.flow.specs.declared.sender.Opened.{Opened}
-use Rattle.flow.specs.declared.sender.LoggedIn.{LoggedIn}
-use Rattle.flow.specs.declared.sender.Sent.{Sent}
-use Rattle.flow.specs.declared.sender.Sent.TheVariants.{Drained}
-use Rattle.flow.specs.declared.sender.Sent.TheVariants.{Refused as NotSent}
+use Rattle.flow.specs.Types.{Opened}
+use Rattle.flow.specs.Types.{LoggedIn}
 use Rattle.ftd.specs.declared.refusal.Refusal.TheVariants.{NoSeat}
-use Rattle.flow.specs.declared.sender.SentPacket.{SentPacket}
 use Rattle.flow.specs.declared.receiver.Receiver.{Receiver}
-use Rattle.flow.specs.declared.receiver.Requested.{Requested}
-use Rattle.flow.specs.declared.receiver.Confirmed.{Confirmed}
+use Rattle.flow.specs.Types.{Requested}
+use Rattle.flow.specs.Types.{Confirmed}
 use Rattle.flow.specs.declared.receiver.Received.{Received}
 use Rattle.flow.specs.declared.several.ReceivedSeveral.{ReceivedSeveral}
 use Rattle.flow.specs.Ends.{Left, Wrote, left, wrote}
@@ -55,6 +51,8 @@ use Rattle.exports.proofs.Meaning.Calls.{answer-laws}
 use Rattle.exports.proofs.Driver.{by_left, by-wrote, ServedTells, TakenTells, open-tells, publish-tells}
 use Rattle.exports.proofs.Driver.{login-tells, send-tells, packet-tells, reopen-tells, connect-tells}
 use Rattle.exports.proofs.Driver.{request-tells, confirm-tells, receive-tells, through}
+use Rattle.std.specs.Prelude.{None, Ok, Err}
+use Rattle.flow.specs.Types.{SendAnswer, PacketSent}
 
 -- ─── What calls of the box leave ───
 
@@ -201,7 +199,7 @@ module _ (n : FtdSender) (x : BoxLent) (ms : ℕ → FtdReceiver) (w : BoxWorld)
       let is = box_laws.sends x.state x.places (box_of v) b i s v.log out in
       boxing _ _ _ _
       (ap
-      (λ (r : Wrote Box Sent).
+      (λ (r : Wrote Box SendAnswer).
       downward w (seated v r.end) i
       (line_of (after_send (serving_at v i (w.lines i)) s (wrote (server_at r.end i) r.answer r.bytes))))
       (by-wrote box_by x (box_of v) b.0 (λ (y : Box). send_seat_of y i s v.log out) _ _ is.0
@@ -212,7 +210,7 @@ module _ (n : FtdSender) (x : BoxLent) (ms : ℕ → FtdReceiver) (w : BoxWorld)
       let is = box_laws.sends-packet x.state x.places (box_of v) b i s v.log out in
       boxing _ _ _ _
       (ap
-      (λ (r : Wrote Box SentPacket).
+      (λ (r : Wrote Box PacketSent).
       downward w (seated v r.end) i
       (line_of
       (after_send_packet (serving_at v i (w.lines i)) s (wrote (server_at r.end i) r.answer r.bytes))))
@@ -285,19 +283,19 @@ below-complete l es fs e i s d a out z c =
     (box-agreement.below-complete l es fs e i s d a out z (rw (at-u.world, at-v.world, at-w.world) at c))
 
 -- An answer 0 of a seat's Send is none, and then the seat is one.
-drained : (a : Sent) → (seat_sent_numbers a).answer ≡ 0 → a ≡ Drained
+drained : (a : SendAnswer) → (seat_sent_numbers a).answer ≡ 0 → a ≡ (Ok None)
 unfolding sent_for
 drained a h = sym (answer-laws.seat-sent a) ∙ rw h refl
 
-seat-drained : (b : Box) (i s : ℕ) (log out : List ℕ) → (send_seat_of b i s log out).answer ≡ Drained
-    → (send_of (server_at b i) s log out).answer ≡ Drained
+seat-drained : (b : Box) (i s : ℕ) (log out : List ℕ) → (send_seat_of b i s log out).answer ≡ (Ok None)
+    → (send_of (server_at b i) s log out).answer ≡ (Ok None)
 unfolding send_seat_of
 seat-drained b i s log out = go (no_such_seat i)
   where
-    go : (t : Bool) → (cond t (wrote b (NotSent NoSeat) out)
+    go : (t : Bool) → (cond t (wrote b (Err NoSeat) out)
         (let r = send_of (server_at b i) s log out in wrote (with_seat b i r.end.seat) r.answer r.bytes)).answer
-        ≡ Drained
-        → (send_of (server_at b i) s log out).answer ≡ Drained
+        ≡ (Ok None)
+        → (send_of (server_at b i) s log out).answer ≡ (Ok None)
     go true e = cc
     go false e = e
 
@@ -305,7 +303,7 @@ none_left : (l : Lent) (es : List BoxEvent) (i s : ℕ) (out : List ℕ) →
     let d = ran_driver l es in
     let v = (below d.told i).serving in
     (seat_sent_numbers (send_seat_of (box_by d.box) i s v.log out).answer).answer ≡ 0
-    → (send_of v.end s v.log out).answer ≡ Drained
+    → (send_of v.end s v.log out).answer ≡ (Ok None)
 none_left l es i s out h =
     let d = ran_driver l es in
     let t = box-tells l es in

@@ -5,15 +5,12 @@ use mathlib.Core.List.{List, [], ◌∷◌}
 use mathlib.Core.Option.{Option, none, some}
 use lib.ListN.{length, drop, get_elem?}
 use Rattle.flow.specs.declared.sender.Sender.{Sender}
-use Rattle.flow.specs.declared.sender.Opened.{Opened}
-use Rattle.flow.specs.declared.sender.Published.{Published}
-use Rattle.flow.specs.declared.sender.LoggedIn.{LoggedIn}
-use Rattle.flow.specs.declared.sender.Sent.{Sent}
-use Rattle.flow.specs.declared.sender.SentPacket.{SentPacket}
-use Rattle.flow.specs.declared.sender.Sent.TheVariants.{Drained}
+use Rattle.flow.specs.Types.{Opened}
+use Rattle.flow.specs.Types.{Published}
+use Rattle.flow.specs.Types.{LoggedIn}
 use Rattle.flow.specs.declared.receiver.Receiver.{Receiver}
-use Rattle.flow.specs.declared.receiver.Requested.{Requested}
-use Rattle.flow.specs.declared.receiver.Confirmed.{Confirmed}
+use Rattle.flow.specs.Types.{Requested}
+use Rattle.flow.specs.Types.{Confirmed}
 use Rattle.flow.specs.declared.receiver.Received.{Received}
 use Rattle.flow.specs.declared.several.ReceivedSeveral.{ReceivedSeveral}
 use Rattle.flow.specs.declared.several.PublishedSeveral.{PublishedSeveral}
@@ -45,6 +42,8 @@ use Rattle.exports.specs.Driver.{driver_step, run_driver, Tells, calls_by, recei
 use Rattle.exports.specs.Driver.{SameThrough, DriverLaws}
 use Rattle.exports.proofs.Laws.{end-laws}
 use Rattle.exports.proofs.Meaning.Calls.{answer-laws}
+use Rattle.std.specs.Prelude.{None, Ok}
+use Rattle.flow.specs.Types.{SendAnswer, PacketSent}
 
 -- What a call left, from the end and the answer that its numbers say.
 module _ {N E A : Type 0} (say : N → E) (n : N) (e : E) (h : say n ≡ e) where
@@ -111,7 +110,7 @@ module _ (n : FtdSender) (v : SenderSide) (h : SenderIs n v.end) where
       let is = end-laws.send n v.end h s v.log out in
       record {
         side =
-            ap (λ (r : Wrote Sender Sent). after_send v s r)
+            ap (λ (r : Wrote Sender SendAnswer). after_send v s r)
             (by-wrote sender_for n v.end h.0 (λ (x : Sender). send_of x s v.log out) _ _ is.0
             (answer-laws.sent (send_of (sender_for n) s v.log out)));
         numbers = is;
@@ -123,7 +122,7 @@ module _ (n : FtdSender) (v : SenderSide) (h : SenderIs n v.end) where
       let is = end-laws.send-packet n v.end h s v.log out in
       record {
         side =
-            ap (λ (r : Wrote Sender SentPacket). after_send_packet v s r)
+            ap (λ (r : Wrote Sender PacketSent). after_send_packet v s r)
             (by-wrote sender_for n v.end h.0 (λ (x : Sender). send_packet_of x s v.log out) _ _ is.0
             (answer-laws.sent-packet (send_packet_of (sender_for n) s v.log out)));
         numbers = is;
@@ -250,7 +249,7 @@ complete log buffer es fs e s d a out c =
     (agreement.complete log buffer es fs e s d a out (rw (at-u.world, at-v.world, at-w.world) at c))
 
 -- An answer 0 of Send is none.
-drained : (x : Wrote Sender Sent) → (sent_numbers x).answer ≡ 0 → x.answer ≡ Drained
+drained : (x : Wrote Sender SendAnswer) → (sent_numbers x).answer ≡ 0 → x.answer ≡ (Ok None)
 unfolding sent_for
 drained x h = sym (answer-laws.sent x) ∙ rw h refl
 
@@ -258,7 +257,7 @@ none_left : (log buffer : List ℕ) (es : List Event) (s : ℕ) (out : List ℕ)
     let d = run_driver (start_driver log buffer) es in
     let v = d.told.serving in
     (sent_numbers (send_of (sender_for d.sender) s v.log out)).answer ≡ 0
-    → (send_of v.end s v.log out).answer ≡ Drained
+    → (send_of v.end s v.log out).answer ≡ (Ok None)
 none_left log buffer es s out h =
     let d = run_driver (start_driver log buffer) es in
     let t = tells log buffer es in

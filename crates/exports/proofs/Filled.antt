@@ -1,11 +1,22 @@
--- An array of 8 filled one by one with what two lists have at each place. Assumes nothing.
+-- What an array's `map` answers, as a list, and an array of 8 filled one by one with what two lists have at each place.
+-- Assumes nothing.
 use Prim.Native.Nat.{ℕ, zero, suc, ◌+◌, ◌<◌, ◌≤◌}
 use native.Mathlib.Omega.{arith}
 use mathlib.Core.Path.{◌≡◌, refl, sym, ap, ◌∙◌}
-use mathlib.Core.List.{List, [], ◌∷◌}
+use mathlib.Core.List.{List, [], ◌∷◌, map}
 use lib.ListN.{length, get_or, set}
 use Rattle.flow.proofs.common.Filled.{Filled, turn, filled-end}
 use Rattle.exports.specs.Numbers.{paired}
+
+-- At each place f of what the other list has there.
+module _ {A B : Type 0} (f : A → B) where
+  pub mapped : (l : List A) (r : List B) → length l ≡ length r
+      → ((i : ℕ) (d : A) (e : B) → i < length l → get_or r i e ≡ f (get_or l i d)) → r ≡ map f l
+  mapped [] [] q h = refl
+  mapped [] (y ∷ r) q h = absurd (omega arith)
+  mapped (x ∷ l) [] q h = absurd (omega arith)
+  mapped (x ∷ l) (y ∷ r) q h =
+      rw (h 0 x y (omega arith), mapped l r (omega arith) (λ i d e g. h (suc i) d e (omega arith))) refl
 
 module _ {A B C : Type 0} (f : A → B → C) where
   length-paired : (l : List A) (m : List B) → length l ≡ length m → length (paired f l m) ≡ length l

@@ -9,24 +9,17 @@ use lib.ListN.{length, length-map}
 use lib.Dec.{eqb}
 use Rattle.ftd.specs.Packet.{dated_of}
 use Rattle.ftd.specs.Runs.{run_of}
-use Rattle.ftd.specs.declared.tags.TradeDate.{TradeDate}
-use Rattle.ftd.specs.declared.tags.TradeDate.TheVariants.{None, At}
+use Rattle.ftd.specs.Types.{TradeDate}
 use Rattle.flow.specs.declared.sender.DaySeries.{DaySeries}
 use Rattle.flow.specs.declared.sender.Place.{Place}
 use Rattle.flow.specs.declared.sender.Sender.{Sender}
-use Rattle.flow.specs.declared.sender.Opened.{Opened}
-use Rattle.flow.specs.declared.sender.Published.{Published}
-use Rattle.flow.specs.declared.sender.Published.TheVariants.{Number}
-use Rattle.flow.specs.declared.sender.Published.TheVariants.{Refused as NotPublished}
-use Rattle.flow.specs.declared.sender.LoggedIn.{LoggedIn}
-use Rattle.flow.specs.declared.sender.Sent.{Sent}
-use Rattle.flow.specs.declared.sender.SentPacket.{SentPacket}
+use Rattle.flow.specs.Types.{Opened}
+use Rattle.flow.specs.Types.{Published}
+use Rattle.flow.specs.Types.{LoggedIn}
 use Rattle.flow.specs.declared.receiver.KeptSeries.{KeptSeries}
 use Rattle.flow.specs.declared.receiver.LiveSeries.{LiveSeries}
 use Rattle.flow.specs.declared.receiver.Receiver.{Receiver}
-use Rattle.flow.specs.declared.receiver.Confirmed.{Confirmed}
-use Rattle.flow.specs.declared.receiver.Confirmed.TheVariants.{Last}
-use Rattle.flow.specs.declared.receiver.Confirmed.TheVariants.{Refused as NotConfirmed}
+use Rattle.flow.specs.Types.{Confirmed}
 use Rattle.flow.specs.declared.receiver.Received.{Received}
 use Rattle.flow.specs.declared.receiver.Received.TheVariants.{Idle, Duplicate, Partial, Complete}
 use Rattle.flow.specs.declared.receiver.Received.TheVariants.{Refused as NotTaken}
@@ -70,6 +63,8 @@ use Rattle.exports.specs.Several.{received_several_with, received_several_number
 use Rattle.exports.specs.Several.{published_several_numbers}
 use Rattle.exports.specs.Laws.{EndLaws, SenderIs, ReceiverIs}
 use Rattle.exports.proofs.Filled.{all-eight}
+use Rattle.std.specs.Prelude.{Some, None, Ok, Err}
+use Rattle.flow.specs.Types.{SendAnswer, PacketSent}
 
 -- Two lists put together, and one of them got back.
 module _ {A B C : Type 0} (put : A → B → C) where
@@ -90,7 +85,7 @@ module _ {A B C : Type 0} (put : A → B → C) where
 pub date-back : (d : TradeDate) → date_for (dated_flag d) (date_of d) ≡ d
 unfolding date_for
 date-back None = refl
-date-back (At d) = refl
+date-back (Some d) = refl
 
 flag-back : (b : Bool) → not (eqb (flag b) 0) ≡ b
 flag-back false = refl
@@ -183,7 +178,7 @@ module _ (e : Sender) (z : SenderEight e) where
   logged-in-is s p content out r (login-refused q) = sender-is e z
   logged-in-is s p content out r (login-taken h x c a b g t) = next-is s t.served _ 0
 
-  sent_is : (s : ℕ) (log out : List ℕ) (r : Wrote Sender Sent) → SendDone e s log out r
+  sent_is : (s : ℕ) (log out : List ℕ) (r : Wrote Sender SendAnswer) → SendDone e s log out r
       → SenderIs (sent_numbers r).end r.end
   sent_is s log out r (send-unknown q) = sender-is e z
   sent_is s log out r (send-outside q h) = sender-is e z
@@ -198,7 +193,7 @@ module _ (e : Sender) (z : SenderEight e) where
   after_is s o true = next-is s o (suc (place_of e s).next) 0
   after_is s o false = next-is s o (place_of e s).next ((place_of e s).piece + 1)
 
-  sent-packet-is : (s : ℕ) (log out : List ℕ) (r : Wrote Sender SentPacket) → PacketDone e s log out r
+  sent-packet-is : (s : ℕ) (log out : List ℕ) (r : Wrote Sender PacketSent) → PacketDone e s log out r
       → SenderIs (sent_packet_numbers r).end r.end
   sent-packet-is s log out r (packet-unknown q) = sender-is e z
   sent-packet-is s log out r (packet-outside q h) = sender-is e z
@@ -210,8 +205,8 @@ module _ (e : Sender) (z : SenderEight e) where
 
 -- An answer stands beside the end.
 published-end : (n : FtdSender) (a : Published) → (published_with n a).end ≡ n
-published-end n (Number k) = refl
-published-end n (NotPublished r) = refl
+published-end n (Ok k) = refl
+published-end n (Err r) = refl
 
 published-several-end : (n : FtdSender) (taken : ℕ) (a : PublishedSeveral) → (published_several_with n taken a).end ≡ n
 published-several-end n taken AllIn = refl
@@ -278,8 +273,8 @@ end-eight n h = record { kept = length-map n.series kept_for ∙ h; live = lengt
 
 -- An answer stands beside the end.
 confirmed-end : (n : FtdReceiver) (a : Confirmed) → (confirmed_with n a).end ≡ n
-confirmed-end n (Last k) = refl
-confirmed-end n (NotConfirmed r) = refl
+confirmed-end n (Ok k) = refl
+confirmed-end n (Err r) = refl
 
 received-end : (n : FtdReceiver) (a : Received) → (received_with n a).end ≡ n
 received-end n Idle = refl

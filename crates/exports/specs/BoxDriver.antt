@@ -5,7 +5,6 @@
 use Rattle.std.specs.Prelude.{ℕ, ◌<◌, ◌≡◌, List, [], ◌∷◌, take}
 use Rattle.std.proofs.Math.Option.{Option, none, some}
 use Rattle.std.proofs.Math.ListN.{get_elem?}
-use Rattle.flow.specs.declared.sender.Sent.TheVariants.{Drained}
 use Rattle.flow.specs.declared.several.ReceivedSeveral.{ReceivedSeveral}
 use Rattle.flow.specs.Ends.{left, wrote, fresh_sender, fresh_receiver}
 use Rattle.flow.specs.Serving.{send_of}
@@ -40,6 +39,7 @@ use Rattle.exports.specs.Meaning.Calls.{seat_login_by, seat_sent_by, seat_packet
 use Rattle.exports.specs.Driver.{Served, Taken, opened_side, published_side, logged_in_side, sent_side}
 use Rattle.exports.specs.Driver.{sent_packet_side, reopened_side, connected_side, requested_side, confirmed_side}
 use Rattle.exports.specs.Driver.{received_side, calls_by, SameThrough}
+use Rattle.std.specs.Prelude.{None, Ok}
 
 -- ─── The driver ───
 
@@ -246,7 +246,7 @@ pub record BoxDriverLaws : Type 0 where
       let d = ran_driver l es in
       let v = (below d.told i).serving in
       (seat_sent_numbers (send_seat_of (box_by d.box) i s v.log out).answer).answer ≡ 0
-      → (send_of v.end s v.log out).answer ≡ Drained
+      → (send_of v.end s v.log out).answer ≡ (Ok None)
   -- A bufferful from above: the calls for several with the numbers handed on are those of `relay`, which are so many
   -- single calls.
   pub packets : (places : List ℕ) (n : LoggedLent) (x : Logged) → LoggedIs places n x → (most : ℕ)

@@ -5,21 +5,9 @@ use Rattle.ftd.specs.Refusal.{number_of}
 use Rattle.ftd.specs.declared.packet.Span.{Span}
 use Rattle.flow.specs.declared.sender.DaySeries.{DaySeries}
 use Rattle.flow.specs.declared.sender.Day.{Day}
-use Rattle.flow.specs.declared.sender.Opened.{Opened}
-use Rattle.flow.specs.declared.sender.LoggedIn.{LoggedIn}
-use Rattle.flow.specs.declared.sender.LoggedIn.TheVariants.{Wrote as Answered}
-use Rattle.flow.specs.declared.sender.LoggedIn.TheVariants.{Refused as NotIn}
-use Rattle.flow.specs.declared.sender.Sent.{Sent}
-use Rattle.flow.specs.declared.sender.Sent.TheVariants.{Drained}
-use Rattle.flow.specs.declared.sender.Sent.TheVariants.{Wrote as Message-sent}
-use Rattle.flow.specs.declared.sender.Sent.TheVariants.{Refused as NotSent}
-use Rattle.flow.specs.declared.sender.SentPacket.{SentPacket}
-use Rattle.flow.specs.declared.sender.SentPacket.TheVariants.{Drained as NoPacket}
-use Rattle.flow.specs.declared.sender.SentPacket.TheVariants.{Wrote as Packet-sent}
-use Rattle.flow.specs.declared.sender.SentPacket.TheVariants.{Refused as NotPacket}
-use Rattle.flow.specs.declared.receiver.Confirmed.{Confirmed}
-use Rattle.flow.specs.declared.receiver.Confirmed.TheVariants.{Last}
-use Rattle.flow.specs.declared.receiver.Confirmed.TheVariants.{Refused as NotConfirmed}
+use Rattle.flow.specs.Types.{Opened}
+use Rattle.flow.specs.Types.{LoggedIn}
+use Rattle.flow.specs.Types.{Confirmed}
 use Rattle.flow.specs.declared.receiver.Origin.{Origin}
 use Rattle.flow.specs.declared.receiver.Received.{Received}
 use Rattle.flow.specs.declared.receiver.Received.TheVariants.{Idle, Duplicate, Partial, Complete}
@@ -34,7 +22,7 @@ use Rattle.relay.specs.declared.relay.Relay.{Relay}
 use Rattle.relay.specs.State.{Box}
 use Rattle.relay.specs.Box.{Relayed}
 use Rattle.relay.specs.Bufferful.{Logged}
-use Rattle.exports.specs.Numbers.{flag, dated_flag, date_of, date_for, span_numbers, no_span}
+use Rattle.exports.specs.Numbers.{bytes_of, flag, dated_flag, date_of, date_for, span_numbers, no_span}
 use Rattle.exports.specs.Serving.{opened_number}
 use Rattle.exports.specs.Receiving.{receiver_for, receiver_numbers, origin_number}
 use Rattle.exports.specs.declared.written.FtdWritten.{FtdWritten}
@@ -47,6 +35,8 @@ use Rattle.exports.specs.declared.boxes.FtdBoxReceived.{FtdBoxReceived}
 use Rattle.exports.specs.declared.boxes.FtdBoxReceivedSeveral.{FtdBoxReceivedSeveral}
 use Rattle.exports.specs.declared.boxes.FtdBoxSent.{FtdBoxSent}
 use Rattle.exports.specs.declared.boxes.FtdBoxSentPacket.{FtdBoxSentPacket}
+use Rattle.std.specs.Prelude.{Some, None, Ok, Err}
+use Rattle.flow.specs.Types.{SendAnswer, PacketSent}
 
 -- ─── The box that numbers say: a trade date unless dated is 0 ───
 
@@ -92,8 +82,8 @@ box_numbers b =
 
 -- Beside the box: the series' last number.
 abbrev pub box_confirmed_with : FtdBox → Confirmed → FtdBoxConfirmed
-box_confirmed_with b (Last n) = record { state = b; last = n; refusal = 0 }
-box_confirmed_with b (NotConfirmed r) = record { state = b; last = 0; refusal = number_of r }
+box_confirmed_with b (Ok n) = record { state = b; last = n; refusal = 0 }
+box_confirmed_with b (Err r) = record { state = b; last = 0; refusal = number_of r }
 
 -- Beside the box: 0 idle, 1 again, 2 a piece held, 3 a message handed on, 4 refused.
 abbrev pub box_plain_with : FtdBox → ℕ → ℕ → ℕ → FtdBoxReceived
@@ -165,21 +155,20 @@ box_received_several_with b taken (StopRefused r) = box_stopped_with b taken 4 0
 
 -- Of a seat: how many bytes were written;
 abbrev pub seat_login_numbers : LoggedIn → FtdWritten
-seat_login_numbers (Answered n) = record { bytes = n; refusal = 0 }
-seat_login_numbers (NotIn r) = record { bytes = 0; refusal = number_of r }
+seat_login_numbers x = bytes_of x
 
 -- 0 none left, 1 a message's number and bytes, 2 refused;
-abbrev pub seat_sent_numbers : Sent → FtdBoxSent
-seat_sent_numbers Drained = record { bytes = 0; number = 0; answer = 0; refusal = 0 }
-seat_sent_numbers (Message-sent k n) = record { bytes = n; number = k; answer = 1; refusal = 0 }
-seat_sent_numbers (NotSent r) = record { bytes = 0; number = 0; answer = 2; refusal = number_of r }
+abbrev pub seat_sent_numbers : SendAnswer → FtdBoxSent
+seat_sent_numbers (Ok None) = record { bytes = 0; number = 0; answer = 0; refusal = 0 }
+seat_sent_numbers (Ok (Some found)) = record { bytes = found.len; number = found.number; answer = 1; refusal = 0 }
+seat_sent_numbers (Err r) = record { bytes = 0; number = 0; answer = 2; refusal = number_of r }
 
 -- the same, and 1 where it is the message's last packet.
-abbrev pub seat_packet_numbers : SentPacket → FtdBoxSentPacket
-seat_packet_numbers NoPacket = record { bytes = 0; number = 0; answer = 0; refusal = 0; last = 0 }
-seat_packet_numbers (Packet-sent k n last) =
-    record { bytes = n; number = k; answer = 1; refusal = 0; last = flag last }
-seat_packet_numbers (NotPacket r) = record { bytes = 0; number = 0; answer = 2; refusal = number_of r; last = 0 }
+abbrev pub seat_packet_numbers : PacketSent → FtdBoxSentPacket
+seat_packet_numbers (Ok None) = record { bytes = 0; number = 0; answer = 0; refusal = 0; last = 0 }
+seat_packet_numbers (Ok (Some found)) =
+    record { bytes = found.len; number = found.number; answer = 1; refusal = 0; last = flag found.last }
+seat_packet_numbers (Err r) = record { bytes = 0; number = 0; answer = 2; refusal = number_of r; last = 0 }
 
 -- ─── What each call leaves ───
 

@@ -6,7 +6,6 @@ use Rattle.std.specs.Prelude.{ℕ, zero, suc, ◌<◌, ◌≡◌, List, [], ◌�
 use Rattle.std.proofs.Math.Option.{Option, none, some}
 use Rattle.std.proofs.Math.ListN.{get_elem?}
 use Rattle.flow.specs.declared.sender.Sender.{Sender}
-use Rattle.flow.specs.declared.sender.Sent.TheVariants.{Drained}
 use Rattle.flow.specs.declared.receiver.Receiver.{Receiver}
 use Rattle.flow.specs.declared.several.ReceivedSeveral.{ReceivedSeveral}
 use Rattle.flow.specs.declared.several.PublishedSeveral.{PublishedSeveral}
@@ -32,6 +31,7 @@ use Rattle.exports.specs.Several.{received_several_numbers, published_several_nu
 use Rattle.exports.specs.Laws.{SenderIs, ReceiverIs}
 use Rattle.exports.specs.Meaning.Calls.{opened_for, published_by, logged_in_by, sent_by, sent_packet_by, requested_by}
 use Rattle.exports.specs.Meaning.Calls.{confirmed_by, received_by, received_several_by, published_several_by}
+use Rattle.std.specs.Prelude.{None, Ok}
 
 -- ─── The calls of an end: of its numbers and of what the driver was told on its side ───
 
@@ -216,7 +216,7 @@ pub record DriverLaws : Type 0 where
       let d = run_driver (start_driver log buffer) es in
       let v = d.told.serving in
       (sent_numbers (send_of (sender_for d.sender) s v.log out)).answer ≡ 0
-      → (send_of v.end s v.log out).answer ≡ Drained
+      → (send_of v.end s v.log out).answer ≡ (Ok None)
   -- A bufferful: the calls for several with the numbers handed on are those of `flow`, which are so many single calls.
   pub packets : (n : FtdReceiver) (e : Receiver) → ReceiverIs n e → (most : ℕ) (bytes buffer : List ℕ)
       → SameThrough ReceiverIs (calls_by receive_several_with received_told most n bytes buffer)

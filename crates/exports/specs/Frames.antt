@@ -2,13 +2,10 @@
 pub mod Laws
 use Rattle.std.specs.Prelude.{ℕ}
 use Rattle.ftd.specs.Refusal.{number_of}
-use Rattle.fix.specs.declared.text.Number.{Number}
-use Rattle.fix.specs.declared.text.Number.TheVariants.{NoNumber, Is}
+use Rattle.fix.specs.Types.{Number}
 use Rattle.fix.specs.declared.kinds.Kind.{Kind}
 use Rattle.fix.specs.declared.kinds.Kind.TheVariants.{Heartbeat, TestRequest, ResendRequest, SequenceReset}
 use Rattle.fix.specs.declared.kinds.Kind.TheVariants.{Logout, Logon, Other}
-use Rattle.fix.specs.declared.fields.Front.{Front}
-use Rattle.fix.specs.declared.fields.Front.TheVariants.{NoField, Field}
 use Rattle.fix.specs.declared.read.Message.{Message}
 use Rattle.fix.specs.declared.read.Judged.{Judged}
 use Rattle.fix.specs.declared.read.Judged.TheVariants.{Refused, Next, Again, Gap, Reset}
@@ -17,6 +14,8 @@ use Rattle.exports.specs.Numbers.{flag, no_span, span_numbers}
 use Rattle.exports.specs.declared.frames.FtdReading.{FtdReading}
 use Rattle.exports.specs.declared.frames.FtdTagged.{FtdTagged}
 use Rattle.exports.specs.declared.frames.FtdNumber.{FtdNumber}
+use Rattle.std.specs.Prelude.{Some, None}
+use Rattle.fix.specs.Types.{MaybeFront}
 
 -- ─── Read: 0 refused, 1 next, 2 again, 3 gap, 4 reset ───
 
@@ -76,12 +75,12 @@ reading_numbers x = judged_numbers x.expected x.answer
 
 -- ─── A field: 1, its tag and the place of its text, or all 0 ───
 
-abbrev pub front_numbers : Front → FtdTagged
-front_numbers NoField = record { start = 0; len = 0; tag = 0; found = 0 }
-front_numbers (Field tag start len) = record { start = start; len = len; tag = tag; found = 1 }
+abbrev pub front_numbers : MaybeFront → FtdTagged
+front_numbers None = record { start = 0; len = 0; tag = 0; found = 0 }
+front_numbers (Some found1) = record { start = found1.start; len = found1.len; tag = found1.tag; found = 1 }
 
 -- ─── A text as a number: 1 and its value, or 0 and 0 ───
 
 abbrev pub text_numbers : Number → FtdNumber
-text_numbers NoNumber = record { number = 0; found = 0 }
-text_numbers (Is n) = record { number = n; found = 1 }
+text_numbers None = record { number = 0; found = 0 }
+text_numbers (Some n) = record { number = n; found = 1 }

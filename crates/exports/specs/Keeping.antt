@@ -2,17 +2,14 @@
 -- checkpoints, and what keeping and return answer.
 pub mod Laws
 use Rattle.std.specs.Prelude.{ℕ, map}
-use Rattle.ftd.specs.Refusal.{number_of}
 use Rattle.flow.specs.declared.receiver.KeptSeries.{KeptSeries}
 use Rattle.flow.specs.declared.receiver.Receiver.{Receiver}
 use Rattle.flow.specs.declared.checkpoint.Checkpoint.{Checkpoint}
 use Rattle.flow.specs.declared.checkpoint.Checkpoints.{Checkpoints}
-use Rattle.flow.specs.declared.checkpoint.Saved.{Saved}
-use Rattle.flow.specs.declared.checkpoint.Saved.TheVariants.{Done as Saved-done, Refused as NotSaved}
-use Rattle.flow.specs.declared.checkpoint.Restored.{Restored}
-use Rattle.flow.specs.declared.checkpoint.Restored.TheVariants.{Done as Restored-done, Refused as NotRestored}
+use Rattle.flow.specs.Types.{Saved}
+use Rattle.flow.specs.Types.{Restored}
 use Rattle.flow.specs.Ends.{Left}
-use Rattle.exports.specs.Numbers.{dated_flag, date_of, date_for}
+use Rattle.exports.specs.Numbers.{refusal_of, dated_flag, date_of, date_for}
 use Rattle.exports.specs.Receiving.{receiver_numbers}
 use Rattle.exports.specs.declared.keeping.FtdCheckpointSeries.{FtdCheckpointSeries}
 use Rattle.exports.specs.declared.keeping.FtdCheckpoint.{FtdCheckpoint}
@@ -48,12 +45,10 @@ checkpoints_numbers c = record { count = c.count; places = map checkpoint_number
 -- ─── An answer: 0 or the number of the refusal ───
 
 abbrev pub saved_number : Saved → ℕ
-saved_number Saved-done = 0
-saved_number (NotSaved r) = number_of r
+saved_number x = refusal_of x
 
 abbrev pub restored_number : Restored → ℕ
-restored_number Restored-done = 0
-restored_number (NotRestored r) = number_of r
+restored_number x = refusal_of x
 
 -- ─── What each call leaves ───
 

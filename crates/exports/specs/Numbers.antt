@@ -5,29 +5,19 @@ use Rattle.ftd.specs.Runs.{front}
 use Rattle.ftd.specs.Refusal.{number_of}
 use Rattle.ftd.specs.Fields.{field}
 use Rattle.ftd.specs.Packet.{chain_letter}
-use Rattle.ftd.specs.declared.tags.TradeDate.{TradeDate}
-use Rattle.ftd.specs.declared.tags.TradeDate.TheVariants.{None, At}
-use Rattle.ftd.specs.declared.tags.PacketPlace.{PacketPlace}
-use Rattle.ftd.specs.declared.tags.PacketPlace.TheVariants.{NoPlace, Nth}
+use Rattle.ftd.specs.Types.{TradeDate}
+use Rattle.ftd.specs.Types.{PacketPlace}
 use Rattle.ftd.specs.declared.packet.Span.{Span}
 use Rattle.ftd.specs.declared.packet.Header.{Header}
 use Rattle.ftd.specs.declared.packet.Packet.{Packet}
 use Rattle.ftd.specs.declared.packet.Dated.{Dated}
 use Rattle.ftd.specs.declared.packet.Packet.TheVariants.{Short, Link, Skipped, Message, Refused}
-use Rattle.ftd.specs.declared.fields.FieldPlace.{FieldPlace}
-use Rattle.ftd.specs.declared.fields.FieldPlace.TheVariants.{NoField, Field}
 use Rattle.ftd.specs.declared.composition.Direction.{Direction}
 use Rattle.ftd.specs.declared.composition.Direction.TheVariants.{Up, Down}
-use Rattle.ftd.specs.declared.items.Checked.{Checked}
-use Rattle.ftd.specs.declared.items.Checked.TheVariants.{Passed}
-use Rattle.ftd.specs.declared.items.Checked.TheVariants.{Refused as Against}
+use Rattle.ftd.specs.Types.{Checked}
 use Rattle.ftd.specs.declared.chain.Message.{Message as Outgoing}
-use Rattle.ftd.specs.declared.chain.ChainSize.{ChainSize}
-use Rattle.ftd.specs.declared.chain.ChainSize.TheVariants.{Takes}
-use Rattle.ftd.specs.declared.chain.ChainSize.TheVariants.{Refused as NotTaken}
-use Rattle.ftd.specs.declared.write.Written.{Written}
-use Rattle.ftd.specs.declared.write.Written.TheVariants.{Bytes, NotPlain}
-use Rattle.ftd.specs.declared.write.Written.TheVariants.{Refused as NotWritten}
+use Rattle.ftd.specs.Types.{ChainSize}
+use Rattle.ftd.specs.Types.{Written}
 use Rattle.exports.specs.declared.FtdSpan.{FtdSpan}
 use Rattle.exports.specs.declared.FtdPacket.{FtdPacket}
 use Rattle.exports.specs.declared.FtdField.{FtdField}
@@ -39,6 +29,21 @@ use Rattle.ftd.specs.declared.resume.Resume.TheVariants.{Absent, Next, Misshapen
 use Rattle.exports.specs.declared.tags.FtdDate.{FtdDate}
 use Rattle.exports.specs.declared.resume.FtdResume.{FtdResume}
 use Rattle.exports.specs.declared.written.FtdWritten.{FtdWritten}
+use Rattle.std.specs.Prelude.{Some, None, Ok, Err, Result}
+use Rattle.ftd.specs.declared.refusal.Refusal.{Refusal}
+use Rattle.ftd.specs.Types.{MaybeField}
+use Rattle.ftd.specs.declared.write.WriteError.TheVariants.{Refused, NotPlain}
+use Rattle.ftd.specs.declared.write.WriteError.TheVariants.{NotPlain}
+
+-- ─── An answer that has nothing to say but a refusal: 0, or its number; and one of how many bytes were written ───
+
+abbrev pub refusal_of : {T : Type 0} → Result T Refusal → ℕ
+refusal_of (Ok x) = 0
+refusal_of (Err r) = number_of r
+
+abbrev pub bytes_of : Result ℕ Refusal → FtdWritten
+bytes_of (Ok n) = record { bytes = n; refusal = 0 }
+bytes_of (Err r) = record { bytes = 0; refusal = number_of r }
 
 -- ─── A Bool: 1 or 0 ───
 
@@ -50,28 +55,28 @@ flag true = 1
 
 abbrev pub dated_flag : TradeDate → ℕ
 dated_flag None = 0
-dated_flag (At d) = 1
+dated_flag (Some d) = 1
 
 abbrev pub date_of : TradeDate → ℕ
 date_of None = 0
-date_of (At d) = d
+date_of (Some d) = d
 
 abbrev pub trade_date_numbers : TradeDate → FtdDate
 trade_date_numbers d = record { date = date_of d; dated = dated_flag d }
 
 -- The trade date that numbers say: none where the first is 0.
 unfoldable pub date_for : ℕ → ℕ → TradeDate
-date_for dated date = cond (eqb dated 0) None (At date)
+date_for dated date = cond (eqb dated 0) None (Some date)
 
 -- ─── A packet's place in its message: 1 and its value, or 0 and 0 ───
 
 abbrev pub placed_flag : PacketPlace → ℕ
-placed_flag NoPlace = 0
-placed_flag (Nth j) = 1
+placed_flag None = 0
+placed_flag (Some j) = 1
 
 abbrev pub place_number : PacketPlace → ℕ
-place_number NoPlace = 0
-place_number (Nth j) = j
+place_number None = 0
+place_number (Some j) = j
 
 -- ─── A part of lent bytes ───
 
@@ -189,9 +194,9 @@ dated_numbers n x = packet_numbers n x.packet x.date x.place
 
 -- ─── A field: 1, its FID and its place, or all 0 ───
 
-abbrev pub field_numbers : FieldPlace → FtdField
-field_numbers NoField = record { start = 0; len = 0; fid = 0; found = 0 }
-field_numbers (Field fid start len) = record { start = start; len = len; fid = fid; found = 1 }
+abbrev pub field_numbers : MaybeField → FtdField
+field_numbers None = record { start = 0; len = 0; fid = 0; found = 0 }
+field_numbers (Some found1) = record { start = found1.start; len = found1.len; fid = found1.fid; found = 1 }
 
 -- The field at a place of a content, if one stands there whole: 1, its FID and the length of its bytes, or all 0.
 unfoldable pub step_of : List ℕ → ℕ → FtdStep
@@ -206,8 +211,7 @@ unfoldable pub direction_for : ℕ → Direction
 direction_for d = cond (eqb d 0) Up Down
 
 abbrev pub verdict_number : Checked → ℕ
-verdict_number Passed = 0
-verdict_number (Against r) = number_of r
+verdict_number x = refusal_of x
 
 -- ─── A message written: its packets bear no place, which the ends' Sends alone write (02, No. 10) ───
 
@@ -222,14 +226,14 @@ message_for m =
     }
 
 abbrev pub size_numbers : ChainSize → FtdSize
-size_numbers (Takes s) = record { packets = s.packets; bytes = s.bytes; refusal = 0 }
-size_numbers (NotTaken r) = record { packets = 0; bytes = 0; refusal = number_of r }
+size_numbers (Ok s) = record { packets = s.packets; bytes = s.bytes; refusal = 0 }
+size_numbers (Err r) = record { packets = 0; bytes = 0; refusal = number_of r }
 
 -- The last answer is another writer's and has no number in the table: 255.
 abbrev pub written_numbers : Written → FtdWritten
-written_numbers (Bytes n) = record { bytes = n; refusal = 0 }
-written_numbers (NotWritten r) = record { bytes = 0; refusal = number_of r }
-written_numbers NotPlain = record { bytes = 0; refusal = 255 }
+written_numbers (Ok n) = record { bytes = n; refusal = 0 }
+written_numbers (Err (Refused r)) = record { bytes = 0; refusal = number_of r }
+written_numbers (Err NotPlain) = record { bytes = 0; refusal = 255 }
 
 -- ─── The start field: 0 none, 1 and its values, 2 of another width, 3 more than one ───
 

@@ -2,19 +2,17 @@
 -- answers.
 pub mod Laws
 use Rattle.std.specs.Prelude.{ℕ, Bool, eqb, pos}
-use Rattle.ftd.specs.Refusal.{number_of}
+use Rattle.exports.specs.Numbers.{refusal_of}
 use Rattle.book.specs.declared.calls.Book.{Book}
-use Rattle.book.specs.declared.calls.Outcome.{Outcome}
-use Rattle.book.specs.declared.calls.Outcome.TheVariants.{Done, Refused}
+use Rattle.book.specs.Types.{Outcome}
 use Rattle.book.specs.declared.calls.Step.{Step}
-use Rattle.book.specs.declared.levels.Listed.{Listed}
-use Rattle.book.specs.declared.levels.Listed.TheVariants.{NoLevel, At}
-use Rattle.book.specs.declared.sums.Mean.{Mean}
-use Rattle.book.specs.declared.sums.Mean.TheVariants.{NoMean, Price}
+use Rattle.book.specs.Types.{Mean}
 use Rattle.exports.specs.declared.quotes.FtdBook.{FtdBook}
 use Rattle.exports.specs.declared.quotes.FtdBookStep.{FtdBookStep}
 use Rattle.exports.specs.declared.quotes.FtdListed.{FtdListed}
 use Rattle.exports.specs.declared.quotes.FtdMean.{FtdMean}
+use Rattle.std.specs.Prelude.{Some, None}
+use Rattle.book.specs.Types.{MaybeLevel}
 
 -- The book that numbers say, and the numbers of a book.
 abbrev pub book_for : FtdBook → Book
@@ -36,8 +34,7 @@ book_numbers b = record {
 
 -- Start and Take: 0, or the number of the refusal.
 abbrev pub outcome_number : Outcome → ℕ
-outcome_number Done = 0
-outcome_number (Refused r) = number_of r
+outcome_number x = refusal_of x
 
 -- What they leave.
 abbrev pub step_numbers : Step → FtdBookStep
@@ -48,11 +45,11 @@ abbrev pub buying_for : ℕ → Bool
 buying_for n = eqb n 0
 
 -- A level: 1, its price and its quantity, or none, all 0.
-abbrev pub level_numbers : Listed → FtdListed
-level_numbers NoLevel = record { price = pos 0; quantity = 0; found = 0 }
-level_numbers (At p n) = record { price = p; quantity = n; found = 1 }
+abbrev pub level_numbers : MaybeLevel → FtdListed
+level_numbers None = record { price = pos 0; quantity = 0; found = 0 }
+level_numbers (Some found1) = record { price = found1.price; quantity = found1.quantity; found = 1 }
 
 -- The mean match price: 1 and the price, or none, 0 and 0.
 abbrev pub mean_numbers : Mean → FtdMean
-mean_numbers NoMean = record { price = pos 0; found = 0 }
-mean_numbers (Price p) = record { price = p; found = 1 }
+mean_numbers None = record { price = pos 0; found = 0 }
+mean_numbers (Some p) = record { price = p; found = 1 }

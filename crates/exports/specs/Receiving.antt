@@ -3,23 +3,19 @@
 use Rattle.std.specs.Prelude.{ℕ, map, not, eqb}
 use Rattle.ftd.specs.Refusal.{number_of}
 use Rattle.ftd.specs.declared.packet.Span.{Span}
-use Rattle.flow.specs.declared.sender.Opened.{Opened}
+use Rattle.flow.specs.Types.{Opened}
 use Rattle.flow.specs.declared.receiver.KeptSeries.{KeptSeries}
 use Rattle.flow.specs.declared.receiver.LiveSeries.{LiveSeries}
 use Rattle.flow.specs.declared.receiver.Receiver.{Receiver}
-use Rattle.flow.specs.declared.receiver.Requested.{Requested}
-use Rattle.flow.specs.declared.receiver.Requested.TheVariants.{Wrote as Asked}
-use Rattle.flow.specs.declared.receiver.Requested.TheVariants.{Refused as NotAsked}
-use Rattle.flow.specs.declared.receiver.Confirmed.{Confirmed}
-use Rattle.flow.specs.declared.receiver.Confirmed.TheVariants.{Last}
-use Rattle.flow.specs.declared.receiver.Confirmed.TheVariants.{Refused as NotConfirmed}
+use Rattle.flow.specs.Types.{Requested}
+use Rattle.flow.specs.Types.{Confirmed}
 use Rattle.flow.specs.declared.receiver.Origin.{Origin}
 use Rattle.flow.specs.declared.receiver.Origin.TheVariants.{Packet, Buffer}
 use Rattle.flow.specs.declared.receiver.Received.{Received}
 use Rattle.flow.specs.declared.receiver.Received.TheVariants.{Idle, Duplicate, Partial, Complete}
 use Rattle.flow.specs.declared.receiver.Received.TheVariants.{Refused as NotTaken}
 use Rattle.flow.specs.Ends.{Left, Wrote, receiver}
-use Rattle.exports.specs.Numbers.{flag, dated_flag, date_of, date_for, paired, span_numbers}
+use Rattle.exports.specs.Numbers.{bytes_of, flag, dated_flag, date_of, date_for, paired, span_numbers}
 use Rattle.exports.specs.Serving.{opened_number}
 use Rattle.exports.specs.declared.written.FtdWritten.{FtdWritten}
 use Rattle.exports.specs.declared.receiving.FtdKept.{FtdKept}
@@ -27,6 +23,7 @@ use Rattle.exports.specs.declared.receiving.FtdReceiver.{FtdReceiver}
 use Rattle.exports.specs.declared.receiving.FtdReceiverOpened.{FtdReceiverOpened}
 use Rattle.exports.specs.declared.receiving.FtdConfirmed.{FtdConfirmed}
 use Rattle.exports.specs.declared.receiving.FtdReceived.{FtdReceived}
+use Rattle.std.specs.Prelude.{Ok, Err}
 
 -- ─── The end that numbers say: any number but 0 is true, and a trade date unless dated is 0 ───
 
@@ -70,13 +67,12 @@ receiver_numbers e =
 
 -- How many bytes Ask wrote; the end stays.
 abbrev pub requested_numbers : Requested → FtdWritten
-requested_numbers (Asked n) = record { bytes = n; refusal = 0 }
-requested_numbers (NotAsked r) = record { bytes = 0; refusal = number_of r }
+requested_numbers x = bytes_of x
 
 -- The series' last number.
 abbrev pub confirmed_with : FtdReceiver → Confirmed → FtdConfirmed
-confirmed_with e (Last n) = record { end = e; last = n; refusal = 0 }
-confirmed_with e (NotConfirmed r) = record { end = e; last = 0; refusal = number_of r }
+confirmed_with e (Ok n) = record { end = e; last = n; refusal = 0 }
+confirmed_with e (Err r) = record { end = e; last = 0; refusal = number_of r }
 
 -- Where the content lies: 0 in the packet, 1 in the reassembly buffer.
 abbrev pub origin_number : Origin → ℕ

@@ -5,25 +5,11 @@ use Rattle.ftd.specs.Refusal.{number_of}
 use Rattle.flow.specs.declared.sender.DaySeries.{DaySeries}
 use Rattle.flow.specs.declared.sender.Place.{Place}
 use Rattle.flow.specs.declared.sender.Sender.{Sender}
-use Rattle.flow.specs.declared.sender.Opened.{Opened}
-use Rattle.flow.specs.declared.sender.Opened.TheVariants.{Done}
-use Rattle.flow.specs.declared.sender.Opened.TheVariants.{Refused as NotOpened}
-use Rattle.flow.specs.declared.sender.Published.{Published}
-use Rattle.flow.specs.declared.sender.Published.TheVariants.{Number}
-use Rattle.flow.specs.declared.sender.Published.TheVariants.{Refused as NotPublished}
-use Rattle.flow.specs.declared.sender.LoggedIn.{LoggedIn}
-use Rattle.flow.specs.declared.sender.LoggedIn.TheVariants.{Wrote as Answered}
-use Rattle.flow.specs.declared.sender.LoggedIn.TheVariants.{Refused as NotIn}
-use Rattle.flow.specs.declared.sender.Sent.{Sent}
-use Rattle.flow.specs.declared.sender.Sent.TheVariants.{Drained}
-use Rattle.flow.specs.declared.sender.Sent.TheVariants.{Wrote as Message-sent}
-use Rattle.flow.specs.declared.sender.Sent.TheVariants.{Refused as NotSent}
-use Rattle.flow.specs.declared.sender.SentPacket.{SentPacket}
-use Rattle.flow.specs.declared.sender.SentPacket.TheVariants.{Drained as NoPacket}
-use Rattle.flow.specs.declared.sender.SentPacket.TheVariants.{Wrote as Packet-sent}
-use Rattle.flow.specs.declared.sender.SentPacket.TheVariants.{Refused as NotPacket}
+use Rattle.flow.specs.Types.{Opened}
+use Rattle.flow.specs.Types.{Published}
+use Rattle.flow.specs.Types.{LoggedIn}
 use Rattle.flow.specs.Ends.{Left, Wrote, sender}
-use Rattle.exports.specs.Numbers.{flag, dated_flag, date_of, date_for, paired}
+use Rattle.exports.specs.Numbers.{refusal_of, flag, dated_flag, date_of, date_for, paired}
 use Rattle.exports.specs.declared.serving.FtdServed.{FtdServed}
 use Rattle.exports.specs.declared.serving.FtdSender.{FtdSender}
 use Rattle.exports.specs.declared.serving.FtdSenderOpened.{FtdSenderOpened}
@@ -31,6 +17,8 @@ use Rattle.exports.specs.declared.serving.FtdPublished.{FtdPublished}
 use Rattle.exports.specs.declared.serving.FtdLoggedIn.{FtdLoggedIn}
 use Rattle.exports.specs.declared.serving.FtdSent.{FtdSent}
 use Rattle.exports.specs.declared.serving.FtdSentPacket.{FtdSentPacket}
+use Rattle.std.specs.Prelude.{Some, None, Ok, Err}
+use Rattle.flow.specs.Types.{SendAnswer, PacketSent}
 
 -- ─── The end that numbers say: any number but 0 is true, and a trade date unless dated is 0 ───
 
@@ -73,31 +61,30 @@ sender_numbers e =
 
 -- An opening of either end.
 abbrev pub opened_number : Opened → ℕ
-opened_number Done = 0
-opened_number (NotOpened r) = number_of r
+opened_number x = refusal_of x
 
 -- The message's number.
 abbrev pub published_with : FtdSender → Published → FtdPublished
-published_with e (Number k) = record { end = e; number = k; refusal = 0 }
-published_with e (NotPublished r) = record { end = e; number = 0; refusal = number_of r }
+published_with e (Ok k) = record { end = e; number = k; refusal = 0 }
+published_with e (Err r) = record { end = e; number = 0; refusal = number_of r }
 
 -- How many bytes were written.
 abbrev pub logged_in_with : FtdSender → LoggedIn → FtdLoggedIn
-logged_in_with e (Answered n) = record { end = e; bytes = n; refusal = 0 }
-logged_in_with e (NotIn r) = record { end = e; bytes = 0; refusal = number_of r }
+logged_in_with e (Ok n) = record { end = e; bytes = n; refusal = 0 }
+logged_in_with e (Err r) = record { end = e; bytes = 0; refusal = number_of r }
 
 -- 0 none left, 1 a message's number and bytes, 2 refused.
-abbrev pub sent_with : FtdSender → Sent → FtdSent
-sent_with e Drained = record { end = e; bytes = 0; number = 0; answer = 0; refusal = 0 }
-sent_with e (Message-sent k n) = record { end = e; bytes = n; number = k; answer = 1; refusal = 0 }
-sent_with e (NotSent r) = record { end = e; bytes = 0; number = 0; answer = 2; refusal = number_of r }
+abbrev pub sent_with : FtdSender → SendAnswer → FtdSent
+sent_with e (Ok None) = record { end = e; bytes = 0; number = 0; answer = 0; refusal = 0 }
+sent_with e (Ok (Some found)) = record { end = e; bytes = found.len; number = found.number; answer = 1; refusal = 0 }
+sent_with e (Err r) = record { end = e; bytes = 0; number = 0; answer = 2; refusal = number_of r }
 
 -- The same, and 1 where it is the message's last packet.
-abbrev pub sent_packet_with : FtdSender → SentPacket → FtdSentPacket
-sent_packet_with e NoPacket = record { end = e; bytes = 0; number = 0; answer = 0; refusal = 0; last = 0 }
-sent_packet_with e (Packet-sent k n last) =
-    record { end = e; bytes = n; number = k; answer = 1; refusal = 0; last = flag last }
-sent_packet_with e (NotPacket r) =
+abbrev pub sent_packet_with : FtdSender → PacketSent → FtdSentPacket
+sent_packet_with e (Ok None) = record { end = e; bytes = 0; number = 0; answer = 0; refusal = 0; last = 0 }
+sent_packet_with e (Ok (Some found)) =
+    record { end = e; bytes = found.len; number = found.number; answer = 1; refusal = 0; last = flag found.last }
+sent_packet_with e (Err r) =
     record { end = e; bytes = 0; number = 0; answer = 2; refusal = number_of r; last = 0 }
 
 -- ─── What each call leaves ───
@@ -111,8 +98,8 @@ published_numbers x = published_with (sender_numbers x.end) x.answer
 abbrev pub logged_in_numbers : Wrote Sender LoggedIn → FtdLoggedIn
 logged_in_numbers x = logged_in_with (sender_numbers x.end) x.answer
 
-abbrev pub sent_numbers : Wrote Sender Sent → FtdSent
+abbrev pub sent_numbers : Wrote Sender SendAnswer → FtdSent
 sent_numbers x = sent_with (sender_numbers x.end) x.answer
 
-abbrev pub sent_packet_numbers : Wrote Sender SentPacket → FtdSentPacket
+abbrev pub sent_packet_numbers : Wrote Sender PacketSent → FtdSentPacket
 sent_packet_numbers x = sent_packet_with (sender_numbers x.end) x.answer

@@ -13,16 +13,15 @@ ghost use Rattle.exports.specs.Boxes.{box_received_several_with, seat_login_numb
 ghost use Rattle.exports.specs.Boxes.{seat_packet_numbers, box_opened_numbers, box_confirmed_numbers};
 ghost use Rattle.exports.specs.Boxes.{box_received_numbers, box_received_several_numbers};
 
-use crate::receiving::{FtdReceiver, origin_number, receiver_for, receiver_numbers, requested};
-use crate::serving::opened;
+use crate::FtdSpan;
+use crate::receiving::{FtdReceiver, origin_number, receiver_for, receiver_numbers};
 use crate::tags::{date, date_for, dated, flag_of};
-use crate::written::FtdWritten;
-use crate::{FtdSpan, span};
-use flow::receiver::{Confirmed, Origin, Received};
-use flow::sender::{Day, DaySeries, LoggedIn, Sent, SentPacket};
+use crate::written::{FtdWritten, bytes_of, refusal_of};
+use flow::receiver::{Origin, Received};
+use flow::sender::{Day, DaySeries, Sent, SentPacket};
 use flow::several::ReceivedSeveral;
 use ftd::packet::Span;
-use ftd::refusal::number;
+use ftd::refusal::{Refusal, number};
 use relay::relay::Relay;
 
 // A series of the day: its reserve of the log and how many bytes its entries take, and how many were published.
@@ -36,6 +35,7 @@ pub struct FtdDaySeries {
 }
 
 // The day below: bytes of the log in use, its series in the opening's order, how many are open, and the trade date.
+// Stays: `dated` as a number; the C interface (include/ftd.h).
 #[repr(C)]
 #[derive(Clone, Copy)]
 pub struct FtdDay {
@@ -107,6 +107,7 @@ pub struct FtdBoxSent {
     pub refusal: u8,
 }
 
+// Stays: `last` as a number; the C interface (include/ftd.h).
 #[repr(C)]
 #[derive(Clone, Copy)]
 pub struct FtdBoxSentPacket {
@@ -117,31 +118,20 @@ pub struct FtdBoxSentPacket {
     pub last: u8,
 }
 
+// Stays: no `From` for the conversions here, as in `serving`.
 // The day that the numbers say.
 fn day_for(s: FtdDay) -> Day
     ensures { result ≡ day_for s }
 {
-    let mut series = [DaySeries {
-        series: 0,
-        published: 0,
-        reserve: 0,
-        used: 0,
-    }; 8];
-    let mut i: usize = 0;
-    while i < 8 {
-        let one = s.series[i];
-        series[i] = DaySeries {
+    Day {
+        date: date_for(s.dated, s.date),
+        count: s.count,
+        series: s.series.map(|one| DaySeries {
             series: one.series,
             published: one.published,
             reserve: one.reserve,
             used: one.used,
-        };
-        i += 1;
-    }
-    Day {
-        date: date_for(s.dated, s.date),
-        count: s.count,
-        series: series,
+        }),
         used: s.used,
     }
 }
@@ -150,12 +140,14 @@ fn day_for(s: FtdDay) -> Day
 pub(crate) fn relay_for(s: FtdBox) -> Relay
     ensures { result ≡ relay_for s }
 {
-    let end = s.receiver;
-    let reserves = s.reserves;
-    let day = s.day;
+    let FtdBox {
+        receiver,
+        reserves,
+        day,
+    } = s;
     Relay {
-        receiver: receiver_for(end),
-        reserves: reserves,
+        receiver: receiver_for(receiver),
+        reserves,
         day: day_for(day),
     }
 }
@@ -164,30 +156,17 @@ pub(crate) fn relay_for(s: FtdBox) -> Relay
 fn day_numbers(d: Day) -> FtdDay
     ensures { result ≡ day_numbers d }
 {
-    let own = d.date;
-    let mut all = [FtdDaySeries {
-        reserve: 0,
-        used: 0,
-        published: 0,
-        series: 0,
-    }; 8];
-    let mut i: usize = 0;
-    while i < 8 {
-        let one = d.series[i];
-        all[i] = FtdDaySeries {
+    FtdDay {
+        used: d.used,
+        series: d.series.map(|one| FtdDaySeries {
             reserve: one.reserve,
             used: one.used,
             published: one.published,
             series: one.series,
-        };
-        i += 1;
-    }
-    FtdDay {
-        used: d.used,
-        series: all,
+        }),
         count: d.count,
-        date: date(own),
-        dated: dated(own),
+        date: date(d.date),
+        dated: dated(d.date),
     }
 }
 
@@ -195,12 +174,14 @@ fn day_numbers(d: Day) -> FtdDay
 fn box_numbers(b: Relay) -> FtdBox
     ensures { result ≡ box_numbers (box_for b []) }
 {
-    let end = b.receiver;
-    let reserves = b.reserves;
-    let day = b.day;
+    let Relay {
+        receiver,
+        reserves,
+        day,
+    } = b;
     FtdBox {
-        receiver: receiver_numbers(end),
-        reserves: reserves,
+        receiver: receiver_numbers(receiver),
+        reserves,
         day: day_numbers(day),
     }
 }
@@ -220,11 +201,9 @@ pub extern "C" fn ftd_box_open(state: FtdBox, series: &[u16], reserves: &[usize]
         series.now reserves.now) }
 {
     let step = relay_for(state).open(series, reserves);
-    let after = step.end;
-    let answer = step.answer;
     FtdBoxOpened {
-        state: box_numbers(after),
-        refusal: opened(answer),
+        state: box_numbers(step.end),
+        refusal: refusal_of(step.answer),
     }
 }
 
@@ -249,24 +228,18 @@ pub extern "C" fn ftd_box_request_login(
     ensures output { (seats : List ℕ) → out.new ≡ (ask_of (box_for (relay_for state) seats) series
         content.now out.old).bytes }
 {
-    requested(relay_for(state).request_login(series, content, out))
+    bytes_of(relay_for(state).request_login(series, content, out))
 }
 
 // What Answer answers.
-fn box_confirmed(state: FtdBox, a: Confirmed) -> FtdBoxConfirmed
+#[tactic(auto, unfolding(crate::specs::Boxes::box_confirmed_with))]
+fn box_confirmed(state: FtdBox, a: Result<u32, Refusal>) -> FtdBoxConfirmed
     ensures { result ≡ box_confirmed_with state a }
 {
-    match a {
-        Confirmed::Last(n) => FtdBoxConfirmed {
-            state: state,
-            last: n,
-            refusal: 0,
-        },
-        Confirmed::Refused(r) => FtdBoxConfirmed {
-            state: state,
-            last: 0,
-            refusal: number(r),
-        },
+    FtdBoxConfirmed {
+        state,
+        last: a.unwrap_or(0),
+        refusal: refusal_of(a),
     }
 }
 
@@ -285,9 +258,7 @@ pub extern "C" fn ftd_box_confirm_login(
         (answer_way (box_for (relay_for state) places.old) series packet.now log.now) }
 {
     let step = relay_for(state).confirm_login(series, packet, log, places);
-    let after = step.end;
-    let answer = step.answer;
-    box_confirmed(box_numbers(after), answer)
+    box_confirmed(box_numbers(step.end), step.answer)
 }
 
 // An answer of Receive that hands on no message.
@@ -295,13 +266,13 @@ fn box_plain(state: FtdBox, answer: u8, last: u32, refusal: u8) -> FtdBoxReceive
     ensures { result ≡ box_plain_with state answer last refusal }
 {
     FtdBoxReceived {
-        state: state,
+        state,
         content: FtdSpan { start: 0, len: 0 },
-        last: last,
+        last,
         tid: 0,
-        answer: answer,
+        answer,
         origin: 0,
-        refusal: refusal,
+        refusal,
     }
 }
 
@@ -310,10 +281,10 @@ fn box_complete(state: FtdBox, last: u32, tid: u32, origin: Origin, content: Spa
     ensures { result ≡ box_complete_with state last tid origin content }
 {
     FtdBoxReceived {
-        state: state,
-        content: span(content),
-        last: last,
-        tid: tid,
+        state,
+        content: content.into(),
+        last,
+        tid,
         answer: 3,
         origin: origin_number(origin),
         refusal: 0,
@@ -354,9 +325,7 @@ pub extern "C" fn ftd_box_receive(
         packet.now log.old buffer.old).buffer }
 {
     let step = relay_for(state).receive(packet, log, buffer);
-    let after = step.end;
-    let answer = step.answer;
-    box_received(box_numbers(after), answer)
+    box_received(box_numbers(step.end), step.answer)
 }
 
 // An answer to a bufferful that hands on no message.
@@ -370,15 +339,15 @@ fn box_stopped(
     ensures { result ≡ box_stopped_with state taken answer missing refusal }
 {
     FtdBoxReceivedSeveral {
-        state: state,
+        state,
         content: FtdSpan { start: 0, len: 0 },
-        taken: taken,
-        missing: missing,
+        taken,
+        missing,
         last: 0,
         tid: 0,
-        answer: answer,
+        answer,
         origin: 0,
-        refusal: refusal,
+        refusal,
     }
 }
 
@@ -394,12 +363,12 @@ fn box_handed(
     ensures { result ≡ box_handed_with state taken last tid origin content }
 {
     FtdBoxReceivedSeveral {
-        state: state,
-        content: span(content),
-        taken: taken,
+        state,
+        content: content.into(),
+        taken,
         missing: 0,
-        last: last,
-        tid: tid,
+        last,
+        tid,
         answer: 3,
         origin: origin_number(origin),
         refusal: 0,
@@ -440,25 +409,7 @@ pub extern "C" fn ftd_box_receive_several(
         (box_for (relay_for state) seats) packets.now log.old buffer.old).bytes }
 {
     let step = relay_for(state).receive_several(packets, log, buffer);
-    let after = step.end;
-    let answer = step.answer;
-    box_received_several(box_numbers(after), step.taken, answer)
-}
-
-// What Login of a seat answers.
-fn seat_login(a: LoggedIn) -> FtdWritten
-    ensures { result ≡ seat_login_numbers a }
-{
-    match a {
-        LoggedIn::Wrote(n) => FtdWritten {
-            bytes: n,
-            refusal: 0,
-        },
-        LoggedIn::Refused(r) => FtdWritten {
-            bytes: 0,
-            refusal: number(r),
-        },
-    }
+    box_received_several(box_numbers(step.end), step.taken, step.answer)
 }
 
 // Login of a seat: a login packet and the answer's content; the answer is written.
@@ -481,30 +432,30 @@ pub extern "C" fn ftd_box_login(
     ensures output { out.new ≡ (login_seat_of (box_for (relay_for state) places.old) seat series
         packet.now content.now out.old).bytes }
 {
-    seat_login(relay_for(state).login(seat, series, packet, content, places, out))
+    bytes_of(relay_for(state).login(seat, series, packet, content, places, out))
 }
 
 // What Send of a seat answers.
-fn seat_sent(a: Sent) -> FtdBoxSent
+pub(crate) fn seat_sent(a: Result<Option<Sent>, Refusal>) -> FtdBoxSent
     ensures { result ≡ seat_sent_numbers a }
 {
     match a {
-        Sent::Drained => FtdBoxSent {
+        Ok(None) => FtdBoxSent {
             bytes: 0,
             number: 0,
-            answer: 0,
+            answer: 0, // none left
             refusal: 0,
         },
-        Sent::Wrote { number, len } => FtdBoxSent {
+        Ok(Some(Sent { number, len })) => FtdBoxSent {
             bytes: len,
-            number: number,
-            answer: 1,
+            number,
+            answer: 1, // a message
             refusal: 0,
         },
-        Sent::Refused(r) => FtdBoxSent {
+        Err(r) => FtdBoxSent {
             bytes: 0,
             number: 0,
-            answer: 2,
+            answer: 2, // refused
             refusal: number(r),
         },
     }
@@ -532,28 +483,28 @@ pub extern "C" fn ftd_box_send(
 }
 
 // What Send of a seat answers for one packet.
-fn seat_packet(a: SentPacket) -> FtdBoxSentPacket
+pub(crate) fn seat_packet(a: Result<Option<SentPacket>, Refusal>) -> FtdBoxSentPacket
     ensures { result ≡ seat_packet_numbers a }
 {
     match a {
-        SentPacket::Drained => FtdBoxSentPacket {
+        Ok(None) => FtdBoxSentPacket {
             bytes: 0,
             number: 0,
-            answer: 0,
+            answer: 0, // no packet left
             refusal: 0,
             last: 0,
         },
-        SentPacket::Wrote { number, len, last } => FtdBoxSentPacket {
+        Ok(Some(SentPacket { number, len, last })) => FtdBoxSentPacket {
             bytes: len,
-            number: number,
-            answer: 1,
+            number,
+            answer: 1, // a packet
             refusal: 0,
             last: flag_of(last),
         },
-        SentPacket::Refused(r) => FtdBoxSentPacket {
+        Err(r) => FtdBoxSentPacket {
             bytes: 0,
             number: 0,
-            answer: 2,
+            answer: 2, // no packet: refused
             refusal: number(r),
             last: 0,
         },

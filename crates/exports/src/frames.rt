@@ -9,17 +9,18 @@ ghost use Rattle.exports.specs.Frames.{kind_number, refused_numbers, said_number
 ghost use Rattle.exports.specs.Frames.{front_numbers, text_numbers};
 ghost use Rattle.exports.specs.Frames.Laws.{FrameNumberLaws};
 
+use crate::FtdSpan;
 use crate::tags::flag_of;
 use crate::written::{FtdWritten, written};
-use crate::{FtdSpan, span};
 use fix::fields::{Front, find_field, first_field};
 use fix::kinds::Kind;
 use fix::read::{Judged, Message, read};
-use fix::text::{Number, number_in};
+use fix::text::number_in;
 use fix::write::write;
 use ftd::refusal::number;
 
 // How a frame is judged, the number expected then, and what the frame says: places, numbers, which type it is of.
+// Stays: `fill` as a number; the C interface (include/ftd.h).
 #[repr(C)]
 #[derive(Clone, Copy)]
 pub struct FtdReading {
@@ -37,6 +38,7 @@ pub struct FtdReading {
 }
 
 // A field of a frame: where its text lies, and its tag.
+// Stays: `found` as a number; the C interface (include/ftd.h).
 #[repr(C)]
 #[derive(Clone, Copy)]
 pub struct FtdTagged {
@@ -47,6 +49,7 @@ pub struct FtdTagged {
 }
 
 // A text as a number.
+// Stays: `found` as a number; the C interface (include/ftd.h).
 #[repr(C)]
 #[derive(Clone, Copy)]
 pub struct FtdNumber {
@@ -77,12 +80,12 @@ fn refused(expected: u32, refusal: u8) -> FtdReading
         name: FtdSpan { start: 0, len: 0 },
         fields: FtdSpan { start: 0, len: 0 },
         text: FtdSpan { start: 0, len: 0 },
-        expected: expected,
+        expected,
         number: 0,
         first: 0,
         second: 0,
         answer: 0,
-        refusal: refusal,
+        refusal,
         kind: 0,
         fill: 0,
     }
@@ -92,21 +95,17 @@ fn refused(expected: u32, refusal: u8) -> FtdReading
 fn said(expected: u32, answer: u8, m: Message) -> FtdReading
     ensures { result ≡ said_numbers expected answer m }
 {
-    let name = m.name;
-    let fields = m.fields;
-    let text = m.text;
-    let kind = m.kind;
     FtdReading {
-        name: span(name),
-        fields: span(fields),
-        text: span(text),
-        expected: expected,
+        name: m.name.into(),
+        fields: m.fields.into(),
+        text: m.text.into(),
+        expected,
         number: m.number,
         first: m.first,
         second: m.second,
-        answer: answer,
+        answer,
         refusal: 0,
-        kind: kind_number(kind),
+        kind: kind_number(m.kind),
         fill: flag_of(m.fill),
     }
 }
@@ -130,8 +129,7 @@ pub extern "C" fn ftd_frame_read(bytes: &[u8], expected: u32) -> FtdReading
     ensures { result ≡ reading_numbers (read_of bytes.now expected) }
 {
     let found = read(bytes, expected);
-    let answer = found.answer;
-    judged(found.expected, answer)
+    judged(found.expected, found.answer)
 }
 
 // The frame of a type and a run of fields, at the start of the output.
@@ -145,20 +143,20 @@ pub extern "C" fn ftd_frame_write(name: &[u8], fields: &[u8], out: &mut [u8]) ->
 }
 
 // A field, or none.
-fn front(f: Front) -> FtdTagged
+fn front(f: Option<Front>) -> FtdTagged
     ensures { result ≡ front_numbers f }
 {
     match f {
-        Front::NoField => FtdTagged {
+        None => FtdTagged {
             start: 0,
             len: 0,
             tag: 0,
             found: 0,
         },
-        Front::Field { tag, start, len } => FtdTagged {
-            start: start,
-            len: len,
-            tag: tag,
+        Some(Front { tag, start, len }) => FtdTagged {
+            start,
+            len,
+            tag,
             found: 1,
         },
     }
@@ -186,11 +184,11 @@ pub extern "C" fn ftd_frame_number(text: &[u8]) -> FtdNumber
     ensures { result ≡ text_numbers (number_in text.now) }
 {
     match number_in(text) {
-        Number::NoNumber => FtdNumber {
+        None => FtdNumber {
             number: 0,
             found: 0,
         },
-        Number::Is(n) => FtdNumber {
+        Some(n) => FtdNumber {
             number: n,
             found: 1,
         },

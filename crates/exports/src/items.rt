@@ -14,6 +14,7 @@ use ftd::item::{FieldItem, read_item, write_item};
 use ftd::mode::{Mode, mode_of};
 
 // The value of an item: which kind it is of, and its numbers.
+// Stays: `negative` as a number; the C interface (include/ftd.h).
 #[repr(C)]
 #[derive(Clone, Copy)]
 pub struct FtdItem {
@@ -38,7 +39,7 @@ fn valued(kind: u8, minus: u8, x: u64) -> FtdItem
         year: 0,
         month: 0,
         day: 0,
-        kind: kind,
+        kind,
         negative: minus,
     }
 }

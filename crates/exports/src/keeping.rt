@@ -5,17 +5,17 @@ ghost use Rattle.flow.specs.Checkpoints.{fresh_checkpoints, keep_of, restore_of}
 ghost use Rattle.exports.specs.Receiving.{receiver_for};
 ghost use Rattle.exports.specs.Keeping.{kept_series_for, checkpoint_for, checkpoints_for};
 ghost use Rattle.exports.specs.Keeping.{kept_series_numbers, checkpoint_numbers, checkpoints_numbers};
-ghost use Rattle.exports.specs.Keeping.{saved_number, restored_number, kept_step_numbers, returned_numbers};
+ghost use Rattle.exports.specs.Keeping.{kept_step_numbers, returned_numbers};
 ghost use Rattle.exports.specs.Keeping.Laws.{CheckpointNumberLaws};
 
 use crate::receiving::{FtdReceiver, receiver_for, receiver_numbers};
 use crate::tags::{date, date_for, dated};
-use flow::checkpoint::{Checkpoint, Checkpoints, Restored, Saved};
+use crate::written::refusal_of;
+use flow::checkpoint::{Checkpoint, Checkpoints};
 use flow::receiver::{Kept, KeptSeries};
-use ftd::refusal::number;
-use ftd::tags::TradeDate;
 
 // What is kept of a series: trade date and last number.
+// Stays: `dated` as a number; the C interface (include/ftd.h).
 #[repr(C)]
 #[derive(Clone, Copy)]
 pub struct FtdCheckpointSeries {
@@ -60,137 +60,72 @@ pub struct FtdReturned {
 }
 
 // The place that the numbers say.
-fn checkpoint_for(x: FtdCheckpoint) -> Checkpoint
-    ensures { result ≡ checkpoint_for x }
-{
-    let mut all = [KeptSeries {
-        series: 0,
-        date: TradeDate::None,
-        last: 0,
-    }; 8];
-    let mut i: usize = 0;
-    while i < 8 {
-        let one = x.series[i];
-        all[i] = KeptSeries {
-            series: one.series,
-            date: date_for(one.dated, one.date),
-            last: one.last,
-        };
-        i += 1;
-    }
-    Checkpoint {
-        name: x.name,
-        kept: Kept {
-            count: x.count,
-            series: all,
-        },
+impl From<FtdCheckpoint> for Checkpoint {
+    ghost from_gives = { λ x r. r ≡ checkpoint_for x };
+
+    fn from(x: FtdCheckpoint) -> Checkpoint {
+        Checkpoint {
+            name: x.name,
+            kept: Kept {
+                count: x.count,
+                series: x.series.map(|one| KeptSeries {
+                    series: one.series,
+                    date: date_for(one.dated, one.date),
+                    last: one.last,
+                }),
+            },
+        }
     }
 }
 
 // The checkpoints that the numbers say.
-fn checkpoints_for(c: FtdCheckpoints) -> Checkpoints
-    ensures { result ≡ checkpoints_for c }
-{
-    let mut all = [Checkpoint {
-        name: 0,
-        kept: Kept {
-            count: 0,
-            series: [KeptSeries {
-                series: 0,
-                date: TradeDate::None,
-                last: 0,
-            }; 8],
-        },
-    }; 4];
-    let mut i: usize = 0;
-    while i < 4 {
-        all[i] = checkpoint_for(c.places[i]);
-        i += 1;
-    }
-    Checkpoints {
-        count: c.count,
-        places: all,
+impl From<FtdCheckpoints> for Checkpoints {
+    ghost from_gives = { λ c r. r ≡ checkpoints_for c };
+
+    fn from(c: FtdCheckpoints) -> Checkpoints {
+        Checkpoints {
+            count: c.count,
+            places: c.places.map(Checkpoint::from),
+        }
     }
 }
 
 // What is kept of a series as numbers.
-fn series_numbers(k: KeptSeries) -> FtdCheckpointSeries
-    ensures { result ≡ kept_series_numbers k }
-{
-    let own = k.date;
-    FtdCheckpointSeries {
-        date: date(own),
-        last: k.last,
-        series: k.series,
-        dated: dated(own),
+impl From<KeptSeries> for FtdCheckpointSeries {
+    ghost from_gives = { λ k r. r ≡ kept_series_numbers k };
+
+    fn from(k: KeptSeries) -> FtdCheckpointSeries {
+        FtdCheckpointSeries {
+            date: date(k.date),
+            last: k.last,
+            series: k.series,
+            dated: dated(k.date),
+        }
     }
 }
 
 // A place as numbers.
-fn checkpoint_numbers(x: Checkpoint) -> FtdCheckpoint
-    ensures { result ≡ checkpoint_numbers x }
-{
-    let kept = x.kept;
-    let mut all = [FtdCheckpointSeries {
-        date: 0,
-        last: 0,
-        series: 0,
-        dated: 0,
-    }; 8];
-    let mut i: usize = 0;
-    while i < 8 {
-        all[i] = series_numbers(kept.series[i]);
-        i += 1;
-    }
-    FtdCheckpoint {
-        name: x.name,
-        count: kept.count,
-        series: all,
+impl From<Checkpoint> for FtdCheckpoint {
+    ghost from_gives = { λ x r. r ≡ checkpoint_numbers x };
+
+    fn from(x: Checkpoint) -> FtdCheckpoint {
+        FtdCheckpoint {
+            name: x.name,
+            count: x.kept.count,
+            series: x.kept.series.map(FtdCheckpointSeries::from),
+        }
     }
 }
 
 // The checkpoints as numbers.
-fn checkpoints_numbers(c: Checkpoints) -> FtdCheckpoints
-    ensures { result ≡ checkpoints_numbers c }
-{
-    let mut all = [FtdCheckpoint {
-        name: 0,
-        count: 0,
-        series: [FtdCheckpointSeries {
-            date: 0,
-            last: 0,
-            series: 0,
-            dated: 0,
-        }; 8],
-    }; 4];
-    let mut i: usize = 0;
-    while i < 4 {
-        all[i] = checkpoint_numbers(c.places[i]);
-        i += 1;
-    }
-    FtdCheckpoints {
-        count: c.count,
-        places: all,
-    }
-}
+impl From<Checkpoints> for FtdCheckpoints {
+    ghost from_gives = { λ c r. r ≡ checkpoints_numbers c };
 
-// What keeping answers: 0, or the number of the refusal.
-fn saved_number(a: Saved) -> u8
-    ensures { result ≡ saved_number a }
-{
-    match a {
-        Saved::Done => 0,
-        Saved::Refused(r) => number(r),
-    }
-}
-
-// What a return answers: 0, or the number of the refusal.
-fn restored_number(a: Restored) -> u8
-    ensures { result ≡ restored_number a }
-{
-    match a {
-        Restored::Done => 0,
-        Restored::Refused(r) => number(r),
+    fn from(c: Checkpoints) -> FtdCheckpoints {
+        FtdCheckpoints {
+            count: c.count,
+            places: c.places.map(FtdCheckpoint::from),
+        }
     }
 }
 
@@ -199,7 +134,7 @@ fn restored_number(a: Restored) -> u8
 pub extern "C" fn ftd_checkpoints_fresh() -> FtdCheckpoints
     ensures { result ≡ checkpoints_numbers fresh_checkpoints }
 {
-    checkpoints_numbers(Checkpoints::fresh())
+    Checkpoints::fresh().into()
 }
 
 // Keep: what the end keeps of its series, under a name. The end stays as it is.
@@ -211,12 +146,10 @@ pub extern "C" fn ftd_keep(
 ) -> FtdKeptStep
     ensures { result ≡ kept_step_numbers (keep_of (checkpoints_for checkpoints) (receiver_for end) name.now) }
 {
-    let step = checkpoints_for(checkpoints).keep(receiver_for(end), name);
-    let after = step.checkpoints;
-    let answer = step.answer;
+    let step = Checkpoints::from(checkpoints).keep(receiver_for(end), name);
     FtdKeptStep {
-        checkpoints: checkpoints_numbers(after),
-        refusal: saved_number(answer),
+        checkpoints: step.checkpoints.into(),
+        refusal: refusal_of(step.answer),
     }
 }
 
@@ -230,12 +163,10 @@ pub extern "C" fn ftd_return(
     ensures { result ≡ returned_numbers (restore_of (checkpoints_for checkpoints) (receiver_for end)
         name.now) }
 {
-    let step = checkpoints_for(checkpoints).restore(receiver_for(end), name);
-    let after = step.end;
-    let answer = step.answer;
+    let step = Checkpoints::from(checkpoints).restore(receiver_for(end), name);
     FtdReturned {
-        end: receiver_numbers(after),
-        refusal: restored_number(answer),
+        end: receiver_numbers(step.end),
+        refusal: refusal_of(step.answer),
     }
 }
 

@@ -24,16 +24,14 @@ ghost use Rattle.exports.specs.Numbers.{dated_numbers, field_numbers, step_of, d
 ghost use Rattle.exports.specs.Numbers.{span_numbers, message_for, size_numbers, written_numbers};
 
 use crate::tags::{date, date_for, dated, place, placed};
-use crate::written::{FtdWritten, written};
+use crate::written::{FtdWritten, refusal_of, written};
 use ftd::bytes::{be16, be32, size8, size16};
-use ftd::chain::{ChainSize, Message, chain_size, write_chain};
+use ftd::chain::{Message, chain_size, write_chain};
 use ftd::composition::Direction;
 use ftd::content::check_content;
 use ftd::fields::{FieldPlace, field_size, write_field};
-use ftd::items::Checked;
 use ftd::packet::{Span, Verdict, find_field, judge, missing, said_length};
 use ftd::refusal::number;
-use ftd::tags::{PacketPlace, TradeDate};
 use ftd::write::write_plain;
 
 pub mod tags; // what the tags of an extension say
@@ -60,6 +58,7 @@ pub struct FtdSpan {
 
 // What some bytes are: the packet's length, places of its parts, header values, the trade date, its place in its message,
 // which answer it is, and the number of the refusal.
+// Stays: `dated`, `placed` as numbers; the C interface (include/ftd.h).
 #[repr(C)]
 #[derive(Clone, Copy)]
 pub struct FtdPacket {
@@ -82,6 +81,7 @@ pub struct FtdPacket {
 }
 
 // A field: where its bytes lie, and its FID.
+// Stays: `found` as a number; the C interface (include/ftd.h).
 #[repr(C)]
 #[derive(Clone, Copy)]
 pub struct FtdField {
@@ -92,6 +92,7 @@ pub struct FtdField {
 }
 
 // A field at a known place, small enough for two registers: its bytes lie behind the six of FID and length.
+// Stays: `found` as a number; the C interface (include/ftd.h).
 #[repr(C)]
 #[derive(Clone, Copy)]
 pub struct FtdStep {
@@ -101,6 +102,7 @@ pub struct FtdStep {
 }
 
 // What all packets of a message bear.
+// Stays: `dated` as a number; the C interface (include/ftd.h).
 #[repr(C)]
 #[derive(Clone, Copy)]
 pub struct FtdMessage {
@@ -121,12 +123,14 @@ pub struct FtdSize {
 }
 
 // A part as numbers.
-pub(crate) fn span(s: Span) -> FtdSpan
-    ensures { result ≡ span_numbers s }
-{
-    FtdSpan {
-        start: s.start,
-        len: s.len,
+impl From<Span> for FtdSpan {
+    ghost from_gives = { λ s r. r ≡ span_numbers s };
+
+    fn from(s: Span) -> FtdSpan {
+        FtdSpan {
+            start: s.start,
+            len: s.len,
+        }
     }
 }
 
@@ -136,7 +140,7 @@ fn plain(answer: u8, missing: usize, refusal: u8) -> FtdPacket
 {
     FtdPacket {
         size: 0,
-        missing: missing,
+        missing,
         extension: FtdSpan { start: 0, len: 0 },
         content: FtdSpan { start: 0, len: 0 },
         tid: 0,
@@ -145,8 +149,8 @@ fn plain(answer: u8, missing: usize, refusal: u8) -> FtdPacket
         series: 0,
         fields: 0,
         place: 0,
-        answer: answer,
-        refusal: refusal,
+        answer,
+        refusal,
         kind: 0,
         chain: 0,
         dated: 0,
@@ -155,13 +159,13 @@ fn plain(answer: u8, missing: usize, refusal: u8) -> FtdPacket
 }
 
 // A link packet of n bytes.
-fn link(n: usize, kind: u8, e: Span, d: TradeDate, j: PacketPlace) -> FtdPacket
+fn link(n: usize, kind: u8, e: Span, d: Option<u32>, j: Option<u16>) -> FtdPacket
     ensures { result ≡ link_numbers n kind e d j }
 {
     FtdPacket {
         size: n,
         missing: 0,
-        extension: span(e),
+        extension: e.into(),
         content: FtdSpan { start: 0, len: 0 },
         tid: 0,
         number: 0,
@@ -171,7 +175,7 @@ fn link(n: usize, kind: u8, e: Span, d: TradeDate, j: PacketPlace) -> FtdPacket
         place: place(j),
         answer: 1,
         refusal: 0,
-        kind: kind,
+        kind,
         chain: 0,
         dated: dated(d),
         placed: placed(j),
@@ -185,8 +189,8 @@ fn skipped(n: usize, kind: u8, e: Span, body: Span) -> FtdPacket
     FtdPacket {
         size: n,
         missing: 0,
-        extension: span(e),
-        content: span(body),
+        extension: e.into(),
+        content: body.into(),
         tid: 0,
         number: 0,
         date: 0,
@@ -195,7 +199,7 @@ fn skipped(n: usize, kind: u8, e: Span, body: Span) -> FtdPacket
         place: 0,
         answer: 2,
         refusal: 0,
-        kind: kind,
+        kind,
         chain: 0,
         dated: 0,
         placed: 0,
@@ -203,7 +207,7 @@ fn skipped(n: usize, kind: u8, e: Span, body: Span) -> FtdPacket
 }
 
 // A message packet with nothing wrong, from its bytes.
-fn message(p: &[u8], ext: usize, body: usize, d: TradeDate, j: PacketPlace) -> FtdPacket
+fn message(p: &[u8], ext: usize, body: usize, d: Option<u32>, j: Option<u16>) -> FtdPacket
     requires { SaysLengths p.now ext body × (4 + ext + body ≤ length p.now) × (16 ≤ body)
         × (is_letter (letter_of p.now) ≡ true) }
     ensures { result ≡ packet_numbers (said_in p.now) (accepted_of p.now) d j }
@@ -233,7 +237,7 @@ fn message(p: &[u8], ext: usize, body: usize, d: TradeDate, j: PacketPlace) -> F
 }
 
 // What the verdict says the bytes are, as numbers, which are taken from the bytes.
-fn numbers(p: &[u8], verdict: Verdict, d: TradeDate, j: PacketPlace) -> FtdPacket
+fn numbers(p: &[u8], verdict: Verdict, d: Option<u32>, j: Option<u16>) -> FtdPacket
     requires { verdict ≡ verdict_of (read_of p.now) }
     ensures { result ≡ packet_numbers (said_in p.now) (parts_of p.now verdict) d j }
 {
@@ -266,10 +270,7 @@ pub extern "C" fn ftd_read(p: &[u8]) -> FtdPacket
     ensures { result ≡ dated_numbers (said_in p.now) (dated_of p.now) }
 {
     let found = judge(p);
-    let verdict = found.verdict;
-    let date = found.date;
-    let place = found.place;
-    numbers(p, verdict, date, place)
+    numbers(p, found.verdict, found.date, found.place)
 }
 
 // As many bytes as the first four say; 0 where they are not there.
@@ -286,16 +287,16 @@ pub extern "C" fn ftd_find_field(p: &[u8], i: usize) -> FtdField
     ensures { result ≡ field_numbers (field_of p.now i) }
 {
     match find_field(p, i) {
-        FieldPlace::NoField => FtdField {
+        None => FtdField {
             start: 0,
             len: 0,
             fid: 0,
             found: 0,
         },
-        FieldPlace::Field { fid, start, len } => FtdField {
-            start: start,
-            len: len,
-            fid: fid,
+        Some(FieldPlace { fid, start, len }) => FtdField {
+            start,
+            len,
+            fid,
             found: 1,
         },
     }
@@ -347,22 +348,22 @@ fn direction_for(d: u8) -> Direction
 pub extern "C" fn ftd_check(tid: u32, direction: u8, content: &[u8], limit: usize) -> u8
     ensures { result ≡ verdict_number (content_check tid (direction_for direction) content.now limit) }
 {
-    match check_content(tid, direction_for(direction), content, limit) {
-        Checked::Passed => 0,
-        Checked::Refused(r) => number(r),
-    }
+    refusal_of(check_content(tid, direction_for(direction), content, limit))
 }
 
 // What a message's packets bear.
-fn message_for(m: FtdMessage) -> Message
-    ensures { result ≡ message_for m }
-{
-    Message {
-        date: date_for(m.dated, m.date),
-        tid: m.tid,
-        series: m.series,
-        number: m.number,
-        counted: false,
+impl From<FtdMessage> for Message {
+    ghost from_gives = { λ m r. r ≡ message_for m };
+
+    #[tactic(auto, unfolding(crate::specs::Numbers::message_for))]
+    fn from(m: FtdMessage) -> Message {
+        Message {
+            date: date_for(m.dated, m.date),
+            tid: m.tid,
+            series: m.series,
+            number: m.number,
+            counted: false,
+        }
     }
 }
 
@@ -371,13 +372,13 @@ fn message_for(m: FtdMessage) -> Message
 pub extern "C" fn ftd_message_size(m: FtdMessage, content: &[u8]) -> FtdSize
     ensures { result ≡ size_numbers (size_answer (message_for m) content.now) }
 {
-    match chain_size(message_for(m), content) {
-        ChainSize::Takes(s) => FtdSize {
+    match chain_size(m.into(), content) {
+        Ok(s) => FtdSize {
             packets: s.packets,
             bytes: s.bytes,
             refusal: 0,
         },
-        ChainSize::Refused(r) => FtdSize {
+        Err(r) => FtdSize {
             packets: 0,
             bytes: 0,
             refusal: number(r),
@@ -394,7 +395,7 @@ pub extern "C" fn ftd_write_message(m: FtdMessage, content: &[u8], out: &mut [u8
     ensures output { out.new ≡ written_output (chain_verdict content.now)
         (joined (packets_of (message_for m) content.now)) out.old }
 {
-    written(write_chain(message_for(m), content, out))
+    written(write_chain(m.into(), content, out))
 }
 
 // A link packet or a skipped one; refused, the output is as it was.

@@ -2,14 +2,14 @@
 // book.
 ghost use Rattle.std.specs.Prelude.{◌≡◌};
 ghost use Rattle.book.specs.Calls.{fresh_book, start_of, take_of, level_of, book_mean};
-ghost use Rattle.exports.specs.Quotes.{book_for, book_numbers, outcome_number, step_numbers};
+ghost use Rattle.exports.specs.Quotes.{book_for, book_numbers, step_numbers};
 ghost use Rattle.exports.specs.Quotes.{buying_for, level_numbers, mean_numbers};
 ghost use Rattle.exports.specs.Quotes.Laws.{BookNumberLaws};
 
-use book::calls::{Book, Outcome};
-use book::levels::{Level, Listed, Side};
-use book::sums::{Mean, Sums};
-use ftd::refusal::number;
+use crate::written::refusal_of;
+use book::calls::Book;
+use book::levels::{Level, Side};
+use book::sums::Sums;
 
 // The contract's code, the levels of its two sides, best first, and the sums over the day's matches.
 #[repr(C)]
@@ -31,6 +31,7 @@ pub struct FtdBookStep {
 }
 
 // What stands at a place of a side.
+// Stays: `found` as a number; the C interface (include/ftd.h).
 #[repr(C)]
 #[derive(Clone, Copy)]
 pub struct FtdListed {
@@ -40,6 +41,7 @@ pub struct FtdListed {
 }
 
 // The mean match price, or none.
+// Stays: `found` as a number; the C interface (include/ftd.h).
 #[repr(C)]
 #[derive(Clone, Copy)]
 pub struct FtdMean {
@@ -48,39 +50,44 @@ pub struct FtdMean {
 }
 
 // The book that the numbers say.
-fn book_for(n: FtdBook) -> Book
-    ensures { result ≡ book_for n }
-{
-    let code = n.code;
-    let bids = n.buying;
-    let asks = n.selling;
-    Book {
-        code: code,
-        buying: Side { levels: bids },
-        selling: Side { levels: asks },
-        sums: Sums {
-            turnover: n.turnover,
-            volume: n.volume,
-        },
+impl From<FtdBook> for Book {
+    ghost from_gives = { λ n r. r ≡ book_for n };
+
+    fn from(n: FtdBook) -> Book {
+        let FtdBook {
+            code,
+            buying: bids,
+            selling: asks,
+            turnover,
+            volume,
+        } = n;
+        Book {
+            code,
+            buying: Side { levels: bids },
+            selling: Side { levels: asks },
+            sums: Sums { turnover, volume },
+        }
     }
 }
 
 // The book as numbers.
-fn book_numbers(b: Book) -> FtdBook
-    ensures { result ≡ book_numbers b }
-{
-    let code = b.code;
-    let buying = b.buying;
-    let selling = b.selling;
-    let sums = b.sums;
-    let bids = buying.levels;
-    let asks = selling.levels;
-    FtdBook {
-        code: code,
-        buying: bids,
-        selling: asks,
-        turnover: sums.turnover,
-        volume: sums.volume,
+impl From<Book> for FtdBook {
+    ghost from_gives = { λ b r. r ≡ book_numbers b };
+
+    fn from(b: Book) -> FtdBook {
+        let Book {
+            code,
+            buying: Side { levels: bids },
+            selling: Side { levels: asks },
+            sums,
+        } = b;
+        FtdBook {
+            code,
+            buying: bids,
+            selling: asks,
+            turnover: sums.turnover,
+            volume: sums.volume,
+        }
     }
 }
 
@@ -89,17 +96,7 @@ fn book_numbers(b: Book) -> FtdBook
 pub extern "C" fn ftd_book_fresh() -> FtdBook
     ensures { result ≡ book_numbers fresh_book }
 {
-    book_numbers(Book::fresh())
-}
-
-// What Start and Take answer: 0, or the number of the refusal.
-fn outcome_number(a: Outcome) -> u8
-    ensures { result ≡ outcome_number a }
-{
-    match a {
-        Outcome::Done => 0,
-        Outcome::Refused(r) => number(r),
-    }
+    Book::fresh().into()
 }
 
 // Start: the day's book of a contract, by the bytes of its code.
@@ -107,12 +104,10 @@ fn outcome_number(a: Outcome) -> u8
 pub extern "C" fn ftd_book_start(book: FtdBook, code: &[u8]) -> FtdBookStep
     ensures { result ≡ step_numbers (start_of (book_for book) code.now) }
 {
-    let step = book_for(book).start(code);
-    let after = step.book;
-    let answer = step.answer;
+    let step = Book::from(book).start(code);
     FtdBookStep {
-        book: book_numbers(after),
-        refusal: outcome_number(answer),
+        book: step.book.into(),
+        refusal: refusal_of(step.answer),
     }
 }
 
@@ -121,12 +116,10 @@ pub extern "C" fn ftd_book_start(book: FtdBook, code: &[u8]) -> FtdBookStep
 pub extern "C" fn ftd_book_take(book: FtdBook, tid: u32, content: &[u8]) -> FtdBookStep
     ensures { result ≡ step_numbers (take_of (book_for book) tid content.now) }
 {
-    let step = book_for(book).take(tid, content);
-    let after = step.book;
-    let answer = step.answer;
+    let step = Book::from(book).take(tid, content);
     FtdBookStep {
-        book: book_numbers(after),
-        refusal: outcome_number(answer),
+        book: step.book.into(),
+        refusal: refusal_of(step.answer),
     }
 }
 
@@ -142,15 +135,15 @@ fn buying_for(n: u8) -> bool
 pub extern "C" fn ftd_book_level(book: FtdBook, side: u8, place: usize) -> FtdListed
     ensures { result ≡ level_numbers (level_of (book_for book) (buying_for side) place) }
 {
-    match book_for(book).level(buying_for(side), place) {
-        Listed::NoLevel => FtdListed {
+    match Book::from(book).level(buying_for(side), place) {
+        None => FtdListed {
             price: 0,
             quantity: 0,
             found: 0,
         },
-        Listed::At { price, quantity } => FtdListed {
-            price: price,
-            quantity: quantity,
+        Some(Level { price, quantity }) => FtdListed {
+            price,
+            quantity,
             found: 1,
         },
     }
@@ -161,9 +154,9 @@ pub extern "C" fn ftd_book_level(book: FtdBook, side: u8, place: usize) -> FtdLi
 pub extern "C" fn ftd_book_mean(book: FtdBook) -> FtdMean
     ensures { result ≡ mean_numbers (book_mean (book_for book)) }
 {
-    match book_for(book).mean() {
-        Mean::NoMean => FtdMean { price: 0, found: 0 },
-        Mean::Price(p) => FtdMean { price: p, found: 1 },
+    match Book::from(book).mean() {
+        None => FtdMean { price: 0, found: 0 },
+        Some(p) => FtdMean { price: p, found: 1 },
     }
 }
 

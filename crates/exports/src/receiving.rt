@@ -7,18 +7,15 @@ ghost use Rattle.exports.specs.Receiving.{origin_number, requested_numbers, conf
 ghost use Rattle.exports.specs.Receiving.{plain_with, complete_with, received_with};
 ghost use Rattle.exports.specs.Receiving.{end_opened_numbers, confirmed_numbers, received_numbers};
 
-use crate::serving::opened;
+use crate::FtdSpan;
 use crate::tags::{date, date_for, dated, flag_of};
-use crate::written::FtdWritten;
-use crate::{FtdSpan, span};
-use flow::receiver::{
-    Confirmed, Kept, KeptSeries, Live, LiveSeries, Origin, Received, Receiver, Requested,
-};
+use crate::written::{FtdWritten, bytes_of, refusal_of};
+use flow::receiver::{Kept, KeptSeries, Live, LiveSeries, Origin, Received, Receiver};
 use ftd::packet::Span;
-use ftd::refusal::number;
-use ftd::tags::TradeDate;
+use ftd::refusal::{Refusal, number};
 
 // A series: trade date and last number, which are kept; login and open chain, which a connection has.
+// Stays: `dated`, `login`, `chain` as numbers; the C interface (include/ftd.h).
 #[repr(C)]
 #[derive(Clone, Copy)]
 pub struct FtdKept {
@@ -69,45 +66,29 @@ pub struct FtdReceived {
     pub refusal: u8,
 }
 
+// Stays: no `From` for the conversions here, as in `serving`: the box's Send calls `receiver_for`.
 // The end that the numbers say.
 pub(crate) fn receiver_for(s: FtdReceiver) -> Receiver
     ensures { result ≡ receiver_for s }
 {
-    let mut kept = [KeptSeries {
-        series: 0,
-        date: TradeDate::None,
-        last: 0,
-    }; 8];
-    let mut live = [LiveSeries {
-        login: false,
-        chain: false,
-        tid: 0,
-        held: 0,
-        pieces: 0,
-    }; 8];
-    let mut i: usize = 0;
-    while i < 8 {
-        let one = s.series[i];
-        kept[i] = KeptSeries {
-            series: one.series,
-            date: date_for(one.dated, one.date),
-            last: one.last,
-        };
-        live[i] = LiveSeries {
-            login: one.login != 0,
-            chain: one.chain != 0,
-            tid: one.tid,
-            held: one.held,
-            pieces: one.pieces,
-        };
-        i += 1;
-    }
     Receiver {
         kept: Kept {
             count: s.count,
-            series: kept,
+            series: s.series.map(|one| KeptSeries {
+                series: one.series,
+                date: date_for(one.dated, one.date),
+                last: one.last,
+            }),
         },
-        live: Live { series: live },
+        live: Live {
+            series: s.series.map(|one| LiveSeries {
+                login: one.login != 0,
+                chain: one.chain != 0,
+                tid: one.tid,
+                held: one.held,
+                pieces: one.pieces,
+            }),
+        },
     }
 }
 
@@ -115,15 +96,14 @@ pub(crate) fn receiver_for(s: FtdReceiver) -> Receiver
 fn numbers(k: KeptSeries, l: LiveSeries) -> FtdKept
     ensures { result ≡ kept_numbers k l }
 {
-    let own = k.date;
     FtdKept {
         held: l.held,
-        date: date(own),
+        date: date(k.date),
         last: k.last,
         tid: l.tid,
         pieces: l.pieces,
         series: k.series,
-        dated: dated(own),
+        dated: dated(k.date),
         login: flag_of(l.login),
         chain: flag_of(l.chain),
     }
@@ -133,8 +113,6 @@ fn numbers(k: KeptSeries, l: LiveSeries) -> FtdKept
 pub(crate) fn receiver_numbers(e: Receiver) -> FtdReceiver
     ensures { result ≡ receiver_numbers e }
 {
-    let kept = e.kept;
-    let live = e.live;
     let mut all = [FtdKept {
         held: 0,
         date: 0,
@@ -146,14 +124,14 @@ pub(crate) fn receiver_numbers(e: Receiver) -> FtdReceiver
         login: 0,
         chain: 0,
     }; 8];
-    let mut i: usize = 0;
-    while i < 8 {
-        all[i] = numbers(kept.series[i], live.series[i]);
-        i += 1;
+    // Stays a loop: `array::from_fn` was tried, and of a call at a place its contract leaves open what the closure
+    // holds then.
+    for (i, one) in all.iter_mut().enumerate() {
+        *one = numbers(e.kept.series[i], e.live.series[i]);
     }
     FtdReceiver {
         series: all,
-        count: kept.count,
+        count: e.kept.count,
     }
 }
 
@@ -171,11 +149,9 @@ pub extern "C" fn ftd_receiver_open(end: FtdReceiver, series: &[u16]) -> FtdRece
     ensures { result ≡ end_opened_numbers (open_end_of (receiver_for end) series.now) }
 {
     let step = receiver_for(end).open(series);
-    let after = step.end;
-    let answer = step.answer;
     FtdReceiverOpened {
-        end: receiver_numbers(after),
-        refusal: opened(answer),
+        end: receiver_numbers(step.end),
+        refusal: refusal_of(step.answer),
     }
 }
 
@@ -185,22 +161,6 @@ pub extern "C" fn ftd_connect(end: FtdReceiver) -> FtdReceiver
     ensures { result ≡ receiver_numbers (connect_of (receiver_for end)) }
 {
     receiver_numbers(receiver_for(end).connect())
-}
-
-// What Ask answers.
-pub(crate) fn requested(a: Requested) -> FtdWritten
-    ensures { result ≡ requested_numbers a }
-{
-    match a {
-        Requested::Wrote(n) => FtdWritten {
-            bytes: n,
-            refusal: 0,
-        },
-        Requested::Refused(r) => FtdWritten {
-            bytes: 0,
-            refusal: number(r),
-        },
-    }
 }
 
 // Ask: the login packet of a series is written. The end stays as it is.
@@ -216,24 +176,18 @@ pub extern "C" fn ftd_request_login(
     ensures output { out.new ≡ (request_login_of (receiver_for end) series content.now
         out.old).bytes }
 {
-    requested(receiver_for(end).request_login(series, content, out))
+    bytes_of(receiver_for(end).request_login(series, content, out))
 }
 
 // What Answer answers.
-fn confirmed(end: FtdReceiver, a: Confirmed) -> FtdConfirmed
+#[tactic(auto, unfolding(crate::specs::Receiving::confirmed_with))]
+fn confirmed(end: FtdReceiver, a: Result<u32, Refusal>) -> FtdConfirmed
     ensures { result ≡ confirmed_with end a }
 {
-    match a {
-        Confirmed::Last(n) => FtdConfirmed {
-            end: end,
-            last: n,
-            refusal: 0,
-        },
-        Confirmed::Refused(r) => FtdConfirmed {
-            end: end,
-            last: 0,
-            refusal: number(r),
-        },
+    FtdConfirmed {
+        end,
+        last: a.unwrap_or(0),
+        refusal: refusal_of(a),
     }
 }
 
@@ -243,11 +197,11 @@ pub extern "C" fn ftd_confirm_login(end: FtdReceiver, series: u16, packet: &[u8]
     ensures { result ≡ confirmed_numbers (confirm_login_of (receiver_for end) series packet.now) }
 {
     let step = receiver_for(end).confirm_login(series, packet);
-    let after = step.end;
-    let answer = step.answer;
-    confirmed(receiver_numbers(after), answer)
+    confirmed(receiver_numbers(step.end), step.answer)
 }
 
+// Stays: a match, here and of `Kind` and `Mode`, since the enums are those of other crates, and the numbers the C
+// interface's.
 // Where the content lies: 0 in the packet, 1 in the reassembly buffer.
 pub(crate) fn origin_number(o: Origin) -> u8
     ensures { result ≡ origin_number o }
@@ -263,13 +217,13 @@ fn plain(end: FtdReceiver, answer: u8, last: u32, refusal: u8) -> FtdReceived
     ensures { result ≡ plain_with end answer last refusal }
 {
     FtdReceived {
-        end: end,
+        end,
         content: FtdSpan { start: 0, len: 0 },
-        last: last,
+        last,
         tid: 0,
-        answer: answer,
+        answer,
         origin: 0,
-        refusal: refusal,
+        refusal,
     }
 }
 
@@ -278,10 +232,10 @@ fn complete(end: FtdReceiver, last: u32, tid: u32, origin: Origin, content: Span
     ensures { result ≡ complete_with end last tid origin content }
 {
     FtdReceived {
-        end: end,
-        content: span(content),
-        last: last,
-        tid: tid,
+        end,
+        content: content.into(),
+        last,
+        tid,
         answer: 3,
         origin: origin_number(origin),
         refusal: 0,
@@ -315,7 +269,5 @@ pub extern "C" fn ftd_receive(end: FtdReceiver, packet: &[u8], buffer: &mut [u8]
         buffer.old).bytes }
 {
     let step = receiver_for(end).receive(packet, buffer);
-    let after = step.end;
-    let answer = step.answer;
-    received(receiver_numbers(after), answer)
+    received(receiver_numbers(step.end), step.answer)
 }

@@ -28,8 +28,8 @@ pub extern "C" fn ftd_find_resume(content: &[u8]) -> FtdResume
             answer: 0,
         },
         Resume::Next { series, number } => FtdResume {
-            number: number,
-            series: series,
+            number,
+            series,
             answer: 1,
         },
         Resume::Misshapen => FtdResume {

@@ -3,18 +3,19 @@ ghost use Rattle.std.specs.Prelude.{◌≡◌};
 ghost use Rattle.flow.specs.Ends.{fresh_sender};
 ghost use Rattle.flow.specs.Serving.{open_day_of, publish_of, login_of, send_of, send_packet_of};
 ghost use Rattle.exports.specs.Serving.{sender_for, served_numbers, sender_numbers};
-ghost use Rattle.exports.specs.Serving.{opened_number, published_with, logged_in_with, sent_with, sent_packet_with};
+ghost use Rattle.exports.specs.Serving.{published_with, logged_in_with, sent_with, sent_packet_with};
 ghost use Rattle.exports.specs.Serving.{day_opened_numbers, published_numbers, logged_in_numbers, sent_numbers};
 ghost use Rattle.exports.specs.Serving.{sent_packet_numbers};
 
+use crate::boxes::{FtdBoxSent, FtdBoxSentPacket, seat_packet, seat_sent};
 use crate::tags::{date, date_for, dated, flag_of};
-use flow::sender::{
-    Day, DaySeries, LoggedIn, Opened, Place, Published, Seat, Sender, Sent, SentPacket,
-};
-use ftd::refusal::number;
+use crate::written::refusal_of;
+use flow::sender::{Day, DaySeries, Place, Seat, Sender, Sent, SentPacket};
+use ftd::refusal::Refusal;
 
 // A series: the number that is sent next, how many packets of that message were written one by one, its reserve of the
 // log and how many bytes its entries take, how many were published, and whether it is logged in.
+// Stays: `login` as a number; the C interface (include/ftd.h).
 #[repr(C)]
 #[derive(Clone, Copy)]
 pub struct FtdServed {
@@ -28,6 +29,7 @@ pub struct FtdServed {
 }
 
 // The serving end: bytes of the log in use, its series in the opening's order, how many are open, and the trade date.
+// Stays: `dated` as a number; the C interface (include/ftd.h).
 #[repr(C)]
 #[derive(Clone, Copy)]
 pub struct FtdSender {
@@ -72,6 +74,7 @@ pub struct FtdSent {
     pub refusal: u8,
 }
 
+// Stays: `last` as a number; the C interface (include/ftd.h).
 #[repr(C)]
 #[derive(Clone, Copy)]
 pub struct FtdSentPacket {
@@ -83,45 +86,31 @@ pub struct FtdSentPacket {
     pub last: u8,
 }
 
+// Stays: no `From` for the conversions here, as a part, a message, a calendar, a book and named places have it:
+// tests/copies.py (Request No. 6) follows calls out of Send by their names, and `into` has none that it knows.
 // The end that the numbers say.
 pub(crate) fn sender_for(s: FtdSender) -> Sender
     ensures { result ≡ sender_for s }
 {
-    let mut series = [DaySeries {
-        series: 0,
-        published: 0,
-        reserve: 0,
-        used: 0,
-    }; 8];
-    let mut places = [Place {
-        login: false,
-        next: 0,
-        piece: 0,
-    }; 8];
-    let mut i: usize = 0;
-    while i < 8 {
-        let one = s.series[i];
-        series[i] = DaySeries {
-            series: one.series,
-            published: one.published,
-            reserve: one.reserve,
-            used: one.used,
-        };
-        places[i] = Place {
-            login: one.login != 0,
-            next: one.next,
-            piece: one.piece as usize,
-        };
-        i += 1;
-    }
     Sender {
         day: Day {
             date: date_for(s.dated, s.date),
             count: s.count,
-            series: series,
+            series: s.series.map(|one| DaySeries {
+                series: one.series,
+                published: one.published,
+                reserve: one.reserve,
+                used: one.used,
+            }),
             used: s.used,
         },
-        seat: Seat { places: places },
+        seat: Seat {
+            places: s.series.map(|one| Place {
+                login: one.login != 0,
+                next: one.next,
+                piece: one.piece as usize,
+            }),
+        },
     }
 }
 
@@ -144,9 +133,6 @@ fn served(d: DaySeries, p: Place) -> FtdServed
 pub(crate) fn sender_numbers(e: Sender) -> FtdSender
     ensures { result ≡ sender_numbers e }
 {
-    let day = e.day;
-    let seat = e.seat;
-    let own = day.date;
     let mut all = [FtdServed {
         next: 0,
         piece: 0,
@@ -156,17 +142,17 @@ pub(crate) fn sender_numbers(e: Sender) -> FtdSender
         series: 0,
         login: 0,
     }; 8];
-    let mut i: usize = 0;
-    while i < 8 {
-        all[i] = served(day.series[i], seat.places[i]);
-        i += 1;
+    // Stays filled by place: it takes of two arrays at once, and tests/copies.py (Request No. 6) follows no `iter_mut`
+    // out of Send; of `array::from_fn`, see `receiver_numbers`.
+    for i in 0..8 {
+        all[i] = served(e.day.series[i], e.seat.places[i]);
     }
     FtdSender {
-        used: day.used,
+        used: e.day.used,
         series: all,
-        count: day.count,
-        date: date(own),
-        dated: dated(own),
+        count: e.day.count,
+        date: date(e.day.date),
+        dated: dated(e.day.date),
     }
 }
 
@@ -176,16 +162,6 @@ pub extern "C" fn ftd_sender_fresh() -> FtdSender
     ensures { result ≡ sender_numbers fresh_sender }
 {
     sender_numbers(Sender::fresh())
-}
-
-// What an opening of either end answers: 0, or the number of the refusal.
-pub(crate) fn opened(a: Opened) -> u8
-    ensures { result ≡ opened_number a }
-{
-    match a {
-        Opened::Done => 0,
-        Opened::Refused(r) => number(r),
-    }
 }
 
 // Opening: a trade date, the series and a reserve of the log for each; of the log only the length counts.
@@ -201,29 +177,21 @@ pub extern "C" fn ftd_sender_open(
         reserves.now log.now) }
 {
     let step = sender_for(end).open(date, series, reserves, log);
-    let after = step.end;
-    let answer = step.answer;
     FtdSenderOpened {
-        end: sender_numbers(after),
-        refusal: opened(answer),
+        end: sender_numbers(step.end),
+        refusal: refusal_of(step.answer),
     }
 }
 
 // What Publish answers.
-fn published(end: FtdSender, a: Published) -> FtdPublished
+#[tactic(auto, unfolding(crate::specs::Serving::published_with))]
+fn published(end: FtdSender, a: Result<u32, Refusal>) -> FtdPublished
     ensures { result ≡ published_with end a }
 {
-    match a {
-        Published::Number(k) => FtdPublished {
-            end: end,
-            number: k,
-            refusal: 0,
-        },
-        Published::Refused(r) => FtdPublished {
-            end: end,
-            number: 0,
-            refusal: number(r),
-        },
+    FtdPublished {
+        end,
+        number: a.unwrap_or(0),
+        refusal: refusal_of(a),
     }
 }
 
@@ -242,26 +210,18 @@ pub extern "C" fn ftd_publish(
         log.old).bytes }
 {
     let step = sender_for(end).publish(series, tid, content, log);
-    let after = step.end;
-    let answer = step.answer;
-    published(sender_numbers(after), answer)
+    published(sender_numbers(step.end), step.answer)
 }
 
 // What Login answers.
-fn logged_in(end: FtdSender, a: LoggedIn) -> FtdLoggedIn
+#[tactic(auto, unfolding(crate::specs::Serving::logged_in_with))]
+fn logged_in(end: FtdSender, a: Result<usize, Refusal>) -> FtdLoggedIn
     ensures { result ≡ logged_in_with end a }
 {
-    match a {
-        LoggedIn::Wrote(n) => FtdLoggedIn {
-            end: end,
-            bytes: n,
-            refusal: 0,
-        },
-        LoggedIn::Refused(r) => FtdLoggedIn {
-            end: end,
-            bytes: 0,
-            refusal: number(r),
-        },
+    FtdLoggedIn {
+        end,
+        bytes: a.unwrap_or(0),
+        refusal: refusal_of(a),
     }
 }
 
@@ -280,37 +240,26 @@ pub extern "C" fn ftd_login(
         content.now out.old).bytes }
 {
     let step = sender_for(end).login(series, packet, content, out);
-    let after = step.end;
-    let answer = step.answer;
-    logged_in(sender_numbers(after), answer)
+    logged_in(sender_numbers(step.end), step.answer)
 }
 
-// What Send answers.
-fn sent(end: FtdSender, a: Sent) -> FtdSent
+// What Send answers: what it answers at a seat, beside the end.
+#[tactic(auto, unfolding(crate::specs::Serving::sent_with))]
+fn sent(end: FtdSender, a: Result<Option<Sent>, Refusal>) -> FtdSent
     ensures { result ≡ sent_with end a }
 {
-    match a {
-        Sent::Drained => FtdSent {
-            end: end,
-            bytes: 0,
-            number: 0,
-            answer: 0, // none left
-            refusal: 0,
-        },
-        Sent::Wrote { number, len } => FtdSent {
-            end: end,
-            bytes: len,
-            number: number,
-            answer: 1, // a message
-            refusal: 0,
-        },
-        Sent::Refused(r) => FtdSent {
-            end: end,
-            bytes: 0,
-            number: 0,
-            answer: 2, // refused
-            refusal: number(r),
-        },
+    let FtdBoxSent {
+        bytes,
+        number,
+        answer,
+        refusal,
+    } = seat_sent(a);
+    FtdSent {
+        end,
+        bytes,
+        number,
+        answer,
+        refusal,
     }
 }
 
@@ -322,40 +271,28 @@ pub extern "C" fn ftd_send(end: FtdSender, series: u16, log: &[u8], out: &mut [u
         ).bytes }
 {
     let step = sender_for(end).send(series, log, out);
-    let after = step.end;
-    let answer = step.answer;
-    sent(sender_numbers(after), answer)
+    sent(sender_numbers(step.end), step.answer)
 }
 
-// What Send answers for one packet.
-fn sent_packet(end: FtdSender, a: SentPacket) -> FtdSentPacket
+// What Send answers for one packet: the same.
+#[tactic(auto, unfolding(crate::specs::Serving::sent_packet_with))]
+fn sent_packet(end: FtdSender, a: Result<Option<SentPacket>, Refusal>) -> FtdSentPacket
     ensures { result ≡ sent_packet_with end a }
 {
-    match a {
-        SentPacket::Drained => FtdSentPacket {
-            end: end,
-            bytes: 0,
-            number: 0,
-            answer: 0, // no packet left
-            refusal: 0,
-            last: 0,
-        },
-        SentPacket::Wrote { number, len, last } => FtdSentPacket {
-            end: end,
-            bytes: len,
-            number: number,
-            answer: 1, // a packet
-            refusal: 0,
-            last: flag_of(last),
-        },
-        SentPacket::Refused(r) => FtdSentPacket {
-            end: end,
-            bytes: 0,
-            number: 0,
-            answer: 2, // no packet: refused
-            refusal: number(r),
-            last: 0,
-        },
+    let FtdBoxSentPacket {
+        bytes,
+        number,
+        answer,
+        refusal,
+        last,
+    } = seat_packet(a);
+    FtdSentPacket {
+        end,
+        bytes,
+        number,
+        answer,
+        refusal,
+        last,
     }
 }
 
@@ -373,7 +310,5 @@ pub extern "C" fn ftd_send_packet(
         ).bytes }
 {
     let step = sender_for(end).send_packet(series, log, out);
-    let after = step.end;
-    let answer = step.answer;
-    sent_packet(sender_numbers(after), answer)
+    sent_packet(sender_numbers(step.end), step.answer)
 }

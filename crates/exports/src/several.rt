@@ -7,9 +7,9 @@ ghost use Rattle.exports.specs.Receiving.{receiver_for};
 ghost use Rattle.exports.specs.Several.{stopped_with, handed_with, received_several_with, received_several_numbers};
 ghost use Rattle.exports.specs.Several.{published_several_with, published_several_numbers};
 
+use crate::FtdSpan;
 use crate::receiving::{FtdReceiver, origin_number, receiver_for, receiver_numbers};
 use crate::serving::{FtdSender, sender_for, sender_numbers};
-use crate::{FtdSpan, span};
 use flow::receiver::Origin;
 use flow::several::{PublishedSeveral, ReceivedSeveral};
 use ftd::packet::Span;
@@ -52,15 +52,15 @@ fn stopped(
     ensures { result ≡ stopped_with end taken answer missing refusal }
 {
     FtdReceivedSeveral {
-        end: end,
+        end,
         content: FtdSpan { start: 0, len: 0 },
-        taken: taken,
-        missing: missing,
+        taken,
+        missing,
         last: 0,
         tid: 0,
-        answer: answer,
+        answer,
         origin: 0,
-        refusal: refusal,
+        refusal,
     }
 }
 
@@ -76,12 +76,12 @@ fn handed(
     ensures { result ≡ handed_with end taken last tid origin content }
 {
     FtdReceivedSeveral {
-        end: end,
-        content: span(content),
-        taken: taken,
+        end,
+        content: content.into(),
+        taken,
         missing: 0,
-        last: last,
-        tid: tid,
+        last,
+        tid,
         answer: 3,
         origin: origin_number(origin),
         refusal: 0,
@@ -118,9 +118,7 @@ pub extern "C" fn ftd_receive_several(
         buffer.old).bytes }
 {
     let step = receiver_for(end).receive_several(packets, buffer);
-    let after = step.end;
-    let answer = step.answer;
-    received_several(receiver_numbers(after), step.taken, answer)
+    received_several(receiver_numbers(step.end), step.taken, step.answer)
 }
 
 // What a bufferful of records answers.
@@ -129,22 +127,22 @@ fn published_several(end: FtdSender, taken: usize, a: PublishedSeveral) -> FtdPu
 {
     match a {
         PublishedSeveral::End => FtdPublishedSeveral {
-            end: end,
-            taken: taken,
+            end,
+            taken,
             missing: 0,
             answer: 0,
             refusal: 0,
         },
         PublishedSeveral::Short(n) => FtdPublishedSeveral {
-            end: end,
-            taken: taken,
+            end,
+            taken,
             missing: n,
             answer: 1,
             refusal: 0,
         },
         PublishedSeveral::Refused(r) => FtdPublishedSeveral {
-            end: end,
-            taken: taken,
+            end,
+            taken,
             missing: 0,
             answer: 4,
             refusal: number(r),
@@ -165,7 +163,5 @@ pub extern "C" fn ftd_publish_several(
         log.old).bytes }
 {
     let step = sender_for(end).publish_several(records, log);
-    let after = step.end;
-    let answer = step.answer;
-    published_several(sender_numbers(after), step.taken, answer)
+    published_several(sender_numbers(step.end), step.taken, step.answer)
 }

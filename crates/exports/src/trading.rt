@@ -3,11 +3,11 @@
 ghost use Rattle.std.specs.Prelude.{◌≡◌};
 ghost use Rattle.calendar.specs.Calendar.{fresh_calendar, set_of, ask_of, mark_date};
 ghost use Rattle.exports.specs.Trading.{calendar_for, calendar_numbers};
-ghost use Rattle.exports.specs.Trading.{set_number, step_numbers, trade_time_numbers};
+ghost use Rattle.exports.specs.Trading.{step_numbers, trade_time_numbers};
 ghost use Rattle.exports.specs.Trading.Laws.{CalendarNumberLaws};
 
-use calendar::trading::{Calendar, SetAnswer, TradeTime, mark_date};
-use ftd::refusal::number;
+use crate::written::refusal_of;
+use calendar::trading::{Calendar, mark_date};
 
 // Sessions in 8 places of three numbers, holidays in 32; an unused place is 0.
 #[repr(C)]
@@ -26,6 +26,7 @@ pub struct FtdCalendarStep {
 }
 
 // What a time is: its trade date, and whether it is inside a session.
+// Stays: `inside` as a number; the C interface (include/ftd.h).
 #[repr(C)]
 #[derive(Clone, Copy)]
 pub struct FtdTradeTime {
@@ -34,26 +35,22 @@ pub struct FtdTradeTime {
 }
 
 // The calendar that the numbers say.
-fn calendar_for(c: FtdCalendar) -> Calendar
-    ensures { result ≡ calendar_for c }
-{
-    let sessions = c.sessions;
-    let holidays = c.holidays;
-    Calendar {
-        sessions: sessions,
-        holidays: holidays,
+impl From<FtdCalendar> for Calendar {
+    ghost from_gives = { λ c r. r ≡ calendar_for c };
+
+    fn from(c: FtdCalendar) -> Calendar {
+        let FtdCalendar { sessions, holidays } = c;
+        Calendar { sessions, holidays }
     }
 }
 
 // The calendar as numbers.
-fn calendar_numbers(c: Calendar) -> FtdCalendar
-    ensures { result ≡ calendar_numbers c }
-{
-    let sessions = c.sessions;
-    let holidays = c.holidays;
-    FtdCalendar {
-        sessions: sessions,
-        holidays: holidays,
+impl From<Calendar> for FtdCalendar {
+    ghost from_gives = { λ c r. r ≡ calendar_numbers c };
+
+    fn from(c: Calendar) -> FtdCalendar {
+        let Calendar { sessions, holidays } = c;
+        FtdCalendar { sessions, holidays }
     }
 }
 
@@ -62,17 +59,7 @@ fn calendar_numbers(c: Calendar) -> FtdCalendar
 pub extern "C" fn ftd_calendar_fresh() -> FtdCalendar
     ensures { result ≡ calendar_numbers fresh_calendar }
 {
-    calendar_numbers(Calendar::fresh())
-}
-
-// What Set answers: 0, or the number of the refusal.
-fn set_number(a: SetAnswer) -> u8
-    ensures { result ≡ set_number a }
-{
-    match a {
-        SetAnswer::Done => 0,
-        SetAnswer::Refused(r) => number(r),
-    }
+    Calendar::fresh().into()
 }
 
 // Set: sessions, three numbers each, and holidays, YYYYMMDD.
@@ -84,12 +71,10 @@ pub extern "C" fn ftd_set_calendar(
 ) -> FtdCalendarStep
     ensures { result ≡ step_numbers (set_of (calendar_for calendar) sessions.now holidays.now) }
 {
-    let step = calendar_for(calendar).set(sessions, holidays);
-    let after = step.calendar;
-    let answer = step.answer;
+    let step = Calendar::from(calendar).set(sessions, holidays);
     FtdCalendarStep {
-        calendar: calendar_numbers(after),
-        refusal: set_number(answer),
+        calendar: step.calendar.into(),
+        refusal: refusal_of(step.answer),
     }
 }
 
@@ -98,9 +83,9 @@ pub extern "C" fn ftd_set_calendar(
 pub extern "C" fn ftd_ask_calendar(calendar: FtdCalendar, seconds: u32) -> FtdTradeTime
     ensures { result ≡ trade_time_numbers (ask_of (calendar_for calendar) seconds) }
 {
-    match calendar_for(calendar).ask(seconds) {
-        TradeTime::Outside => FtdTradeTime { date: 0, inside: 0 },
-        TradeTime::Inside(d) => FtdTradeTime { date: d, inside: 1 },
+    match Calendar::from(calendar).ask(seconds) {
+        None => FtdTradeTime { date: 0, inside: 0 },
+        Some(d) => FtdTradeTime { date: d, inside: 1 },
     }
 }
 

@@ -1,9 +1,10 @@
-// What the writers answer, as numbers.
+// What the writers answer, as numbers; and the answers of all calls that say no more than a refusal or how many bytes
+// were written.
 ghost use Rattle.std.specs.Prelude.{◌≡◌};
-ghost use Rattle.exports.specs.Numbers.{written_numbers};
+ghost use Rattle.exports.specs.Numbers.{refusal_of, bytes_of, written_numbers};
 
-use ftd::refusal::number;
-use ftd::write::Written;
+use ftd::refusal::{Refusal, number};
+use ftd::write::WriteError;
 
 // How many bytes were written.
 #[repr(C)]
@@ -13,20 +14,43 @@ pub struct FtdWritten {
     pub refusal: u8,
 }
 
+// 0, or the number of the refusal.
+#[tactic(auto, unfolding(crate::specs::Numbers::refusal_of))]
+pub(crate) fn refusal_of<T: Copy>(a: Result<T, Refusal>) -> u8
+    ensures { result ≡ refusal_of a }
+{
+    match a {
+        Ok(_) => 0,
+        Err(r) => number(r),
+    }
+}
+
+// How many bytes were written, or the number of the refusal.
+#[tactic(auto, unfolding(crate::specs::Numbers::bytes_of))]
+pub(crate) fn bytes_of(a: Result<usize, Refusal>) -> FtdWritten
+    ensures { result ≡ bytes_of a }
+{
+    FtdWritten {
+        bytes: a.unwrap_or(0),
+        refusal: refusal_of(a),
+    }
+}
+
 // A writer's answer.
-pub(crate) fn written(w: Written) -> FtdWritten
+#[tactic(auto, unfolding(crate::specs::Numbers::written_numbers))]
+pub(crate) fn written(w: Result<usize, WriteError>) -> FtdWritten
     ensures { result ≡ written_numbers w }
 {
     match w {
-        Written::Bytes(n) => FtdWritten {
+        Ok(n) => FtdWritten {
             bytes: n,
             refusal: 0,
         },
-        Written::Refused(r) => FtdWritten {
+        Err(WriteError::Refused(r)) => FtdWritten {
             bytes: 0,
             refusal: number(r),
         },
-        Written::NotPlain => FtdWritten {
+        Err(WriteError::NotPlain) => FtdWritten {
             bytes: 0,
             refusal: 255,
         },

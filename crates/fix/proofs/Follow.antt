@@ -1,18 +1,14 @@
 -- The numbers that the reader calls next follow each other. Assumes nothing.
 use Prim.Native.Nat.{ℕ, ◌+◌}
-use mathlib.Core.Path.{◌≡◌, refl, sym, ap, ◌∙◌}
+use mathlib.Core.Path.{◌≡◌, refl, sym, ◌∙◌}
 use mathlib.Core.List.{List}
 use mathlib.Core.Bool.{Bool, true, false, cond}
 use mathlib.Core.Option.{none, some, none-ne-some}
-use borrow.Author.Tests.{eqb-true}
-use lib.Dec.{ltb, eqb}
 use Rattle.ftd.specs.Follow.{NumberedLaw, Follows}
 use Rattle.ftd.proofs.Follow.{follows}
-use Rattle.ftd.specs.declared.refusal.Refusal.TheVariants.{NotOneFrame, RequiredTag, LowNumber}
-use Rattle.fix.specs.declared.frame.Frame.{Frame}
-use Rattle.fix.specs.declared.frame.Frame.TheVariants.{NoFrame, Framed}
+use Rattle.ftd.specs.declared.refusal.Refusal.TheVariants.{NotOneFrame, RequiredTag}
 use Rattle.fix.specs.declared.read.Message.{Message}
-use Rattle.fix.specs.declared.read.Judged.TheVariants.{Refused, Next, Again, Gap, Reset}
+use Rattle.fix.specs.declared.read.Judged.TheVariants.{Refused, Reset}
 use Rattle.fix.specs.declared.read.Reading.{Reading}
 use Rattle.fix.specs.Kinds.{is_reset}
 use Rattle.fix.specs.Fields.{Given, says_yes}
@@ -24,6 +20,8 @@ use Rattle.ftd.proofs.Return.{returns}
 use Rattle.fix.specs.Follow.{ComesBack}
 use Rattle.fix.specs.Follow.{Event, frame, set_to, number_if_next, took_number, is_set, expected_then, frames}
 use Rattle.fix.proofs.read.Dids.{Did, stays, takes, numbered-did}
+use Rattle.std.specs.Prelude.{Some, None}
+use Rattle.fix.specs.Types.{MaybeFrame}
 
 module _ (m : Message) (duplicate : Bool) (expected : ℕ) where
   judged-did : Did expected (judged_of m duplicate expected)
@@ -48,9 +46,9 @@ checked-did m fs expected = go (wrong_numbers m.kind fs) (wrong_tags m.kind fs)
     go false true = stays refl refl
     go false false = judged-did m (says_yes 43 fs) expected
 
-framed-did : (b : List ℕ) (expected : ℕ) (f : Frame) → Did expected (framed_of b expected f)
-framed-did b expected NoFrame = stays refl refl
-framed-did b expected (Framed name fields) = checked-did _ _ expected
+framed-did : (b : List ℕ) (expected : ℕ) (f : MaybeFrame) → Did expected (framed_of b expected f)
+framed-did b expected None = stays refl refl
+framed-did b expected (Some found) = checked-did _ _ expected
 
 pub read-did : (b : List ℕ) (expected : ℕ) → Did expected (read_of b expected)
 unfolding read_of

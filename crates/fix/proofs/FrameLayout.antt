@@ -8,7 +8,6 @@ use borrow.Author.Tests.{le-ltb, ltb-true, ltb-false, eq-eqb, ne_eqb, eqb-false}
 use lib.ListN.{length, drop, length-append}
 use lib.Dec.{ltb, eqb}
 use Rattle.ftd.specs.Packet.{span}
-use Rattle.ftd.specs.declared.write.Written.TheVariants.{Bytes}
 use Rattle.fix.specs.Text.{soh, until, total, sum_of, letter, length_text, sum_text}
 use Rattle.fix.specs.Fields.{is_whole}
 use Rattle.fix.specs.Frame.{body_length, body_bytes, summed, trailer, frame_bytes, is_name, is_framed}
@@ -22,6 +21,7 @@ use Rattle.fix.proofs.frame.Laid.{digits_of, length-frame, name-part, fields-par
 use Rattle.fix.proofs.Numerals.{decimal-one, decimal_step}
 use Rattle.fix.proofs.Pairs.{until_none}
 use Rattle.fix.proofs.RoundTrips.{cut_of, tests-of, type-right, passed, Named, named, framed-parts}
+use Rattle.std.specs.Prelude.{Ok}
 
 -- ─── Digits ───
 
@@ -205,7 +205,7 @@ read b f =
           (cut_of b f.name f.fields f.framed).cut h,
     )
 
-written : (name run out : List ℕ) (n : ℕ) → write_answer name run (length out) ≡ Bytes n
+written : (name run out : List ℕ) (n : ℕ) → write_answer name run (length out) ≡ Ok n
     → (n ≡ length (laid_out name run)) × (write_output name run out ≡ laid_out name run ++ drop n out)
 unfolding write_output
 written name run out n e =

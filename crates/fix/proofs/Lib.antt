@@ -1,4 +1,5 @@
 pub mod Examples
+pub mod Options
 pub mod RoundTrips
 pub mod Follow
 pub mod Refusals

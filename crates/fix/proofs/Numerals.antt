@@ -7,44 +7,44 @@ use native.Mathlib.Omega.{arith}
 use borrow.Author.Tests.{lt-ltb, le-ltb, ltb-true, ltb-false, ne_eqb, eqb-false}
 use lib.ListN.{length, get_or, length-append, get_or-append}
 use lib.Dec.{ltb, eqb}
-use Rattle.fix.specs.declared.text.Number.{Number}
-use Rattle.fix.specs.declared.text.Number.TheVariants.{NoNumber, Is}
+use Rattle.fix.specs.Types.{Number}
 use Rattle.fix.specs.Text.{equals, until, number_from, number_in, plain_in, letter}
 use Rattle.fix.specs.Pairs.{decimal_in, decimal, AllDigits, value_from, IsNumber}
 use Rattle.fix.proofs.text.Turns.{power}
 use Rattle.fix.proofs.tally.Ranges.{number_bound}
 use Rattle.fix.proofs.frame.Words.{other-taken}
+use Rattle.std.specs.Prelude.{Some, None}
 
 -- ─── Numbers ───
 
-pub never-number : (n : ℕ) → NoNumber ≡ Is n → ⊥
+pub never-number : (n : ℕ) → None ≡ Some n → ⊥
 never-number n e = let z : ◌≡◌ {A = ℕ} 0 1 = cc in omega arith
 
-from-digits : (k n : ℕ) (l : List ℕ) → number_from k l ≡ Is n → AllDigits l × (value_from k l ≡ n)
+from-digits : (k n : ℕ) (l : List ℕ) → number_from k l ≡ Some n → AllDigits l × (value_from k l ≡ n)
 from-digits k n [] e = (tt, cc)
 from-digits k n (c ∷ l) e =
     let r : Number = number_from (k * 10 + (c - 48)) l in
-    let x = other-taken NoNumber (cond (ltb 57 c) NoNumber r) (Is n) (ltb c 48) (never-number n) e in
-    let y = other-taken NoNumber r (Is n) (ltb 57 c) (never-number n) x.1 in
+    let x = other-taken None (cond (ltb 57 c) None r) (Some n) (ltb c 48) (never-number n) e in
+    let y = other-taken None r (Some n) (ltb 57 c) (never-number n) x.1 in
     let z = from-digits (k * 10 + (c - 48)) n l y.1 in
     ((ltb-false c 48 x.0, ltb-false 57 c y.0, z.0), z.1)
 
-digits_from : (k : ℕ) (l : List ℕ) → AllDigits l → number_from k l ≡ Is (value_from k l)
+digits_from : (k : ℕ) (l : List ℕ) → AllDigits l → number_from k l ≡ Some (value_from k l)
 digits_from k [] d = refl
 digits_from k (c ∷ l) d =
     rw (le-ltb c 48 d.0, le-ltb 57 c d.1) (digits_from (k * 10 + (c - 48)) l d.2)
 
-pub number_is : (text : List ℕ) (n : ℕ) → number_in text ≡ Is n → IsNumber text n
+pub number_is : (text : List ℕ) (n : ℕ) → number_in text ≡ Some n → IsNumber text n
 unfolding number_in
 number_is text n e =
     let r : Number = number_from 0 text in
-    let x = other-taken NoNumber (cond (ltb 9 (length text)) NoNumber r) (Is n) (eqb (length text) 0) (never-number n) e in
-    let y = other-taken NoNumber r (Is n) (ltb 9 (length text)) (never-number n) x.1 in
+    let x = other-taken None (cond (ltb 9 (length text)) None r) (Some n) (eqb (length text) 0) (never-number n) e in
+    let y = other-taken None r (Some n) (ltb 9 (length text)) (never-number n) x.1 in
     let z = from-digits 0 n text y.1 in
     let s = eqb-false (length text) 0 x.0 in
     record { some = omega (arith, s); few = ltb-false 9 (length text) y.0; digits = z.0; value = z.1 }
 
-pub is_number : (text : List ℕ) (n : ℕ) → IsNumber text n → number_in text ≡ Is n
+pub is_number : (text : List ℕ) (n : ℕ) → IsNumber text n → number_in text ≡ Some n
 unfolding number_in
 is_number text n i =
     let s : 1 ≤ length text = i.some in
@@ -55,7 +55,7 @@ is_number text n i =
       i.value,
     )
 
-pub number-most : (text : List ℕ) (n : ℕ) → number_in text ≡ Is n → n ≤ 999999999
+pub number-most : (text : List ℕ) (n : ℕ) → number_in text ≡ Some n → n ≤ 999999999
 number-most text n e = rw e at (number_bound text)
 
 -- ─── Digits of a number ───
@@ -102,10 +102,10 @@ value-least k [] h = h
 value-least k (c ∷ l) h = value-least (k * 10 + (c - 48)) l (omega arith)
 
 -- A plain number is written in one way.
-pub plain-is : (l : List ℕ) (n : ℕ) → plain_in l ≡ Is n → (l ≡ decimal n) × (1 ≤ n) × (n ≤ 999999999)
+pub plain-is : (l : List ℕ) (n : ℕ) → plain_in l ≡ Some n → (l ≡ decimal n) × (1 ≤ n) × (n ≤ 999999999)
 unfolding plain_in
 plain-is l n e =
-    let x = other-taken NoNumber (number_in l) (Is n) (eqb (get_or l 0 0) 48) (never-number n) e in
+    let x = other-taken None (number_in l) (Some n) (eqb (get_or l 0 0) 48) (never-number n) e in
     let i = number_is l n x.1 in
     let y = go l i.some (eqb-false (get_or l 0 0) 48 x.0) i.digits i.value in
     (y.0, y.1, number-most l n x.1)
@@ -187,7 +187,7 @@ spelled : (n : ℕ) → Spelled n (decimal n)
 unfolding decimal
 spelled n = spelled-in (suc n) n (omega arith)
 
-pub decimal-plain : (n : ℕ) → 1 ≤ n → n ≤ 999999999 → plain_in (decimal n) ≡ Is n
+pub decimal-plain : (n : ℕ) → 1 ≤ n → n ≤ 999999999 → plain_in (decimal n) ≡ Some n
 unfolding plain_in
 decimal-plain n h i =
     let s = spelled n in

@@ -12,12 +12,8 @@ use lib.Seq.{drop-drop, drop-append-add, get_or-append_seam, get_or-drop, length
 use lib.Seq.{take-append_seam}
 use lib.Dec.{ltb, eqb}
 use Rattle.ftd.specs.Bytes.{part}
-use Rattle.ftd.specs.declared.write.Written.TheVariants.{Bytes}
-use Rattle.fix.specs.declared.text.Number.{Number}
-use Rattle.fix.specs.declared.text.Number.TheVariants.{NoNumber, Is}
+use Rattle.fix.specs.Types.{Number}
 use Rattle.fix.specs.declared.fields.Last.{Last}
-use Rattle.fix.specs.declared.fields.Front.{Front}
-use Rattle.fix.specs.declared.fields.Front.TheVariants.{NoField, Field}
 use Rattle.fix.specs.Text.{soh, equals, until, number_in, plain_in, or_else}
 use Rattle.fix.specs.Fields.{length_tag, last_of, no_last, text_length, closed, tagged, front_of, cut_off, cut_in}
 use Rattle.fix.specs.Fields.{Given, size_of, cut_from, fields_of, is_whole, place_in, place_of, part_at, text_of}
@@ -34,10 +30,13 @@ use Rattle.fix.proofs.frame.Words.{first_taken, other-taken, until-seam, until-t
 use Rattle.fix.proofs.frame.Outlines.{whole}
 use Rattle.fix.proofs.Numerals.{number_is, is_number, plain-is, decimal-plain, decimal-until}
 use Rattle.fix.proofs.RoundTrips.{round-trips}
+use Rattle.std.specs.Prelude.{Some, None, Ok}
+use Rattle.fix.specs.Types.{MaybeFront, some_front}
+use Rattle.fix.proofs.Options.{same-front}
 
 -- ─── A field that is found ───
 
-never-field : (tag start n : ℕ) → NoField ≡ Field tag start n → ⊥
+never-field : (tag start n : ℕ) → None ≡ some_front tag start n → ⊥
 never-field tag start n e = let z : ◌≡◌ {A = ℕ} 0 1 = cc in omega arith
 
 -- Its tag in digits, `=`, its text and SOH; and how long the text is.
@@ -50,19 +49,20 @@ record Found (last : Last) (l : List ℕ) (tag start n : ℕ) : Type 0 where
   joined : l ≡ decimal tag ++ (61 ∷ (part l start n ++ (1 ∷ drop (start + n + 1) l)))
 
 module _ (tag start n : ℕ) where
-  no : NoField ≡ Field tag start n → ⊥
+  no : None ≡ some_front tag start n → ⊥
   no = never-field tag start n
 
-  closed_is : (t s k : ℕ) (l : List ℕ) → closed t s k l ≡ Field tag start n
+  closed_is : (t s k : ℕ) (l : List ℕ) → closed t s k l ≡ some_front tag start n
       → (t ≡ tag) × (s ≡ start) × (k ≡ n) × (1 ≤ k) × (get_or l (s + k) 0 ≡ 1)
   unfolding closed
   closed_is t s k l e =
-      let x = other-taken NoField (cond (eqb (get_or l (s + k) 0) soh) (Field t s k) NoField) (Field tag start n) (eqb k 0)
+      let x = other-taken None (cond (eqb (get_or l (s + k) 0) soh) (some_front t s k) None) (some_front tag start n) (eqb k 0)
       no e in
-      let y = first_taken (Field t s k) NoField (Field tag start n) (eqb (get_or l (s + k) 0) soh) no x.1 in
-      let g : Field t s k ≡ Field tag start n = y.1 in
+      let y = first_taken (some_front t s k) None (some_front tag start n) (eqb (get_or l (s + k) 0) soh) no x.1 in
+      let g : some_front t s k ≡ some_front tag start n = y.1 in
       let z = eqb-false k 0 x.0 in
-      (cc, cc, cc, omega (arith, z), eqb-true (get_or l (s + k) 0) 1 y.0)
+      let f = same-front _ _ _ _ _ _ g in
+      (f.0, f.1, f.2, omega (arith, z), eqb-true (get_or l (s + k) 0) 1 y.0)
 
   text-joined : (l : List ℕ) → start + n < length l → get_or l (start + n) 0 ≡ 1
       → drop start l ≡ part l start n ++ (1 ∷ drop (start + n + 1) l)
@@ -73,21 +73,21 @@ module _ (tag start n : ℕ) where
       let d : get_or (drop start l) n 0 ≡ 1 = get_or-drop start l n 0 ∙ c in
       rw (d, e) at (split_at (drop start l) n 0 (omega (arith, m, h)))
 
-  found : (last : Last) (l : List ℕ) → front_of last l ≡ Field tag start n → Found last l tag start n
+  found : (last : Last) (l : List ℕ) → front_of last l ≡ some_front tag start n → Found last l tag start n
   unfolding front_of
   found last l e =
-      let x = first_taken (tagged last l (until equals l) (plain_in (take (until equals l) l))) NoField
-      (Field tag start n) (ltb (until equals l) (length l)) no e in
-      let i : FrontInside (length l) (Field tag start n) = rw e at (front-inside last l) in
+      let x = first_taken (tagged last l (until equals l) (plain_in (take (until equals l) l))) None
+      (some_front tag start n) (ltb (until equals l) (length l)) no e in
+      let i : FrontInside (length l) (some_front tag start n) = rw e at (front-inside last l) in
       go (plain_in (take (until equals l) l)) refl x.1
       (until-there equals l (ltb-true (until equals l) (length l) x.0)) i.2
     where
       go : (a : Number) → plain_in (take (until equals l) l) ≡ a
-          → tagged last l (until equals l) a ≡ Field tag start n
+          → tagged last l (until equals l) a ≡ some_front tag start n
           → l ≡ take (until equals l) l ++ (61 ∷ drop (suc (until equals l)) l) → start + n < length l
           → Found last l tag start n
-      go NoNumber p e j h = absurd (no e)
-      go (Is t) p e j h =
+      go None p e j h = absurd (no e)
+      go (Some t) p e j h =
           let u = until equals l in
           let c = closed_is t (u + 1) (text_length last t (drop (u + 1) l)) l e in
           let a : t ≡ tag = c.0 in
@@ -119,16 +119,16 @@ joined_in : (most : ℕ) (last : Last) (l : List ℕ)
 joined_in zero last l = refl
 joined_in (suc most) last l = go (front_of last l) refl (joined_in most)
   where
-    go : (f : Front) → front_of last l ≡ f
+    go : (f : MaybeFront) → front_of last l ≡ f
         → ((a : Last) (r : List ℕ) → bytes_of (pairs_in (cut_in most a r).fields) ++ (cut_in most a r).rest ≡ r)
         → bytes_of (pairs_in (cut_off (cut_in most) l f).fields) ++ (cut_off (cut_in most) l f).rest ≡ l
-    go NoField e ih = refl
-    go (Field tag start n) e ih =
-        let a = last_of tag (part l start n) in
-        let r : List ℕ = drop (start + n + 1) l in
-        one_more (decimal tag) (part l start n) (bytes_of (pairs_in (cut_in most a r).fields)) (cut_in most a r).rest
-        ∙ ap (λ (y : List ℕ). decimal tag ++ (61 ∷ (part l start n ++ (1 ∷ y)))) (ih a r)
-        ∙ sym (found tag start n last l e).joined
+    go None e ih = refl
+    go (Some found1) e ih =
+        let a = last_of found1.tag (part l found1.start found1.len) in
+        let r : List ℕ = drop (found1.start + found1.len + 1) l in
+        one_more (decimal found1.tag) (part l found1.start found1.len) (bytes_of (pairs_in (cut_in most a r).fields)) (cut_in most a r).rest
+        ∙ ap (λ (y : List ℕ). decimal found1.tag ++ (61 ∷ (part l found1.start found1.len ++ (1 ∷ y)))) (ih a r)
+        ∙ sym (found found1.tag found1.start found1.len last l e).joined
 
 no_bytes : (l : List ℕ) → eqb (length l) 0 ≡ true → l ≡ []
 no_bytes [] e = refl
@@ -189,9 +189,9 @@ no-soh (c ∷ l) = go (eqb c 1) refl (no-soh l)
     go true e ih = tt
     go false e ih = (eqb-false c 1 e, ih)
 
-size_number : (x : Number) (n : ℕ) → or_else 0 x ≡ n → 1 ≤ n → x ≡ Is n
-size_number NoNumber n e h = absurd (omega (arith, e, h))
-size_number (Is k) n e h = ap Is e
+size_number : (x : Number) (n : ℕ) → or_else 0 x ≡ n → 1 ≤ n → x ≡ Some n
+size_number None n e h = absurd (omega (arith, e, h))
+size_number (Some k) n e h = ap Some e
 
 closes : (before : Pair) (l : List ℕ) (tag start n : ℕ) → Found (last_of before.tag before.text) l tag start n
     → Closes before (pair tag (part l start n))
@@ -217,17 +217,17 @@ can-in : (most : ℕ) (before : Pair) (last : Last) → last ≡ last_of before.
 can-in zero before last q l = tt
 can-in (suc most) before last q l = go (front_of last l) refl (can-in most)
   where
-    go : (f : Front) → front_of last l ≡ f
+    go : (f : MaybeFront) → front_of last l ≡ f
         → ((p : Pair) (a : Last) → a ≡ last_of p.tag p.text → (r : List ℕ)
         → CanWrite p (pairs_in (cut_in most a r).fields))
         → CanWrite before (pairs_in (cut_off (cut_in most) l f).fields)
-    go NoField e ih = tt
-    go (Field tag start n) e ih =
-        let f : Found (last_of before.tag before.text) l tag start n = found tag start n _ l (rw q at e) in
+    go None e ih = tt
+    go (Some found1) e ih =
+        let f : Found (last_of before.tag before.text) l found1.tag found1.start found1.len = found found1.tag found1.start found1.len _ l (rw q at e) in
         let s = f.some in
         let c = f.counted in (
-          record { least = f.least; most = f.most; some = omega (arith, s, c); closes = closes before l tag start n f },
-          ih (pair tag (part l start n)) (last_of tag (part l start n)) refl (drop (start + n + 1) l),
+          record { least = f.least; most = f.most; some = omega (arith, s, c); closes = closes before l found1.tag found1.start found1.len f },
+          ih (pair found1.tag (part l found1.start found1.len)) (last_of found1.tag (part l found1.start found1.len)) refl (drop (found1.start + found1.len + 1) l),
         )
 
 pub can_write : (run : List ℕ) → CanWrite no_pair (pairs_of run)
@@ -278,7 +278,7 @@ module _ (d t r : List ℕ) where
 
 front-back : (before p : Pair) (r : List ℕ) → Stands before p
     → front_of (last_of before.tag before.text) (line (decimal p.tag) p.text r)
-    ≡ Field p.tag (length (decimal p.tag) + 1) (length p.text)
+    ≡ some_front p.tag (length (decimal p.tag) + 1) (length p.text)
 unfolding front_of closed
 front-back before p r s =
     let d = decimal p.tag in
@@ -303,7 +303,7 @@ read_back before last q (p ∷ ps) c =
     let d = decimal p.tag in
     let t = p.text in
     let r : List ℕ = bytes_of ps in
-    let f : front_of last (line d t r) ≡ Field p.tag (length d + 1) (length t) = rw q (front-back before p r c.0) in
+    let f : front_of last (line d t r) ≡ some_front p.tag (length d + 1) (length t) = rw q (front-back before p r c.0) in
     let ih = read_back p (last_of p.tag p.text) refl ps c.1 in
     let e = cut_step last (line d t r) in
     rw (e, f, line-part d t r, line-rest d t r, ih.0, ih.1) (refl, refl)
@@ -330,11 +330,11 @@ text : (run : List ℕ) (i : ℕ) → text_of run i ≡ text_or (pair_at i (pair
 unfolding text_of
 text run i = go (pair_at i (pairs_of run)) (place_of run i) (field run i)
   where
-    go : (p : Option Pair) (f : Front) → IsAt run p f → part_at run f ≡ text_or p
-    go none NoField h = refl
-    go none (Field tag start len) h = absurd h
-    go (some p) NoField h = absurd h
-    go (some p) (Field tag start len) h = h.1
+    go : (p : Option Pair) (f : MaybeFront) → IsAt run p f → part_at run f ≡ text_or p
+    go none None h = refl
+    go none (Some found) h = absurd h
+    go (some p) None h = absurd h
+    go (some p) (Some found) h = h.1
 
 first-is : (run : List ℕ) (tag at : ℕ) (fs : List Given) → LaidFrom run at fs
     → IsAt run (first_with tag (pairs_in fs)) (first_in at fs tag)
@@ -343,7 +343,7 @@ first-is run tag at (f ∷ fs) h = go (eqb f.tag tag) (first-is run tag (at + si
   where
     go : (b : Bool) → IsAt run (first_with tag (pairs_in fs)) (first_in (at + size_of f) fs tag)
         → IsAt run (cond b (some (pair f.tag f.text)) (first_with tag (pairs_in fs)))
-        (cond b (Field f.tag (at + f.head) (length f.text)) (first_in (at + size_of f) fs tag))
+        (cond b (some_front f.tag (at + f.head) (length f.text)) (first_in (at + size_of f) fs tag))
     go true ih = (refl, h.0)
     go false ih = ih
 
@@ -354,7 +354,7 @@ first run tag = first-is run tag 0 (fields_of run) (laid run)
 -- ─── As the statement asks for it ───
 
 written : (name out : List ℕ) (ps : List Pair) (n : ℕ) → CanWrite no_pair ps
-    → write_answer name (bytes_of ps) (length out) ≡ Bytes n
+    → write_answer name (bytes_of ps) (length out) ≡ Ok n
     → HasPairs (take n (write_output name (bytes_of ps) out)) name ps
 written name out ps n c e =
     let r = round-trips.back name (bytes_of ps) out n e in

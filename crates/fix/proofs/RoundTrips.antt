@@ -13,9 +13,7 @@ use Rattle.ftd.specs.Packet.{span}
 use Rattle.ftd.specs.declared.packet.Span.{Span}
 use Rattle.ftd.specs.declared.refusal.Refusal.{Refusal}
 use Rattle.ftd.specs.declared.refusal.Refusal.TheVariants.{NotOneFrame, RequiredTag, TooSmall}
-use Rattle.ftd.specs.declared.write.Written.{Written}
-use Rattle.ftd.specs.declared.write.Written.TheVariants.{Bytes, Refused}
-use Rattle.fix.specs.declared.frame.Frame.TheVariants.{Framed}
+use Rattle.ftd.specs.Types.{Written}
 use Rattle.fix.specs.Text.{soh, until}
 use Rattle.fix.specs.Kinds.{kind_of}
 use Rattle.fix.specs.Fields.{fields_of, is_whole, says_yes}
@@ -27,11 +25,14 @@ use Rattle.fix.specs.RoundTrips.{text_at, ReadsAs, RoundTrips}
 use Rattle.fix.proofs.frame.Words.{and_both, first_taken, other-taken, until-before}
 use Rattle.fix.proofs.frame.Outlines.{Outlined, outlined, Whole, whole, digits, type_bytes, name-there, frame_same}
 use Rattle.fix.proofs.frame.Laid.{digits_of, name-part, fields-part, frame_found}
+use Rattle.std.specs.Prelude.{Ok, Err}
+use Rattle.fix.specs.Types.{some_frame}
+use Rattle.ftd.specs.declared.write.WriteError.TheVariants.{Refused}
 
 -- ─── What is read ───
 
 -- The type of a frame.
-module _ (b : List ℕ) (name_at fields_at : Span) (framed : frame_of b ≡ Framed name_at fields_at) where
+module _ (b : List ℕ) (name_at fields_at : Span) (framed : frame_of b ≡ some_frame name_at fields_at) where
   pub cut_of : Whole b name_at fields_at
   cut_of = whole b name_at fields_at framed
 
@@ -78,12 +79,12 @@ module _ (b name run : List ℕ) (r : ReadsAs b name run) where
       let w : is_whole run ≡ true = rw r.same_fields at cut.cut in
       rw (name-right, w, ← same, le-ltb 4096 (length b) tests.most)
 
-  answer : (room : ℕ) → length b ≤ room → write_answer name run room ≡ Bytes (length b)
+  answer : (room : ℕ) → length b ≤ room → write_answer name run room ≡ Ok (length b)
   unfolding write_answer
   answer room h = rw (framed-right, r.numbers, ← same, le-ltb room (length b) h, r.tags)
 
   again : (out : List ℕ) → length b ≤ length out
-      → (write_answer name run (length out) ≡ Bytes (length b)) × (write_output name run out ≡ b ++ drop (length b) out)
+      → (write_answer name run (length out) ≡ Ok (length b)) × (write_output name run out ≡ b ++ drop (length b) out)
   unfolding write_output
   again out h = (answer (length out) h, rw (answer (length out) h, ← same))
 
@@ -94,7 +95,7 @@ module _ (b name run : List ℕ) (r : ReadsAs b name run) where
 
 -- ─── What is written ───
 
-never-bytes : (x : Refusal) (n : ℕ) → Refused x ≡ Bytes n → ⊥
+never-bytes : (x : Refusal) (n : ℕ) → Err (Refused x) ≡ Ok n → ⊥
 never-bytes x n e = let z : ◌≡◌ {A = ℕ} 0 1 = cc in omega arith
 
 pub record Passed (name run : List ℕ) (n : ℕ) : Type 0 where
@@ -103,25 +104,25 @@ pub record Passed (name run : List ℕ) (n : ℕ) : Type 0 where
   pub tags : wrong_tags (kind_of name) (fields_of run) ≡ false
   pub counted : n ≡ length (frame_bytes name run)
 
-pub passed : (name run : List ℕ) (room n : ℕ) → write_answer name run room ≡ Bytes n → Passed name run n
+pub passed : (name run : List ℕ) (room n : ℕ) → write_answer name run room ≡ Ok n → Passed name run n
 unfolding write_answer
 passed name run room n e =
-    let last : Written = Bytes (length (frame_bytes name run)) in
-    let tagged = cond (wrong_tags (kind_of name) (fields_of run)) (Refused RequiredTag) last in
-    let fits = cond (ltb room (length (frame_bytes name run))) (Refused TooSmall) tagged in
-    let numbered = cond (wrong_numbers (kind_of name) (fields_of run)) (Refused NotOneFrame) fits in
+    let last : Written = Ok (length (frame_bytes name run)) in
+    let tagged = cond (wrong_tags (kind_of name) (fields_of run)) (Err (Refused RequiredTag)) last in
+    let fits = cond (ltb room (length (frame_bytes name run))) (Err (Refused TooSmall)) tagged in
+    let numbered = cond (wrong_numbers (kind_of name) (fields_of run)) (Err (Refused NotOneFrame)) fits in
     let x =
-    first_taken numbered (Refused NotOneFrame) (Bytes n) (is_framed name run) (never-bytes NotOneFrame n) e in
+    first_taken numbered (Err (Refused NotOneFrame)) (Ok n) (is_framed name run) (never-bytes NotOneFrame n) e in
     let y =
-    other-taken (Refused NotOneFrame) fits (Bytes n) (wrong_numbers (kind_of name) (fields_of run))
+    other-taken (Err (Refused NotOneFrame)) fits (Ok n) (wrong_numbers (kind_of name) (fields_of run))
     (never-bytes NotOneFrame n) x.1 in
     let z =
-    other-taken (Refused TooSmall) tagged (Bytes n) (ltb room (length (frame_bytes name run))) (never-bytes TooSmall n)
+    other-taken (Err (Refused TooSmall)) tagged (Ok n) (ltb room (length (frame_bytes name run))) (never-bytes TooSmall n)
     y.1 in
     let w =
-    other-taken (Refused RequiredTag) last (Bytes n) (wrong_tags (kind_of name) (fields_of run))
+    other-taken (Err (Refused RequiredTag)) last (Ok n) (wrong_tags (kind_of name) (fields_of run))
     (never-bytes RequiredTag n) z.1 in
-    let k : Bytes (length (frame_bytes name run)) ≡ Bytes n = w.1 in
+    let k : Ok (length (frame_bytes name run)) ≡ Ok n = w.1 in
     record { framed = x.0; numbers = y.0; tags = w.0; counted = cc }
 
 pub record Named (name : List ℕ) : Type 0 where
@@ -160,7 +161,7 @@ frame-reads b name run n same p =
       tags = p.tags;
     }
 
-back : (name run out : List ℕ) (n : ℕ) → write_answer name run (length out) ≡ Bytes n
+back : (name run out : List ℕ) (n : ℕ) → write_answer name run (length out) ≡ Ok n
     → ReadsAs (take n (write_output name run out)) name run
 unfolding write_output
 back name run out n e =

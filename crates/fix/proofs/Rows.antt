@@ -12,13 +12,10 @@ use lib.Dec.{ltb, eqb}
 use Rattle.ftd.specs.Refusal.{number_of}
 use Rattle.ftd.specs.declared.refusal.Refusal.{Refusal}
 use Rattle.ftd.specs.declared.refusal.Refusal.TheVariants.{NotOneFrame, RequiredTag, LowNumber}
-use Rattle.ftd.specs.declared.write.Written.TheVariants.{Bytes}
-use Rattle.fix.specs.declared.text.Number.{Number}
-use Rattle.fix.specs.declared.text.Number.TheVariants.{NoNumber, Is}
+use Rattle.fix.specs.Types.{Number}
 use Rattle.fix.specs.declared.kinds.Kind.{Kind}
 use Rattle.fix.specs.declared.kinds.Kind.TheVariants.{Heartbeat, TestRequest, ResendRequest, SequenceReset}
 use Rattle.fix.specs.declared.kinds.Kind.TheVariants.{Logout, Logon, Other}
-use Rattle.fix.specs.declared.frame.Frame.TheVariants.{NoFrame}
 use Rattle.fix.specs.declared.read.Message.{Message}
 use Rattle.fix.specs.declared.read.Judged.TheVariants.{Refused}
 use Rattle.fix.specs.Text.{number_in, or_else, is_none}
@@ -44,6 +41,7 @@ use Rattle.fix.proofs.Values.{Outcome, bears, no_frame, odd_number, odd_tag, out
 use Rattle.fix.proofs.Judgement.{clash, any_of, read-way, bears-zero, ResetNow}
 use Rattle.fix.proofs.RoundTrips.{passed, round-trips}
 use Rattle.fix.proofs.Pairs.{pair-laws}
+use Rattle.std.specs.Prelude.{Some, None, Ok}
 
 -- ─── Lists of tags ───
 
@@ -164,8 +162,8 @@ in-numbers k n t (f ∷ fs) (inr h) i = go (eqb f.tag k) (number_in f.text) (in-
   where
     go : (b : Bool) (x : Number) → Among n (numbers_at k fs)
         → Among n (cond b (number_then x (numbers_at k fs)) (numbers_at k fs))
-    go true NoNumber ih = ih
-    go true (Is m) ih = inr ih
+    go true None ih = ih
+    go true (Some m) ih = inr ih
     go false x ih = ih
 
 numbers-in : (k n : ℕ) (fs : List Given) → Among n (numbers_at k fs)
@@ -181,10 +179,10 @@ numbers-in k n (f ∷ fs) h = go (eqb f.tag k) refl (number_in f.text) refl (num
         → (Among n (numbers_at k fs) → (t : List ℕ) × In (pair k t) (pairs_in fs) × IsNumber t n)
         → Among n (cond b (number_then x (numbers_at k fs)) (numbers_at k fs))
         → (t : List ℕ) × In (pair k t) (pairs_in (f ∷ fs)) × IsNumber t n
-    go true p NoNumber q ih h = later (ih h)
-    go true p (Is m) q ih (inl e) =
+    go true p None q ih h = later (ih h)
+    go true p (Some m) q ih (inl e) =
         (f.text, inl (ap (λ (x : ℕ). pair x f.text) (eqb-true f.tag k p)), number_is f.text n (rw e at q))
-    go true p (Is m) q ih (inr h) = later (ih h)
+    go true p (Some m) q ih (inr h) = later (ih h)
     go false p x q ih h = later (ih h)
 
 none_below : (last first : ℕ) (l : List ℕ) → below_any last l ≡ false → Among first l → first ≤ last
@@ -471,10 +469,10 @@ module _ (b : List ℕ) (expected : ℕ) (m : Message) (c : Bears b m) (r : Refu
       go (inr (e, h, d, p)) = n (sym (ap answer_number (sym e ∙ q)))
 
 row28 : (b : List ℕ) (expected : ℕ) → (read_of b expected).answer ≡ Refused NotOneFrame
-    → (frame_of b ≡ NoFrame) ⊎ ((f : Framing b) × (NumbersRight (kind_in b f) (pairs_at b f) → ⊥))
+    → (frame_of b ≡ None) ⊎ ((f : Framing b) × (NumbersRight (kind_in b f) (pairs_at b f) → ⊥))
 row28 b expected q = go (outcome b)
   where
-    go : Outcome b → (frame_of b ≡ NoFrame) ⊎ ((f : Framing b) × (NumbersRight (kind_in b f) (pairs_at b f) → ⊥))
+    go : Outcome b → (frame_of b ≡ None) ⊎ ((f : Framing b) × (NumbersRight (kind_in b f) (pairs_at b f) → ⊥))
     go (bears m c) = absurd (never-bears b expected m c NotOneFrame (λ z. omega (arith, z)) q)
     go (no_frame e t) = inl e
     go (odd_number name fields e p t) =
@@ -509,7 +507,7 @@ row29 b expected q = go (outcome b)
           λ r. true-false (wrong_tags kind fs) o (right-tags kind fs r),
         )
 
-written : (name run : List ℕ) (room n : ℕ) → write_answer name run room ≡ Bytes n
+written : (name run : List ℕ) (room n : ℕ) → write_answer name run room ≡ Ok n
     → NumbersRight (kind_of name) (pairs_of run) × TagsRight (kind_of name) (pairs_of run)
 written name run room n e =
     let p = passed name run room n e in
@@ -517,7 +515,7 @@ written name run room n e =
 
 writes : (name run : List ℕ) (room : ℕ) → is_framed name run ≡ true → NumbersRight (kind_of name) (pairs_of run)
     → TagsRight (kind_of name) (pairs_of run) → length (frame_bytes name run) ≤ room
-    → write_answer name run room ≡ Bytes (length (frame_bytes name run))
+    → write_answer name run room ≡ Ok (length (frame_bytes name run))
 unfolding write_answer
 writes name run room f n t h =
     rw (
@@ -539,7 +537,7 @@ reads-bears b name run r =
     }
 
 back : (name out : List ℕ) (ps : List Pair) (n : ℕ) → CanWrite no_pair ps
-    → write_answer name (bytes_of ps) (length out) ≡ Bytes n
+    → write_answer name (bytes_of ps) (length out) ≡ Ok n
     → let b = take n (write_output name (bytes_of ps) out) in
     (m : Message) × (message_in (read_of b 0).answer ≡ some m) × (text_at b m.name ≡ name)
     × (pairs_of (text_at b m.fields) ≡ ps)

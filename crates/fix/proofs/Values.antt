@@ -14,15 +14,10 @@ use Rattle.ftd.specs.Bytes.{part}
 use Rattle.ftd.specs.Packet.{span}
 use Rattle.ftd.specs.declared.packet.Span.{Span}
 use Rattle.ftd.specs.declared.refusal.Refusal.TheVariants.{NotOneFrame, RequiredTag, LowNumber}
-use Rattle.fix.specs.declared.text.Number.{Number}
-use Rattle.fix.specs.declared.text.Number.TheVariants.{NoNumber, Is}
+use Rattle.fix.specs.Types.{Number}
 use Rattle.fix.specs.declared.kinds.Kind.{Kind}
 use Rattle.fix.specs.declared.kinds.Kind.TheVariants.{Heartbeat, TestRequest, ResendRequest, SequenceReset}
 use Rattle.fix.specs.declared.kinds.Kind.TheVariants.{Logout, Logon, Other}
-use Rattle.fix.specs.declared.fields.Front.{Front}
-use Rattle.fix.specs.declared.fields.Front.TheVariants.{NoField, Field}
-use Rattle.fix.specs.declared.frame.Frame.{Frame}
-use Rattle.fix.specs.declared.frame.Frame.TheVariants.{NoFrame, Framed}
 use Rattle.fix.specs.declared.read.Message.{Message}
 use Rattle.fix.specs.declared.read.Judged.TheVariants.{Refused, Next, Again, Gap, Reset}
 use Rattle.fix.specs.Text.{number_in, or_else, is_none, is_yes}
@@ -41,6 +36,8 @@ use Rattle.fix.proofs.frame.Words.{and_both, other-taken}
 use Rattle.fix.proofs.frame.Outlines.{outlined, whole, frame_same}
 use Rattle.fix.proofs.Numerals.{never-number, number_is, is_number}
 use Rattle.fix.proofs.Pairs.{can_write}
+use Rattle.std.specs.Prelude.{Some, None}
+use Rattle.fix.specs.Types.{MaybeFront, MaybeFrame, some_frame}
 
 -- ─── Tests ───
 
@@ -136,9 +133,9 @@ required-once k (r ∷ rs) tags e h =
     go true p q ih h = rw (eqb-true r k p) at (eqb-true (times r tags) 1 q)
     go false p q ih h = ih h
 
-pub not_none : (x : Number) → is_none x ≡ false → x ≡ Is (or_else 0 x)
-not_none NoNumber e = absurd (never_true (sym e))
-not_none (Is n) e = refl
+pub not_none : (x : Number) → is_none x ≡ false → x ≡ Some (or_else 0 x)
+not_none None e = absurd (never_true (sym e))
+not_none (Some n) e = refl
 
 pub evens : (kind : Kind) (fs : List Given) → wrong_numbers kind fs ≡ false → any_odd kind fs ≡ false
 unfolding wrong_numbers
@@ -173,7 +170,7 @@ module _ (kind : Kind) (fs : List Given) (tags : wrong_tags kind fs ≡ false) (
 
   says : wrong_numbers kind fs ≡ false → is_number_tag kind k ≡ true → Says k (number_at k fs) (pairs_in fs)
   says numbers n =
-      let x : number_in there.text ≡ Is (or_else 0 (number_in there.text)) =
+      let x : number_in there.text ≡ Some (or_else 0 (number_in there.text)) =
       not_none (number_in there.text) (there.even kind n (evens kind fs numbers)) in
       record {
         text = there.text;
@@ -201,9 +198,9 @@ module _ (run : List ℕ) where
   zero-place : (at : ℕ) → moved_to at (first_of run 0) ≡ span 0 0
   zero-place at = go (first_of run 0) (rw zero-first at (text-lies run 0))
     where
-      go : (f : Front) → LiesAt run none f → moved_to at f ≡ span 0 0
-      go NoField h = refl
-      go (Field tag start len) h = absurd h
+      go : (f : MaybeFront) → LiesAt run none f → moved_to at f ≡ span 0 0
+      go None h = refl
+      go (Some found) h = absurd h
 
 -- ─── A text of the fields, in the whole bytes ───
 
@@ -221,9 +218,9 @@ text-moved : (b : List ℕ) (s : Span) (tag : ℕ) (text : List ℕ)
     → first_text tag (fields_of (text_at b s)) ≡ some text → text_at b (moved_to s.start (first_of (text_at b s) tag)) ≡ text
 text-moved b s tag text e = go (first_of (text_at b s) tag) (rw e at (text-lies (text_at b s) tag))
   where
-    go : (f : Front) → LiesAt (text_at b s) (some text) f → text_at b (moved_to s.start f) ≡ text
-    go NoField h = absurd h
-    go (Field t start len) h = part_moved b s.start s.len start len h.1 ∙ h.0
+    go : (f : MaybeFront) → LiesAt (text_at b s) (some text) f → text_at b (moved_to s.start f) ≡ text
+    go None h = absurd h
+    go (Some found) h = part_moved b s.start s.len found.start found.len h.1 ∙ h.0
 
 -- ─── The type by its letter ───
 
@@ -318,12 +315,12 @@ module _ (m k : Message) (duplicate : Bool) (expected : ℕ) where
 pub record Bears (b : List ℕ) (m : Message) : Type 0 where
   pub name : Span
   pub fields : Span
-  pub framed : frame_of b ≡ Framed name fields
+  pub framed : frame_of b ≡ some_frame name fields
   pub numbers : wrong_numbers (kind_of (text_at b name)) (fields_of (text_at b fields)) ≡ false
   pub tags : wrong_tags (kind_of (text_at b name)) (fields_of (text_at b fields)) ≡ false
   pub same : message_of b name fields ≡ m
 
-passed : (b : List ℕ) (n : ℕ) (name fields : Span) → frame_of b ≡ Framed name fields
+passed : (b : List ℕ) (n : ℕ) (name fields : Span) → frame_of b ≡ some_frame name fields
     → wrong_numbers (kind_of (text_at b name)) (fields_of (text_at b fields)) ≡ false
     → wrong_tags (kind_of (text_at b name)) (fields_of (text_at b fields)) ≡ false
     → read_of b n ≡ judged_of (message_of b name fields) (says_yes 43 (fields_of (text_at b fields))) n
@@ -340,11 +337,11 @@ judged-at b m c n =
 -- Bytes bear a message, or are refused 28 or 29, whatever number is expected.
 pub data Outcome (b : List ℕ) : Type 0 where
   bears : (m : Message) → Bears b m → Outcome b
-  no_frame : frame_of b ≡ NoFrame → ((n : ℕ) → read_of b n ≡ reading n (Refused NotOneFrame)) → Outcome b
-  odd_number : (name fields : Span) → frame_of b ≡ Framed name fields
+  no_frame : frame_of b ≡ None → ((n : ℕ) → read_of b n ≡ reading n (Refused NotOneFrame)) → Outcome b
+  odd_number : (name fields : Span) → frame_of b ≡ some_frame name fields
       → wrong_numbers (kind_of (text_at b name)) (fields_of (text_at b fields)) ≡ true
       → ((n : ℕ) → read_of b n ≡ reading n (Refused NotOneFrame)) → Outcome b
-  odd_tag : (name fields : Span) → frame_of b ≡ Framed name fields
+  odd_tag : (name fields : Span) → frame_of b ≡ some_frame name fields
       → wrong_numbers (kind_of (text_at b name)) (fields_of (text_at b fields)) ≡ false
       → wrong_tags (kind_of (text_at b name)) (fields_of (text_at b fields)) ≡ true
       → ((n : ℕ) → read_of b n ≡ reading n (Refused RequiredTag)) → Outcome b
@@ -353,19 +350,19 @@ pub outcome : (b : List ℕ) → Outcome b
 unfolding read_of checked_of message_of
 outcome b = go (frame_of b) refl
   where
-    go : (f : Frame) → frame_of b ≡ f → Outcome b
-    go NoFrame e = no_frame e (λ n. rw e)
-    go (Framed name fields) e =
-        by (wrong_numbers (kind_of (text_at b name)) (fields_of (text_at b fields))) refl
-        (wrong_tags (kind_of (text_at b name)) (fields_of (text_at b fields))) refl
+    go : (f : MaybeFrame) → frame_of b ≡ f → Outcome b
+    go None e = no_frame e (λ n. rw e)
+    go (Some found) e =
+        by (wrong_numbers (kind_of (text_at b found.name)) (fields_of (text_at b found.fields))) refl
+        (wrong_tags (kind_of (text_at b found.name)) (fields_of (text_at b found.fields))) refl
       where
-        by : (x : Bool) → wrong_numbers (kind_of (text_at b name)) (fields_of (text_at b fields)) ≡ x
-            → (y : Bool) → wrong_tags (kind_of (text_at b name)) (fields_of (text_at b fields)) ≡ y → Outcome b
-        by true p y q = odd_number name fields e p (λ n. rw (e, p))
-        by false p true q = odd_tag name fields e p q (λ n. rw (e, p, q))
+        by : (x : Bool) → wrong_numbers (kind_of (text_at b found.name)) (fields_of (text_at b found.fields)) ≡ x
+            → (y : Bool) → wrong_tags (kind_of (text_at b found.name)) (fields_of (text_at b found.fields)) ≡ y → Outcome b
+        by true p y q = odd_number found.name found.fields e p (λ n. rw (e, p))
+        by false p true q = odd_tag found.name found.fields e p q (λ n. rw (e, p, q))
         by false p false q =
-            bears (message_of b name fields)
-            record { name = name; fields = fields; framed = e; numbers = p; tags = q; same = refl }
+            bears (message_of b found.name found.fields)
+            record { name = found.name; fields = found.fields; framed = e; numbers = p; tags = q; same = refl }
 
 pub read-bears : (b : List ℕ) (expected : ℕ) (m : Message) → message_in (read_of b expected).answer ≡ some m → Bears b m
 read-bears b expected m h = go (outcome b)
@@ -404,8 +401,8 @@ module _ (b : List ℕ) (name fields : Span) (fill : Bool) where
         rw (text-moved b fields k t.text t.first, n) (go t.text (number_in t.text) refl)
       where
         go : (text : List ℕ) (x : Number) → number_in text ≡ x → NumberOrNot text (or_else 0 x)
-        go text NoNumber e = inr (λ k i. never-number k (sym e ∙ is_number text k i), refl)
-        go text (Is n) e = inl (number_is text n e)
+        go text None e = inr (λ k i. never-number k (sym e ∙ is_number text k i), refl)
+        go text (Some n) e = inl (number_is text n e)
 
   own : (kind : Kind) → wrong_numbers kind (fields_of run) ≡ false → wrong_tags kind (fields_of run) ≡ false
       → Own kind b pairs (message kind)
@@ -451,7 +448,7 @@ module _ (b : List ℕ) (name fields : Span) (fill : Bool) where
 
 -- ─── As the statement asks for it ───
 
-message-values : (b : List ℕ) (name fields : Span) → frame_of b ≡ Framed name fields
+message-values : (b : List ℕ) (name fields : Span) → frame_of b ≡ some_frame name fields
     → wrong_numbers (kind_of (text_at b name)) (fields_of (text_at b fields)) ≡ false
     → wrong_tags (kind_of (text_at b name)) (fields_of (text_at b fields)) ≡ false
     → Values b (pairs_of (text_at b fields)) (message_of b name fields)

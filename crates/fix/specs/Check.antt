@@ -1,11 +1,11 @@
 -- What is wrong with a message's fields (02, No. 12): 28, a number; 29, a required tag missing, it or the flag twice.
 use Rattle.std.specs.Prelude.{ℕ, ◌+◌, List, [], ◌∷◌, ◌++◌, Bool, true, false, cond, ◌&&◌, ◌||◌, not, ltb, eqb}
-use Rattle.fix.specs.declared.text.Number.{Number}
-use Rattle.fix.specs.declared.text.Number.TheVariants.{NoNumber, Is}
+use Rattle.fix.specs.Types.{Number}
 use Rattle.fix.specs.declared.kinds.Kind.{Kind}
 use Rattle.fix.specs.Text.{number_in, is_none}
 use Rattle.fix.specs.Kinds.{required, is_number_tag, is_resend}
 use Rattle.fix.specs.Fields.{Given, tags_of}
+use Rattle.std.specs.Prelude.{Some, None}
 
 -- ─── 28: a number ───
 
@@ -19,8 +19,8 @@ any_odd kind (f ∷ fs) = is_odd kind f || any_odd kind fs
 
 -- The numbers of all fields with a tag.
 abbrev pub number_then : Number → List ℕ → List ℕ
-number_then NoNumber l = l
-number_then (Is n) l = n ∷ l
+number_then None l = l
+number_then (Some n) l = n ∷ l
 
 abbrev pub numbers_at : ℕ → List Given → List ℕ
 numbers_at tag [] = []

@@ -2,12 +2,11 @@
 -- length that the field directly before it says, and may hold SOH; every other text goes up to the next SOH.
 use Rattle.std.specs.Prelude.{ℕ, zero, suc, ◌+◌, List, [], ◌∷◌, map, Bool, false, cond, ◌||◌, length, get_or, take, drop, ltb, eqb}
 use Rattle.ftd.specs.Bytes.{part}
-use Rattle.fix.specs.declared.text.Number.{Number}
-use Rattle.fix.specs.declared.text.Number.TheVariants.{NoNumber, Is}
+use Rattle.fix.specs.Types.{Number}
 use Rattle.fix.specs.declared.fields.Last.{Last}
-use Rattle.fix.specs.declared.fields.Front.{Front}
-use Rattle.fix.specs.declared.fields.Front.TheVariants.{NoField, Field}
 use Rattle.fix.specs.Text.{soh, equals, until, number_in, plain_in, or_else, is_yes}
+use Rattle.std.specs.Prelude.{Some, None}
+use Rattle.fix.specs.Types.{MaybeFront, some_front}
 
 -- ─── One field ───
 
@@ -29,19 +28,19 @@ text_length last tag rest =
     cond (eqb (length_tag tag) 0) (until soh rest) (cond (eqb (length_tag tag) last.tag) last.size 0)
 
 -- A text of n bytes from `start` on, at least one, with SOH behind it.
-unfoldable pub closed : ℕ → ℕ → ℕ → List ℕ → Front
+unfoldable pub closed : ℕ → ℕ → ℕ → List ℕ → MaybeFront
 closed tag start n l =
-    cond (eqb n 0) NoField (cond (eqb (get_or l (start + n) 0) soh) (Field tag start n) NoField)
+    cond (eqb n 0) None (cond (eqb (get_or l (start + n) 0) soh) (some_front tag start n) None)
 
 -- e bytes stand before the first `=`: a plain number.
-abbrev pub tagged : Last → List ℕ → ℕ → Number → Front
-tagged last l e NoNumber = NoField
-tagged last l e (Is tag) = closed tag (e + 1) (text_length last tag (drop (e + 1) l)) l
+abbrev pub tagged : Last → List ℕ → ℕ → Number → MaybeFront
+tagged last l e None = None
+tagged last l e (Some tag) = closed tag (e + 1) (text_length last tag (drop (e + 1) l)) l
 
 -- What stands at the front of some bytes: a field, its tag, and place and length of its text; or none.
-unfoldable pub front_of : Last → List ℕ → Front
+unfoldable pub front_of : Last → List ℕ → MaybeFront
 front_of last l =
-    cond (ltb (until equals l) (length l)) (tagged last l (until equals l) (plain_in (take (until equals l) l))) NoField
+    cond (ltb (until equals l) (length l)) (tagged last l (until equals l) (plain_in (take (until equals l) l))) None
 
 -- ─── The run ───
 
@@ -67,10 +66,10 @@ abbrev pub field_of : ℕ → ℕ → ℕ → List ℕ → Given
 field_of tag start n l = record { head = start; tag = tag; text = part l start n }
 
 -- One field is cut off, and `more` goes on behind it.
-abbrev pub cut_off : (Last → List ℕ → Cut) → List ℕ → Front → Cut
-cut_off more l NoField = record { fields = []; rest = l }
-cut_off more l (Field tag start n) =
-    in_front (field_of tag start n l) (more (last_of tag (part l start n)) (drop (start + n + 1) l))
+abbrev pub cut_off : (Last → List ℕ → Cut) → List ℕ → MaybeFront → Cut
+cut_off more l None = record { fields = []; rest = l }
+cut_off more l (Some found) =
+    in_front (field_of found.tag found.start found.len l) (more (last_of found.tag (part l found.start found.len)) (drop (found.start + found.len + 1) l))
 
 -- At most `most` fields.
 abbrev pub cut_in : ℕ → Last → List ℕ → Cut
@@ -95,31 +94,31 @@ fields_of run = (cut_of run).fields
 unfoldable pub is_whole : List ℕ → Bool
 is_whole run = ended (cut_of run)
 
--- ─── Field i, and the first field with a tag, in a list of fields that starts at `at` ───
+-- ─── some_front i, and the first field with a tag, in a list of fields that starts at `at` ───
 
--- `Field tag start len`: the place of the text.
-abbrev pub place_in : ℕ → List Given → ℕ → Front
-place_in at [] i = NoField
-place_in at (f ∷ fs) zero = Field f.tag (at + f.head) (length f.text)
+-- `some_front tag start len`: the place of the text.
+abbrev pub place_in : ℕ → List Given → ℕ → MaybeFront
+place_in at [] i = None
+place_in at (f ∷ fs) zero = some_front f.tag (at + f.head) (length f.text)
 place_in at (f ∷ fs) (suc i) = place_in (at + size_of f) fs i
 
-unfoldable pub place_of : List ℕ → ℕ → Front
+unfoldable pub place_of : List ℕ → ℕ → MaybeFront
 place_of run i = place_in 0 (fields_of run) i
 
 -- The text of field i, a part of the run; no bytes where there is no such field.
-abbrev pub part_at : List ℕ → Front → List ℕ
-part_at run NoField = []
-part_at run (Field tag start len) = part run start len
+abbrev pub part_at : List ℕ → MaybeFront → List ℕ
+part_at run None = []
+part_at run (Some found) = part run found.start found.len
 
 unfoldable pub text_of : List ℕ → ℕ → List ℕ
 text_of run i = part_at run (place_of run i)
 
-abbrev pub first_in : ℕ → List Given → ℕ → Front
-first_in at [] tag = NoField
+abbrev pub first_in : ℕ → List Given → ℕ → MaybeFront
+first_in at [] tag = None
 first_in at (f ∷ fs) tag =
-    cond (eqb f.tag tag) (Field f.tag (at + f.head) (length f.text)) (first_in (at + size_of f) fs tag)
+    cond (eqb f.tag tag) (some_front f.tag (at + f.head) (length f.text)) (first_in (at + size_of f) fs tag)
 
-unfoldable pub first_of : List ℕ → ℕ → Front
+unfoldable pub first_of : List ℕ → ℕ → MaybeFront
 first_of run tag = first_in 0 (fields_of run) tag
 
 -- ─── What fields say ───

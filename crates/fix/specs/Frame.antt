@@ -3,10 +3,10 @@
 use Rattle.std.specs.Prelude.{ℕ, ◌+◌, ◌-◌, ◌≤◌, List, [], ◌∷◌, ◌++◌, Bool, false, cond, ◌&&◌, not, length, take, drop, ltb, eqb}
 use Rattle.ftd.specs.Bytes.{part}
 use Rattle.ftd.specs.Packet.{span}
-use Rattle.fix.specs.declared.frame.Frame.{Frame}
-use Rattle.fix.specs.declared.frame.Frame.TheVariants.{NoFrame, Framed}
 use Rattle.fix.specs.Text.{soh, until, stands_at, sum_of, length_text, sum_text}
 use Rattle.fix.specs.Fields.{is_whole}
+use Rattle.std.specs.Prelude.{Some, None}
+use Rattle.fix.specs.Types.{MaybeFrame, some_frame}
 
 -- A frame has at most so many bytes.
 abbrev pub most_frame : ℕ
@@ -53,41 +53,41 @@ is_framed name run =
 -- ─── Read ───
 
 -- The type has t bytes, and stands behind `35=` at `start` in a body of so many bytes; the fields are behind it.
-unfoldable pub type_at : List ℕ → ℕ → ℕ → ℕ → Frame
+unfoldable pub type_at : List ℕ → ℕ → ℕ → ℕ → MaybeFrame
 type_at b start size t =
-    cond (eqb t 0) NoFrame
-    (cond (ltb size (4 + t)) NoFrame (Framed (span (start + 3) t) (span (start + 4 + t) (size - (4 + t)))))
+    cond (eqb t 0) None
+    (cond (ltb size (4 + t)) None (some_frame (span (start + 3) t) (span (start + 4 + t) (size - (4 + t)))))
 
 -- The body of so many bytes stands behind a length of n bytes.
-unfoldable pub body_at : List ℕ → ℕ → ℕ → Frame
+unfoldable pub body_at : List ℕ → ℕ → ℕ → MaybeFrame
 body_at b n size =
     cond (stands_at b 12 (length_text size ++ type_text))
     (cond (stands_at b (13 + n + size) (trailer (sum_of (take (13 + n + size) b))))
     (type_at b (13 + n) size (until soh (drop (16 + n) b)))
-    NoFrame)
-    NoFrame
+    None)
+    None
 
 -- The length has n bytes: up to the next SOH.
-unfoldable pub length_at : List ℕ → ℕ → Frame
-length_at b n = cond (ltb (length b) (24 + n)) NoFrame (body_at b n (length b - (20 + n)))
+unfoldable pub length_at : List ℕ → ℕ → MaybeFrame
+length_at b n = cond (ltb (length b) (24 + n)) None (body_at b n (length b - (20 + n)))
 
 -- All but that the fields have a cut.
-unfoldable pub outline_of : List ℕ → Frame
+unfoldable pub outline_of : List ℕ → MaybeFrame
 outline_of b =
-    cond (ltb most_frame (length b)) NoFrame
-    (cond (stands_at b 0 begin_text) (length_at b (until soh (drop 12 b))) NoFrame)
+    cond (ltb most_frame (length b)) None
+    (cond (stands_at b 0 begin_text) (length_at b (until soh (drop 12 b))) None)
 
-abbrev pub if_whole : List ℕ → Frame → Frame
-if_whole b NoFrame = NoFrame
-if_whole b (Framed name fields) =
-    cond (is_whole (part b fields.start fields.len)) (Framed name fields) NoFrame
+abbrev pub if_whole : List ℕ → MaybeFrame → MaybeFrame
+if_whole b None = None
+if_whole b (Some found) =
+    cond (is_whole (part b found.fields.start found.fields.len)) (some_frame found.name found.fields) None
 
 -- One whole frame: where its type and its fields stand.
-unfoldable pub frame_of : List ℕ → Frame
+unfoldable pub frame_of : List ℕ → MaybeFrame
 frame_of b = if_whole b (outline_of b)
 
 -- Both places lie inside.
-abbrev pub FrameInside : List ℕ → Frame → Type 0
-FrameInside b NoFrame = Unit
-FrameInside b (Framed name fields) =
-    (name.start + name.len ≤ length b) × (fields.start + fields.len ≤ length b)
+abbrev pub FrameInside : List ℕ → MaybeFrame → Type 0
+FrameInside b None = Unit
+FrameInside b (Some found) =
+    (found.name.start + found.name.len ≤ length b) × (found.fields.start + found.fields.len ≤ length b)

@@ -1,7 +1,6 @@
 -- The frame as pairs (002, 5.2): 8, 9, 35, the fields, 10; the length of all from 35 up to before 10, the byte sum
 -- modulo 256 in three digits, at most 4,096 bytes. Row 28 takes exactly such bytes for a frame, in writing too.
 use Rattle.std.specs.Prelude.{ℕ, ◌+◌, ◌/◌, ◌%◌, ◌≤◌, ◌≡◌, List, [], ◌∷◌, ◌++◌, true, length, drop}
-use Rattle.ftd.specs.declared.write.Written.TheVariants.{Bytes}
 use Rattle.fix.specs.Text.{total}
 use Rattle.fix.specs.Fields.{is_whole}
 use Rattle.fix.specs.Frame.{is_framed}
@@ -9,6 +8,7 @@ use Rattle.fix.specs.Write.{write_answer, write_output}
 use Rattle.fix.specs.RoundTrips.{text_at}
 use Rattle.fix.specs.Pairs.{pair, decimal, bytes_of, NoSoh}
 use Rattle.fix.specs.Rows.{Framing}
+use Rattle.std.specs.Prelude.{Ok}
 
 -- The type and the fields, a run of bytes.
 abbrev pub body_of : List ℕ → List ℕ → List ℕ
@@ -41,7 +41,7 @@ pub record FrameLayout : Type 0 where
       → (f : Framing (laid_out name run)) × (text_at (laid_out name run) f.name ≡ name)
       × (text_at (laid_out name run) f.fields ≡ run)
   -- What is written is laid out so; and the writer's first test passes exactly what fits.
-  pub written : (name run out : List ℕ) (n : ℕ) → write_answer name run (length out) ≡ Bytes n
+  pub written : (name run out : List ℕ) (n : ℕ) → write_answer name run (length out) ≡ Ok n
       → (n ≡ length (laid_out name run)) × (write_output name run out ≡ laid_out name run ++ drop n out)
   pub fits : (name run : List ℕ) → Fits name run → is_framed name run ≡ true
   pub fitted : (name run : List ℕ) → is_framed name run ≡ true → Fits name run

@@ -33,7 +33,8 @@ required Logout = session
 required Logon = session ++ (98 ∷ 108 ∷ [])
 required Other = 8 ∷ 9 ∷ 35 ∷ 34 ∷ 10 ∷ []
 
--- The tags of the type's own values: TestReqID; BeginSeqNo and EndSeqNo; NewSeqNo; EncryptMethod and HeartBtInt. 0: none.
+-- The tags of the type's own values: TestReqID; BeginSeqNo and EndSeqNo; NewSeqNo; EncryptMethod and HeartBtInt. 0:
+-- none.
 abbrev pub first_tag : Kind → ℕ
 first_tag Heartbeat = 0
 first_tag TestRequest = 112

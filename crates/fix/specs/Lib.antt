@@ -1,3 +1,4 @@
+pub mod Types
 pub mod Text
 pub mod Kinds
 pub mod Fields

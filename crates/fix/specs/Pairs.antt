@@ -3,15 +3,13 @@ use Rattle.std.specs.Prelude.{ℕ, zero, suc, ◌+◌, ◌*◌, ◌-◌, ◌/◌
 use Rattle.std.proofs.Math.Option.{Option, none, some}
 use Rattle.ftd.specs.Bytes.{part}
 use Rattle.ftd.specs.declared.packet.Span.{Span}
-use Rattle.ftd.specs.declared.write.Written.TheVariants.{Bytes}
-use Rattle.fix.specs.declared.fields.Front.{Front}
-use Rattle.fix.specs.declared.fields.Front.TheVariants.{NoField, Field}
-use Rattle.fix.specs.declared.frame.Frame.TheVariants.{Framed}
 use Rattle.fix.specs.Text.{letter}
 use Rattle.fix.specs.Fields.{Given, fields_of, is_whole, place_of, text_of, first_of}
 use Rattle.fix.specs.Frame.{frame_of}
 use Rattle.fix.specs.Write.{write_answer, write_output}
 use Rattle.fix.specs.RoundTrips.{text_at, ReadsAs}
+use Rattle.std.specs.Prelude.{Some, None, Ok}
+use Rattle.fix.specs.Types.{MaybeFront, some_frame}
 
 pub record Pair : Type 0 where
   pub tag : ℕ
@@ -110,11 +108,11 @@ first_with tag [] = none
 first_with tag (p ∷ ps) = cond (eqb p.tag tag) (some p) (first_with tag ps)
 
 -- A place in the run: that of the pair's text, with its tag; no field where there is no pair.
-abbrev pub IsAt : List ℕ → Option Pair → Front → Type 0
-IsAt run none NoField = Unit
-IsAt run none (Field tag start len) = ⊥
-IsAt run (some p) NoField = ⊥
-IsAt run (some p) (Field tag start len) = (tag ≡ p.tag) × (part run start len ≡ p.text)
+abbrev pub IsAt : List ℕ → Option Pair → MaybeFront → Type 0
+IsAt run none None = Unit
+IsAt run none (Some found) = ⊥
+IsAt run (some p) None = ⊥
+IsAt run (some p) (Some found) = (found.tag ≡ p.tag) × (part run found.start found.len ≡ p.text)
 
 abbrev pub text_or : Option Pair → List ℕ
 text_or none = []
@@ -126,7 +124,7 @@ text_or (some p) = p.text
 pub record HasPairs (b name : List ℕ) (ps : List Pair) : Type 0 where
   pub name_at : Span
   pub fields_at : Span
-  pub framed : frame_of b ≡ Framed name_at fields_at
+  pub framed : frame_of b ≡ some_frame name_at fields_at
   pub same_name : text_at b name_at ≡ name
   pub same_pairs : pairs_of (text_at b fields_at) ≡ ps
 
@@ -142,7 +140,7 @@ pub record PairLaws : Type 0 where
   pub first : (run : List ℕ) (tag : ℕ) → IsAt run (first_with tag (pairs_of run)) (first_of run tag)
   -- A frame written of such pairs is read back with them; one that is read, written of its pairs, is the same bytes.
   pub written : (name out : List ℕ) (ps : List Pair) (n : ℕ) → CanWrite no_pair ps
-      → write_answer name (bytes_of ps) (length out) ≡ Bytes n
+      → write_answer name (bytes_of ps) (length out) ≡ Ok n
       → HasPairs (take n (write_output name (bytes_of ps) out)) name ps
   pub again : (b name run out : List ℕ) → ReadsAs b name run → length b ≤ length out
       → write_output name (bytes_of (pairs_of run)) out ≡ b ++ drop (length b) out

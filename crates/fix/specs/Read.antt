@@ -6,10 +6,6 @@ use Rattle.ftd.specs.Packet.{span}
 use Rattle.ftd.specs.declared.packet.Span.{Span}
 use Rattle.ftd.specs.declared.refusal.Refusal.TheVariants.{NotOneFrame, RequiredTag, LowNumber}
 use Rattle.fix.specs.declared.kinds.Kind.{Kind}
-use Rattle.fix.specs.declared.fields.Front.{Front}
-use Rattle.fix.specs.declared.fields.Front.TheVariants.{NoField, Field}
-use Rattle.fix.specs.declared.frame.Frame.{Frame}
-use Rattle.fix.specs.declared.frame.Frame.TheVariants.{NoFrame, Framed}
 use Rattle.fix.specs.declared.read.Message.{Message}
 use Rattle.fix.specs.declared.read.Judged.{Judged}
 use Rattle.fix.specs.declared.read.Judged.TheVariants.{Refused, Next, Again, Gap, Reset}
@@ -18,13 +14,15 @@ use Rattle.fix.specs.Kinds.{kind_of, first_tag, second_tag, is_reset}
 use Rattle.fix.specs.Fields.{Given, fields_of, first_of, number_at, says_yes}
 use Rattle.fix.specs.Check.{wrong_numbers, wrong_tags}
 use Rattle.fix.specs.Frame.{frame_of}
+use Rattle.std.specs.Prelude.{Some, None}
+use Rattle.fix.specs.Types.{MaybeFront, MaybeFrame}
 
 -- ─── What comes with every answer but a refusal ───
 
 -- The place of a field's text, moved on; nothing where there is no field.
-abbrev pub moved_to : ℕ → Front → Span
-moved_to at NoField = span 0 0
-moved_to at (Field tag start len) = span (at + start) len
+abbrev pub moved_to : ℕ → MaybeFront → Span
+moved_to at None = span 0 0
+moved_to at (Some found) = span (at + found.start) found.len
 
 -- Kind and type; the fields behind 35 up to the one before 10; the number of 34; the type's own values as numbers (0
 -- where a test request's text is none), and the text of the first; whether 123 says Y.
@@ -81,10 +79,10 @@ checked_of m fs expected =
     (cond (wrong_tags m.kind fs) (reading expected (Refused RequiredTag))
     (judged_of m (says_yes 43 fs) expected))
 
-abbrev pub framed_of : List ℕ → ℕ → Frame → Reading
-framed_of b expected NoFrame = reading expected (Refused NotOneFrame)
-framed_of b expected (Framed name fields) =
-    checked_of (message_of b name fields) (fields_of (part b fields.start fields.len)) expected
+abbrev pub framed_of : List ℕ → ℕ → MaybeFrame → Reading
+framed_of b expected None = reading expected (Refused NotOneFrame)
+framed_of b expected (Some found) =
+    checked_of (message_of b found.name found.fields) (fields_of (part b found.fields.start found.fields.len)) expected
 
 unfoldable pub read_of : List ℕ → ℕ → Reading
 read_of b expected = framed_of b expected (frame_of b)

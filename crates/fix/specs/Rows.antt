@@ -4,11 +4,9 @@ use Rattle.std.specs.Prelude.{ℕ, ◌≤◌, ◌≡◌, ◌⊎◌, List, [], �
 use Rattle.std.proofs.Math.Option.{some}
 use Rattle.ftd.specs.declared.packet.Span.{Span}
 use Rattle.ftd.specs.declared.refusal.Refusal.TheVariants.{NotOneFrame, RequiredTag}
-use Rattle.ftd.specs.declared.write.Written.TheVariants.{Bytes}
 use Rattle.fix.specs.declared.kinds.Kind.{Kind}
 use Rattle.fix.specs.declared.kinds.Kind.TheVariants.{Heartbeat, TestRequest, ResendRequest, SequenceReset}
 use Rattle.fix.specs.declared.kinds.Kind.TheVariants.{Logout, Logon, Other}
-use Rattle.fix.specs.declared.frame.Frame.TheVariants.{NoFrame, Framed}
 use Rattle.fix.specs.declared.read.Message.{Message}
 use Rattle.fix.specs.declared.read.Judged.TheVariants.{Refused}
 use Rattle.fix.specs.Kinds.{kind_of}
@@ -18,6 +16,8 @@ use Rattle.fix.specs.Write.{write_answer, write_output}
 use Rattle.fix.specs.RoundTrips.{text_at}
 use Rattle.fix.specs.Pairs.{Pair, pair, pairs_of, bytes_of, IsNumber, CanWrite, no_pair}
 use Rattle.fix.specs.Values.{In, Without, Only}
+use Rattle.std.specs.Prelude.{None, Ok}
+use Rattle.fix.specs.Types.{some_frame}
 
 abbrev pub Among : ℕ → List ℕ → Type 0
 Among tag [] = ⊥
@@ -67,7 +67,7 @@ pub record TagsRight (kind : Kind) (ps : List Pair) : Type 0 where
 pub record Framing (b : List ℕ) : Type 0 where
   pub name : Span
   pub fields : Span
-  pub framed : frame_of b ≡ Framed name fields
+  pub framed : frame_of b ≡ some_frame name fields
 
 abbrev pub kind_in : (b : List ℕ) → Framing b → Kind
 kind_in b f = kind_of (text_at b f.name)
@@ -83,19 +83,19 @@ pub record Rows : Type 0 where
       → (f : Framing b) × NumbersRight (kind_in b f) (pairs_at b f) × TagsRight (kind_in b f) (pairs_at b f)
   -- 28: no frame, or a number is wrong; 29: a frame whose numbers are right and whose tags are not.
   pub row28 : (b : List ℕ) (expected : ℕ) → (read_of b expected).answer ≡ Refused NotOneFrame
-      → (frame_of b ≡ NoFrame) ⊎ ((f : Framing b) × (NumbersRight (kind_in b f) (pairs_at b f) → ⊥))
+      → (frame_of b ≡ None) ⊎ ((f : Framing b) × (NumbersRight (kind_in b f) (pairs_at b f) → ⊥))
   pub row29 : (b : List ℕ) (expected : ℕ) → (read_of b expected).answer ≡ Refused RequiredTag
       → (f : Framing b) × NumbersRight (kind_in b f) (pairs_at b f) × (TagsRight (kind_in b f) (pairs_at b f) → ⊥)
   -- In writing too: with room, exactly such type and fields are written.
-  pub written : (name run : List ℕ) (room n : ℕ) → write_answer name run room ≡ Bytes n
+  pub written : (name run : List ℕ) (room n : ℕ) → write_answer name run room ≡ Ok n
       → NumbersRight (kind_of name) (pairs_of run) × TagsRight (kind_of name) (pairs_of run)
   pub writes : (name run : List ℕ) (room : ℕ) → is_framed name run ≡ true → NumbersRight (kind_of name) (pairs_of run)
       → TagsRight (kind_of name) (pairs_of run) → length (frame_bytes name run) ≤ room
-      → write_answer name run room ≡ Bytes (length (frame_bytes name run))
+      → write_answer name run room ≡ Ok (length (frame_bytes name run))
   -- What is written of pairs is read as a message of this type with these pairs; with other numbers expected too
   -- (Judgement, any).
   pub back : (name out : List ℕ) (ps : List Pair) (n : ℕ) → CanWrite no_pair ps
-      → write_answer name (bytes_of ps) (length out) ≡ Bytes n
+      → write_answer name (bytes_of ps) (length out) ≡ Ok n
       → let b = take n (write_output name (bytes_of ps) out) in
       (m : Message) × (message_in (read_of b 0).answer ≡ some m) × (text_at b m.name ≡ name)
       × (pairs_of (text_at b m.fields) ≡ ps)

@@ -1,13 +1,13 @@
 -- What one walk over the fields keeps, for the code: nothing that is promised of a frame names it.
 use Rattle.std.specs.Prelude.{ℕ, List, [], ◌∷◌, Bool, true, false, cond, ◌&&◌, ◌||◌, not, ltb, eqb}
-use Rattle.fix.specs.declared.text.Number.{Number}
-use Rattle.fix.specs.declared.text.Number.TheVariants.{NoNumber, Is}
+use Rattle.fix.specs.Types.{Number}
 use Rattle.fix.specs.declared.kinds.Kind.{Kind}
 use Rattle.fix.specs.declared.tally.Tally.{Tally}
 use Rattle.fix.specs.declared.tally.Walked.{Walked}
 use Rattle.fix.specs.Text.{number_in, is_none, is_yes}
 use Rattle.fix.specs.Kinds.{is_number_tag, first_tag, second_tag, is_resend, is_other}
 use Rattle.fix.specs.Fields.{Given, cut_of, ended}
+use Rattle.std.specs.Prelude.{Some, None}
 
 -- 0, 1, or 2 for more.
 unfoldable pub one_more : ℕ → Bool → ℕ
@@ -15,15 +15,15 @@ one_more n hit = cond hit (cond (eqb n 0) 1 2) n
 
 -- The greater, and the lesser that isn't 0, where the field counts and is a number.
 abbrev pub greater_with : ℕ → Number → ℕ
-greater_with n NoNumber = n
-greater_with n (Is m) = cond (ltb n m) m n
+greater_with n None = n
+greater_with n (Some m) = cond (ltb n m) m n
 
 unfoldable pub greater : ℕ → Bool → Number → ℕ
 greater n hit x = cond hit (greater_with n x) n
 
 abbrev pub lesser_with : ℕ → Number → ℕ
-lesser_with n NoNumber = n
-lesser_with n (Is m) = cond (eqb m 0) n (cond (ltb m n) m n)
+lesser_with n None = n
+lesser_with n (Some m) = cond (eqb m 0) n (cond (ltb m n) m n)
 
 unfoldable pub lesser : ℕ → Bool → Number → ℕ
 lesser n hit x = cond hit (lesser_with n x) n

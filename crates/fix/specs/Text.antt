@@ -1,7 +1,7 @@
 -- Texts of JR/T 0087 (002, 5.1): the separators, numbers of 1 to 9 digits, and the sum of bytes.
 use Rattle.std.specs.Prelude.{ℕ, suc, ◌+◌, ◌*◌, ◌-◌, ◌/◌, ◌%◌, List, [], ◌∷◌, Bool, true, false, cond, ◌&&◌, length, get_or, drop, ltb, eqb}
-use Rattle.fix.specs.declared.text.Number.{Number}
-use Rattle.fix.specs.declared.text.Number.TheVariants.{NoNumber, Is}
+use Rattle.fix.specs.Types.{Number}
+use Rattle.std.specs.Prelude.{Some, None}
 
 -- The separator SOH, and `=`.
 abbrev pub soh : ℕ
@@ -28,24 +28,24 @@ stands_at l at w = begins (drop at l) w
 
 -- The digits, behind those that gave n.
 abbrev pub number_from : ℕ → List ℕ → Number
-number_from n [] = Is n
-number_from n (c ∷ l) = cond (ltb c 48) NoNumber (cond (ltb 57 c) NoNumber (number_from (n * 10 + (c - 48)) l))
+number_from n [] = Some n
+number_from n (c ∷ l) = cond (ltb c 48) None (cond (ltb 57 c) None (number_from (n * 10 + (c - 48)) l))
 
 unfoldable pub number_in : List ℕ → Number
-number_in l = cond (eqb (length l) 0) NoNumber (cond (ltb 9 (length l)) NoNumber (number_from 0 l))
+number_in l = cond (eqb (length l) 0) None (cond (ltb 9 (length l)) None (number_from 0 l))
 
 -- A plain number has no zero in front: tags.
 unfoldable pub plain_in : List ℕ → Number
-plain_in l = cond (eqb (get_or l 0 0) 48) NoNumber (number_in l)
+plain_in l = cond (eqb (get_or l 0 0) 48) None (number_in l)
 
 -- Its value, or another number where it is none.
 abbrev pub or_else : ℕ → Number → ℕ
-or_else d NoNumber = d
-or_else d (Is n) = n
+or_else d None = d
+or_else d (Some n) = n
 
 abbrev pub is_none : Number → Bool
-is_none NoNumber = true
-is_none (Is n) = false
+is_none None = true
+is_none (Some n) = false
 
 -- ─── The flag's text: exactly the one byte Y ───
 

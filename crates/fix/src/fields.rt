@@ -2,11 +2,15 @@
 // directly before it says.
 ghost use Rattle.std.specs.Prelude.{◌≡◌, ◌+◌, ◌-◌, ◌<◌, ◌≤◌, length, drop};
 ghost use Rattle.ftd.specs.Bytes.{part};
-ghost use Rattle.fix.specs.Fields.{length_tag, last_of, no_last, text_length, closed, front_of, place_of, text_of, first_of};
-ghost use Rattle.fix.specs.Fields.{fields_of, number_at};
+ghost use Rattle.fix.specs.Fields.{length_tag, last_of, no_last, text_length, closed, front_of, place_of, text_of};
+ghost use Rattle.fix.specs.Fields.{first_of, fields_of, number_at};
 ghost use Rattle.fix.specs.FieldPlaces.{FrontInside, PlaceInside};
 
-use crate::text::{Number, number_in, or_zero, plain_in, until};
+use crate::tags::{
+    ENCODED_TEXT, ENCODED_TEXT_LEN, RAW_DATA, RAW_DATA_LENGTH, SECURE_DATA, SECURE_DATA_LEN,
+    SIGNATURE, SIGNATURE_LENGTH,
+};
+use crate::text::{SOH, number_in, plain_in, until};
 use ftd::bytes::size32;
 
 // The field directly before: its tag, and the number that its text is, or 0.
@@ -18,28 +22,25 @@ pub(crate) struct Last {
 
 // A field: its tag, and place and length of its text.
 #[derive(Clone, Copy)]
-pub enum Front {
-    NoField,
-    Field { tag: u32, start: usize, len: usize },
+pub struct Front {
+    pub tag: u32,
+    pub start: usize,
+    pub len: usize,
 }
 
 // The length tag of a data tag; 0 for every other tag.
+// Stays: 0 for none is what `length_tag` of specs/Fields.antt says, and `no_last` for a field that none stands before.
+#[tactic(auto, unfolding(crate::specs::Fields::length_tag))]
 fn length_tag(tag: u32) -> u32
     ensures { result ≡ length_tag tag }
 {
-    if tag == 89 {
-        return 93;
+    match tag {
+        SIGNATURE => SIGNATURE_LENGTH,
+        SECURE_DATA => SECURE_DATA_LEN,
+        RAW_DATA => RAW_DATA_LENGTH,
+        ENCODED_TEXT => ENCODED_TEXT_LEN,
+        _ => 0,
     }
-    if tag == 91 {
-        return 90;
-    }
-    if tag == 96 {
-        return 95;
-    }
-    if tag == 355 {
-        return 354;
-    }
-    0
 }
 
 // No field stands before.
@@ -54,89 +55,72 @@ pub(crate) fn last_of(tag: u32, text: &[u8]) -> Last
     ensures { result ≡ last_of tag text.now }
 {
     Last {
-        tag: tag,
-        size: or_zero(number_in(text)),
+        tag,
+        size: number_in(text).unwrap_or(0),
     }
 }
 
 // How long the text is that stands from a place on; 0: there is none.
+// Stays: 0 for none is what `text_length` of specs/Fields.antt says.
+#[tactic(auto, unfolding(crate::specs::Fields::text_length))]
 fn text_length(last: Last, tag: u32, s: &[u8], at: usize) -> usize
     ensures { result ≡ text_length last tag (drop at s.now) }
 {
     let by = length_tag(tag);
     if by == 0 {
-        return until(s, at, 1);
+        until(s, at, SOH)
+    } else if by == last.tag {
+        size32(last.size)
+    } else {
+        0
     }
-    if by == last.tag {
-        return size32(last.size);
-    }
-    0
 }
 
 // A text of n bytes, at least one, from `start` on behind a place, with SOH behind it.
-fn closed_at(tag: u32, start: usize, n: usize, s: &[u8], at: usize) -> Front
+fn closed_at(tag: u32, start: usize, n: usize, s: &[u8], at: usize) -> Option<Front>
     requires { at + start ≤ length s.now }
     ensures { result ≡ closed tag start n (drop at s.now) }
 {
-    if n == 0 {
-        return Front::NoField;
+    if n == 0 || s.len() - at - start <= n || s[at + start + n] != SOH {
+        return None;
     }
-    if s.len() - at - start <= n {
-        return Front::NoField;
-    }
-    if s[at + start + n] == 1 {
-        return Front::Field {
-            tag: tag,
-            start: start,
-            len: n,
-        };
-    }
-    Front::NoField
+    Some(Front { tag, start, len: n })
 }
 
 // The field that stands at a place, behind another.
-pub(crate) fn front_at(last: Last, s: &[u8], at: usize) -> Front
+pub(crate) fn front_at(last: Last, s: &[u8], at: usize) -> Option<Front>
     requires { at ≤ length s.now }
     ensures { (result ≡ front_of last (drop at s.now)) × FrontInside (length s.now - at) result }
 {
-    let e = until(s, at, 61);
-    if e < s.len() - at {
-        let past = at + e;
-        match plain_in(&s[at..past]) {
-            Number::NoNumber => Front::NoField,
-            Number::Is(tag) => closed_at(tag, e + 1, text_length(last, tag, s, past + 1), s, at),
-        }
-    } else {
-        Front::NoField
+    let e = until(s, at, b'=');
+    if s.len() - at <= e {
+        return None;
     }
+    let past = at + e;
+    let tag = plain_in(&s[at..past])?;
+    closed_at(tag, e + 1, text_length(last, tag, s, past + 1), s, at)
 }
 
 // Field i of a run, counted from 0.
-pub fn find_field(run: &[u8], i: usize) -> Front
+pub fn find_field(run: &[u8], i: usize) -> Option<Front>
     ensures { (result ≡ place_of run.now i) × PlaceInside run.now result }
 {
     let mut at: usize = 0;
     let mut left = i;
     let mut last = no_last();
     loop {
-        match front_at(last, run, at) {
-            Front::NoField => {
-                return Front::NoField;
-            }
-            Front::Field { tag, start, len } => {
-                let from = at + start;
-                if left == 0 {
-                    return Front::Field {
-                        tag: tag,
-                        start: from,
-                        len: len,
-                    };
-                }
-                last = last_of(tag, &run[from..from + len]);
-                at = from + len + 1;
-                left -= 1;
-            }
+        let Front { tag, start, len } = front_at(last, run, at)?;
+        let from = at + start;
+        if left == 0 {
+            return Some(Front {
+                tag,
+                start: from,
+                len,
+            });
         }
+        last = last_of(tag, &run[from..from + len]);
+        at = from + len + 1;
+        left -= 1;
     }
 }
 
@@ -145,39 +129,28 @@ pub fn field_text(run: &[u8], i: usize) -> &[u8]
     ensures { result.now ≡ text_of run.now i }
 {
     match find_field(run, i) {
-        Front::NoField => &run[..0],
-        Front::Field { tag: _, start, len } => &run[start..start + len],
+        None => &run[..0],
+        Some(Front { start, len, .. }) => &run[start..start + len],
     }
 }
 
 // The first field of a run with a tag.
-pub fn first_field(run: &[u8], tag: u32) -> Front
+pub fn first_field(run: &[u8], tag: u32) -> Option<Front>
     ensures { (result ≡ first_of run.now tag) × PlaceInside run.now result }
 {
     let mut at: usize = 0;
     let mut last = no_last();
     loop {
-        match front_at(last, run, at) {
-            Front::NoField => {
-                return Front::NoField;
-            }
-            Front::Field {
-                tag: found,
-                start,
-                len,
-            } => {
-                let from = at + start;
-                if found == tag {
-                    return Front::Field {
-                        tag: found,
-                        start: from,
-                        len: len,
-                    };
-                }
-                last = last_of(found, &run[from..from + len]);
-                at = from + len + 1;
-            }
+        let front = front_at(last, run, at)?;
+        let from = at + front.start;
+        if front.tag == tag {
+            return Some(Front {
+                start: from,
+                ..front
+            });
         }
+        last = last_of(front.tag, &run[from..from + front.len]);
+        at = from + front.len + 1;
     }
 }
 
@@ -186,7 +159,7 @@ pub fn number_at(run: &[u8], tag: u32) -> u32
     ensures { (result ≡ number_at tag (fields_of run.now)) × (result ≤ 999999999) }
 {
     match first_field(run, tag) {
-        Front::NoField => 0,
-        Front::Field { tag: _, start, len } => or_zero(number_in(&run[start..start + len])),
+        None => 0,
+        Some(Front { start, len, .. }) => number_in(&run[start..start + len]).unwrap_or(0),
     }
 }

@@ -5,7 +5,7 @@ ghost use Rattle.fix.specs.Text.{stands_at, sum_of, length_text};
 ghost use Rattle.fix.specs.Frame.{begin_text, type_text, trailer, type_at, body_at, length_at, outline_of, FrameInside};
 ghost use Rattle.fix.specs.Frame.{is_name, body_length, body_bytes, summed, frame_bytes};
 
-use crate::text::{length_digits, put_length, put_sum, stands_at, sum_of, until};
+use crate::text::{SOH, length_digits, put_length, put_sum, stands_at, sum_of, until};
 use ftd::bytes::{copy_at, put8};
 use ftd::packet::Span;
 
@@ -16,9 +16,9 @@ pub const MOST_BODY: usize = 4072;
 
 // One whole frame: the places of its type and of its fields.
 #[derive(Clone, Copy)]
-pub enum Frame {
-    NoFrame,
-    Framed { name: Span, fields: Span },
+pub struct Frame {
+    pub name: Span,
+    pub fields: Span,
 }
 
 // `8=FIX.4.2` SOH `9=` stands at the front.
@@ -43,7 +43,7 @@ fn put_trailer(out: &mut [u8], at: usize, sum: u32)
 {
     copy_at(out, at, b"10=");
     put_sum(out, at + 3, sum);
-    put8(out, at + 6, 1);
+    put8(out, at + 6, SOH);
 }
 
 // A body length, SOH and `35=` stand behind `9=`.
@@ -68,17 +68,15 @@ fn has_trailer(b: &[u8], at: usize) -> bool
 }
 
 // The type of t bytes in a body of so many, and the fields behind it.
-fn type_at(b: &[u8], start: usize, size: usize, t: usize) -> Frame
+#[tactic(auto, unfolding(crate::specs::Frame::type_at))]
+fn type_at(b: &[u8], start: usize, size: usize, t: usize) -> Option<Frame>
     requires { (start + size ≤ length b.now) × (t ≤ length b.now) × (length b.now ≤ 4096) }
     ensures { (result ≡ type_at b.now start size t) × FrameInside b.now result }
 {
-    if t == 0 {
-        return Frame::NoFrame;
+    if t == 0 || size < 4 + t {
+        return None;
     }
-    if size < 4 + t {
-        return Frame::NoFrame;
-    }
-    Frame::Framed {
+    Some(Frame {
         name: Span {
             start: start + 3,
             len: t,
@@ -87,54 +85,50 @@ fn type_at(b: &[u8], start: usize, size: usize, t: usize) -> Frame
             start: start + 4 + t,
             len: size - (4 + t),
         },
-    }
+    })
 }
 
 // The body behind a length of n bytes.
-fn body_at(b: &[u8], n: usize, size: usize) -> Frame
+#[tactic(auto, unfolding(crate::specs::Frame::body_at))]
+fn body_at(b: &[u8], n: usize, size: usize) -> Option<Frame>
     requires { (20 + n + size ≤ length b.now) × (length b.now ≤ 4096) }
     ensures { (result ≡ body_at b.now n size) × FrameInside b.now result }
 {
-    if has_length(b, size) {
-        if has_trailer(b, 13 + n + size) {
-            return type_at(b, 13 + n, size, until(b, 16 + n, 1));
-        }
+    if has_length(b, size) && has_trailer(b, 13 + n + size) {
+        type_at(b, 13 + n, size, until(b, 16 + n, SOH))
+    } else {
+        None
     }
-    Frame::NoFrame
 }
 
 // The length of n bytes, up to the next SOH.
-fn length_at(b: &[u8], n: usize) -> Frame
+#[tactic(auto, unfolding(crate::specs::Frame::length_at))]
+fn length_at(b: &[u8], n: usize) -> Option<Frame>
     requires { (n ≤ length b.now) × (length b.now ≤ 4096) }
     ensures { (result ≡ length_at b.now n) × FrameInside b.now result }
 {
     if b.len() < 24 + n {
-        return Frame::NoFrame;
+        return None;
     }
     body_at(b, n, b.len() - (20 + n))
 }
 
 // All of a frame but that its fields have a cut.
-pub(crate) fn outline_of(b: &[u8]) -> Frame
+pub(crate) fn outline_of(b: &[u8]) -> Option<Frame>
     ensures { (result ≡ outline_of b.now) × FrameInside b.now result }
 {
-    if MOST_FRAME < b.len() {
-        return Frame::NoFrame;
+    if MOST_FRAME < b.len() || !begins_frame(b) {
+        return None;
     }
-    if begins_frame(b) {
-        return length_at(b, until(b, 12, 1));
-    }
-    Frame::NoFrame
+    length_at(b, until(b, 12, SOH))
 }
 
 // A type has a byte at least, and no SOH.
+#[tactic(auto, unfolding(crate::specs::Frame::is_name))]
 pub(crate) fn is_name(name: &[u8]) -> bool
     ensures { result ≡ is_name name.now }
 {
-    if name.len() == 0 {
-        return false;
-    }
-    until(name, 0, 1) == name.len()
+    !name.is_empty() && until(name, 0, SOH) == name.len()
 }
 
 // SOH `35=`, the type, SOH and the fields are put at a place.
@@ -145,13 +139,14 @@ fn put_body(out: &mut [u8], at: usize, name: &[u8], run: &[u8])
     let t = name.len();
     put_type(out, at);
     copy_at(out, at + 4, name);
-    put8(out, at + 4 + t, 1);
+    put8(out, at + 4 + t, SOH);
     copy_at(out, at + 5 + t, run);
 }
 
 // All before the trailer, at the start of the output; the length has n digits.
 fn put_summed(out: &mut [u8], size: usize, n: usize, name: &[u8], run: &[u8])
-    requires { (20 + n + size ≤ length out.old) × (size ≡ body_length name.now run.now) × (n ≡ length (length_text size)) }
+    requires { (20 + n + size ≤ length out.old) × (size ≡ body_length name.now run.now)
+        × (n ≡ length (length_text size)) }
     ensures { out.new ≡ put out.old 0 (summed name.now run.now) }
 {
     copy_at(out, 0, b"8=FIX.4.2\x019=");
@@ -161,7 +156,8 @@ fn put_summed(out: &mut [u8], size: usize, n: usize, name: &[u8], run: &[u8])
 
 // The frame of a type and fields, at the start of an output that has room for it.
 pub(crate) fn put_frame(out: &mut [u8], size: usize, n: usize, name: &[u8], run: &[u8])
-    requires { (20 + n + size ≤ length out.old) × (size ≡ body_length name.now run.now) × (n ≡ length (length_text size)) }
+    requires { (20 + n + size ≤ length out.old) × (size ≡ body_length name.now run.now)
+        × (n ≡ length (length_text size)) }
     ensures { out.new ≡ put out.old 0 (frame_bytes name.now run.now) }
 {
     let end = 13 + n + size;

@@ -15,6 +15,7 @@ ghost use Rattle.fix.specs.Rows.{Rows};
 ghost use Rattle.fix.specs.FrameLayout.{FrameLayout};
 
 pub mod text; // separators, numbers, sums
+mod tags; // tags by their names
 pub mod kinds; // the six types
 pub mod fields; // a run of fields
 pub mod tally; // what one walk over the fields keeps

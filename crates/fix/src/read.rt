@@ -1,6 +1,6 @@
 // A frame read with the expected number: next, again, gap, reset, or refused.
+ghost use Rattle.fix.specs.Types.{some_frame};
 ghost use Rattle.std.specs.Prelude.{◌≡◌, ◌+◌, ◌≤◌, length};
-ghost use Rattle.fix.specs.declared.frame.Frame.TheVariants.{Framed};
 ghost use Rattle.fix.specs.Frame.{if_whole};
 ghost use Rattle.fix.specs.Read.{moved_to, message_with, numbered_of, judged_of, framed_of, read_of, reading};
 ghost use Rattle.fix.specs.declared.read.Judged.TheVariants.{Refused as Turned};
@@ -9,6 +9,7 @@ ghost use Rattle.fix.specs.FieldPlaces.{MovesIn};
 use crate::fields::{Front, first_field, number_at};
 use crate::frame::{Frame, outline_of};
 use crate::kinds::{Kind, first_tag, is_reset, kind_of, second_tag};
+use crate::tags::MSG_SEQ_NUM;
 use crate::tally::{numbers_wrong, tags_wrong, walk};
 use ftd::packet::Span;
 use ftd::refusal::Refusal;
@@ -49,21 +50,22 @@ fn refused(expected: u32, r: Refusal) -> Reading
     ensures { result ≡ reading expected (Turned r) }
 {
     Reading {
-        expected: expected,
+        expected,
         answer: Judged::Refused(r),
     }
 }
 
 // The place of a field's text in the whole bytes.
-fn moved(at: usize, f: Front) -> Span
+// Stays: place 0 and length 0 for no field is what `moved_to` of specs/Read.antt says.
+fn moved(at: usize, f: Option<Front>) -> Span
     requires { MovesIn at f }
     ensures { result ≡ moved_to at f }
 {
     match f {
-        Front::NoField => Span { start: 0, len: 0 },
-        Front::Field { tag: _, start, len } => Span {
+        None => Span { start: 0, len: 0 },
+        Some(Front { start, len, .. }) => Span {
             start: at + start,
-            len: len,
+            len,
         },
     }
 }
@@ -78,19 +80,19 @@ fn message_of(b: &[u8], name: Span, fields: Span, kind: Kind, fill: bool) -> Mes
     let run = &b[start..end];
     let one = first_tag(kind);
     let two = second_tag(kind);
-    let number = number_at(run, 34);
+    let number = number_at(run, MSG_SEQ_NUM);
     let first = number_at(run, one);
     let second = number_at(run, two);
     let text = moved(start, first_field(run, one));
     Message {
-        kind: kind,
-        name: name,
-        fields: fields,
-        number: number,
-        first: first,
-        second: second,
-        text: text,
-        fill: fill,
+        kind,
+        name,
+        fields,
+        number,
+        first,
+        second,
+        text,
+        fill,
     }
 }
 
@@ -99,13 +101,9 @@ fn judge(m: Message, duplicate: bool, expected: u32) -> Reading
     requires { m.number ≤ 999999999 }
     ensures { result ≡ judged_of m duplicate expected }
 {
-    let kind = m.kind;
-    if is_reset(kind) {
-        if m.fill {
-            return numbered(m, duplicate, expected);
-        }
+    if is_reset(m.kind) && !m.fill {
         return Reading {
-            expected: expected,
+            expected,
             answer: Judged::Reset(m),
         };
     }
@@ -124,13 +122,13 @@ fn numbered(m: Message, duplicate: bool, expected: u32) -> Reading
     }
     if expected < m.number {
         return Reading {
-            expected: expected,
+            expected,
             answer: Judged::Gap(m),
         };
     }
     if duplicate {
         return Reading {
-            expected: expected,
+            expected,
             answer: Judged::Again(m),
         };
     }
@@ -140,7 +138,7 @@ fn numbered(m: Message, duplicate: bool, expected: u32) -> Reading
 // The frame's fields: 28, 29, then the judgement.
 fn read_framed(b: &[u8], name: Span, fields: Span, expected: u32) -> Reading
     requires { (name.start + name.len ≤ length b.now) × (fields.start + fields.len ≤ length b.now) }
-    ensures { result ≡ framed_of b.now expected (if_whole b.now (Framed name fields)) }
+    ensures { result ≡ framed_of b.now expected (if_whole b.now (some_frame name fields)) }
 {
     let from = name.start;
     let past = from + name.len;
@@ -148,27 +146,22 @@ fn read_framed(b: &[u8], name: Span, fields: Span, expected: u32) -> Reading
     let start = fields.start;
     let end = start + fields.len;
     let w = walk(&b[start..end], kind);
-    let whole = w.whole;
-    let t = w.tally;
-    if whole {
-        if numbers_wrong(kind, t) {
-            return refused(expected, Refusal::NotOneFrame);
-        }
-        if tags_wrong(kind, t) {
-            return refused(expected, Refusal::RequiredTag);
-        }
-        let m = message_of(b, name, fields, kind, t.fill);
-        return judge(m, t.duplicate, expected);
+    if !w.whole || numbers_wrong(kind, w.tally) {
+        return refused(expected, Refusal::NotOneFrame);
     }
-    refused(expected, Refusal::NotOneFrame)
+    if tags_wrong(kind, w.tally) {
+        return refused(expected, Refusal::RequiredTag);
+    }
+    let m = message_of(b, name, fields, kind, w.tally.fill);
+    judge(m, w.tally.duplicate, expected)
 }
 
 // One frame, read with the expected number.
 pub fn read(b: &[u8], expected: u32) -> Reading
     ensures { result ≡ read_of b.now expected }
 {
-    match outline_of(b) {
-        Frame::NoFrame => refused(expected, Refusal::NotOneFrame),
-        Frame::Framed { name, fields } => read_framed(b, name, fields, expected),
-    }
+    let Some(Frame { name, fields }) = outline_of(b) else {
+        return refused(expected, Refusal::NotOneFrame);
+    };
+    read_framed(b, name, fields, expected)
 }

@@ -1,15 +1,19 @@
 // What one walk over the fields of a message keeps: whether numbers are wrong, and how often tags occur.
 ghost use Rattle.std.specs.Prelude.{◌≡◌, ◌&&◌, ◌≤◌};
-ghost use Rattle.fix.specs.Text.{is_none};
 ghost use Rattle.fix.specs.Kinds.{is_number_tag};
 ghost use Rattle.fix.specs.Tally.{one_more, greater_with, greater as greater_of, lesser_with, lesser as lesser_of};
 ghost use Rattle.fix.specs.Tally.{is_frame_tag, no_tally, tallied_with};
 ghost use Rattle.fix.specs.Tally.{walked_of, numbers_wrong, is_own_wrong, session_wrong, tags_wrong};
 
 use crate::fields::{Front, front_at, last_of, no_last};
-use crate::kinds::{Kind, either, first_tag, is_number_tag, is_other, is_resend, second_tag};
-use crate::text::{Number, is_yes, number_in};
+use crate::kinds::{Kind, first_tag, is_number_tag, is_other, is_resend, second_tag};
+use crate::tags::{
+    BEGIN_SEQ_NO, BEGIN_STRING, BODY_LENGTH, CHECK_SUM, END_SEQ_NO, GAP_FILL_FLAG, MSG_SEQ_NUM,
+    MSG_TYPE, POSS_DUP_FLAG, SENDER_COMP_ID, SENDING_TIME, TARGET_COMP_ID,
+};
+use crate::text::{is_yes, number_in};
 
+// Stays: 2 for more is what `one_more` of specs/Tally.antt says, and 1,000,000,000 for no last number `no_tally`.
 // How often tags occur is 0, 1, or 2 for more; of the range of a resend request the greatest first number and the least
 // last one that isn't 0.
 #[derive(Clone, Copy)]
@@ -56,118 +60,77 @@ fn no_tally() -> Tally
     }
 }
 
-fn both(a: bool, b: bool) -> bool
-    ensures { result ≡ (a && b) }
-{
-    if a {
-        return b;
-    }
-    false
-}
-
+#[tactic(auto, unfolding(crate::specs::Tally::one_more))]
 fn one_more(n: u8, hit: bool) -> u8
     ensures { result ≡ one_more n hit }
 {
-    if hit {
-        if n == 0 {
-            return 1;
-        }
-        return 2;
+    if !hit {
+        n
+    } else if n == 0 {
+        1
+    } else {
+        2
     }
-    n
 }
 
-fn greater_with(n: u32, x: Number) -> u32
+fn greater_with(n: u32, x: Option<u32>) -> u32
     ensures { result ≡ greater_with n x }
 {
     match x {
-        Number::NoNumber => n,
-        Number::Is(m) => {
-            if n < m {
-                return m;
-            }
-            n
-        }
+        None => n,
+        Some(m) => n.max(m),
     }
 }
 
-fn greater(n: u32, hit: bool, x: Number) -> u32
+#[tactic(auto, unfolding(crate::specs::Tally::greater))]
+fn greater(n: u32, hit: bool, x: Option<u32>) -> u32
     ensures { result ≡ greater_of n hit x }
 {
-    if hit {
-        return greater_with(n, x);
-    }
-    n
+    if hit { greater_with(n, x) } else { n }
 }
 
-fn lesser_with(n: u32, x: Number) -> u32
+fn lesser_with(n: u32, x: Option<u32>) -> u32
     ensures { result ≡ lesser_with n x }
 {
     match x {
-        Number::NoNumber => n,
-        Number::Is(m) => {
-            if m == 0 {
-                return n;
-            }
-            if m < n {
-                return m;
-            }
-            n
-        }
+        None | Some(0) => n,
+        Some(m) => n.min(m),
     }
 }
 
-fn lesser(n: u32, hit: bool, x: Number) -> u32
+#[tactic(auto, unfolding(crate::specs::Tally::lesser))]
+fn lesser(n: u32, hit: bool, x: Option<u32>) -> u32
     ensures { result ≡ lesser_of n hit x }
 {
-    if hit {
-        return lesser_with(n, x);
-    }
-    n
+    if hit { lesser_with(n, x) } else { n }
 }
 
+#[tactic(auto, unfolding(crate::specs::Tally::is_frame_tag))]
 fn is_frame_tag(tag: u32) -> bool
     ensures { result ≡ is_frame_tag tag }
 {
-    if tag == 8 {
-        return true;
-    }
-    if tag == 9 {
-        return true;
-    }
-    if tag == 35 {
-        return true;
-    }
-    tag == 10
-}
-
-fn is_none(x: Number) -> bool
-    ensures { result ≡ is_none x }
-{
-    match x {
-        Number::NoNumber => true,
-        Number::Is(_) => false,
-    }
+    matches!(tag, BEGIN_STRING | BODY_LENGTH | MSG_TYPE | CHECK_SUM)
 }
 
 // One field more, by its tag, its text as a number, and whether it says Y.
-fn tallied(kind: Kind, t: Tally, tag: u32, x: Number, yes: bool) -> Tally
+#[tactic(auto, unfolding(crate::specs::Tally::tallied_with))]
+fn tallied(kind: Kind, t: Tally, tag: u32, x: Option<u32>, yes: bool) -> Tally
     ensures { result ≡ tallied_with kind t tag x yes }
 {
     Tally {
-        odd: either(t.odd, both(is_number_tag(kind, tag), is_none(x))),
-        frame: either(t.frame, is_frame_tag(tag)),
-        sender: one_more(t.sender, tag == 49),
-        target: one_more(t.target, tag == 56),
-        number: one_more(t.number, tag == 34),
-        time: one_more(t.time, tag == 52),
+        odd: t.odd || (is_number_tag(kind, tag) && x.is_none()),
+        frame: t.frame || is_frame_tag(tag),
+        sender: one_more(t.sender, tag == SENDER_COMP_ID),
+        target: one_more(t.target, tag == TARGET_COMP_ID),
+        number: one_more(t.number, tag == MSG_SEQ_NUM),
+        time: one_more(t.time, tag == SENDING_TIME),
         one: one_more(t.one, tag == first_tag(kind)),
         two: one_more(t.two, tag == second_tag(kind)),
-        flag: one_more(t.flag, tag == 43),
-        duplicate: either(t.duplicate, both(tag == 43, yes)),
-        fill: either(t.fill, both(tag == 123, yes)),
-        first: greater(t.first, tag == 7, x),
-        last: lesser(t.last, tag == 16, x),
+        flag: one_more(t.flag, tag == POSS_DUP_FLAG),
+        duplicate: t.duplicate || (tag == POSS_DUP_FLAG && yes),
+        fill: t.fill || (tag == GAP_FILL_FLAG && yes),
+        first: greater(t.first, tag == BEGIN_SEQ_NO, x),
+        last: lesser(t.last, tag == END_SEQ_NO, x),
     }
 }
 
@@ -179,86 +142,53 @@ pub(crate) fn walk(run: &[u8], kind: Kind) -> Walked
     let mut last = no_last();
     let mut tally = no_tally();
     loop {
-        match front_at(last, run, at) {
-            Front::NoField => {
-                return Walked {
-                    whole: at == run.len(),
-                    tally: tally,
-                };
-            }
-            Front::Field { tag, start, len } => {
-                let from = at + start;
-                let to = from + len;
-                tally = tallied(
-                    kind,
-                    tally,
-                    tag,
-                    number_in(&run[from..to]),
-                    is_yes(&run[from..to]),
-                );
-                last = last_of(tag, &run[from..to]);
-                at = to + 1;
-            }
-        }
+        let Some(Front { tag, start, len }) = front_at(last, run, at) else {
+            return Walked {
+                whole: at == run.len(),
+                tally,
+            };
+        };
+        let from = at + start;
+        let to = from + len;
+        let text = &run[from..to];
+        tally = tallied(kind, tally, tag, number_in(text), is_yes(text));
+        last = last_of(tag, text);
+        at = to + 1;
     }
 }
 
 // 28: a number that is none, or a wrong range.
+#[tactic(auto, unfolding(crate::specs::Tally::numbers_wrong))]
 pub(crate) fn numbers_wrong(kind: Kind, t: Tally) -> bool
     ensures { result ≡ numbers_wrong kind t }
 {
-    if t.odd {
-        return true;
-    }
-    if is_resend(kind) {
-        return t.last < t.first;
-    }
-    false
+    t.odd || (is_resend(kind) && t.last < t.first)
 }
 
+#[tactic(auto, unfolding(crate::specs::Tally::is_own_wrong))]
 fn is_own_wrong(tag: u32, n: u8) -> bool
     ensures { result ≡ is_own_wrong tag n }
 {
-    if tag == 0 {
-        return false;
-    }
-    if n == 1 {
-        return false;
-    }
-    true
+    tag != 0 && n != 1
 }
 
+#[tactic(auto, unfolding(crate::specs::Tally::session_wrong))]
 fn session_wrong(kind: Kind, t: Tally) -> bool
     ensures { result ≡ session_wrong kind t }
 {
     if is_other(kind) {
         return false;
     }
-    if t.sender == 1 {
-        if t.target == 1 {
-            if t.time == 1 {
-                if is_own_wrong(first_tag(kind), t.one) {
-                    return true;
-                }
-                return is_own_wrong(second_tag(kind), t.two);
-            }
-        }
+    if t.sender != 1 || t.target != 1 || t.time != 1 {
+        return true;
     }
-    true
+    is_own_wrong(first_tag(kind), t.one) || is_own_wrong(second_tag(kind), t.two)
 }
 
 // 29: a required tag missing, it or the flag twice.
+#[tactic(auto, unfolding(crate::specs::Tally::tags_wrong))]
 pub(crate) fn tags_wrong(kind: Kind, t: Tally) -> bool
     ensures { result ≡ tags_wrong kind t }
 {
-    if t.frame {
-        return true;
-    }
-    if t.number == 1 {
-        if 1 < t.flag {
-            return true;
-        }
-        return session_wrong(kind, t);
-    }
-    true
+    t.frame || t.number != 1 || 1 < t.flag || session_wrong(kind, t)
 }

@@ -1,10 +1,10 @@
 // Frames of JR/T 0087 (request No. 12): makes the calls of standard input, and prints a line for each, the call and
-// behind `->` what it answers, with every value. A call is a letter, a length of four bytes and that many bytes, of which
-// the first four are a number: `r`, an expected number and bytes to read; `w`, the length of an output, a digit, a type
-// of so many bytes and a run of fields to write; `i`, an index and a run; `t`, a tag and a run.
+// behind `->` what it answers, with every value. A call is a letter, a length of four bytes and that many bytes, of
+// which the first four are a number: `r`, an expected number and bytes to read; `w`, the length of an output, a digit,
+// a type of so many bytes and a run of fields to write; `i`, an index and a run; `t`, a tag and a run.
 #![tactic(auto)]
 
-ghost use Rattle.std.specs.Prelude.{◌≤◌, length};
+ghost use Rattle.std.specs.Prelude.{IfSome, ◌<◌, ◌≤◌, length};
 
 use fix::fields::{Front, field_text, find_field, first_field, number_at};
 use fix::kinds::Kind;
@@ -12,7 +12,7 @@ use fix::read::{Judged, Message, read};
 use fix::write::write;
 use ftd::bytes::{be32, size8, size32};
 use ftd::refusal::{Refusal, number};
-use ftd::write::Written;
+use ftd::write::WriteError;
 use std::io;
 use streams::read_full;
 
@@ -28,35 +28,26 @@ fn print_number(rt: &impl Print, before: u8, n: usize) -> io::Result<()> {
 
 // A byte of a text: `|` for the separator, its number behind a `\` for what can't be printed.
 fn print_byte(rt: &impl Print, b: u8) -> io::Result<()> {
-    if b == 1 {
-        return print(rt, b"|");
+    match b {
+        1 => print(rt, b"|"),
+        b' '..=b'~' => print(rt, &[b]),
+        _ => print_number(rt, b'\\', size8(b)),
     }
-    if 31 < b {
-        if b < 127 {
-            return print(rt, &[b]);
-        }
-    }
-    print_number(rt, b'\\', size8(b))
 }
 
 fn print_text(rt: &impl Print, text: &[u8]) -> io::Result<()> {
-    let mut i: usize = 0;
-    while i < text.len() {
-        print_byte(rt, text[i])?;
-        i += 1;
+    for &b in text {
+        print_byte(rt, b)?;
     }
     Ok(())
 }
 
 // A part of some bytes by its place; nothing where they don't have it.
 fn part(bytes: &[u8], start: usize, len: usize) -> &[u8] {
-    if bytes.len() < start {
+    let Some(rest) = bytes.get(start..) else {
         return &bytes[..0];
-    }
-    if bytes.len() - start < len {
-        return &bytes[..0];
-    }
-    &bytes[start..start + len]
+    };
+    rest.get(..len).unwrap_or(&bytes[..0])
 }
 
 // A place behind a byte, and the text that stands there.
@@ -74,14 +65,12 @@ fn print_part(
 }
 
 // A field of a run: its tag, and place and bytes of its text.
-fn print_field(rt: &impl Print, run: &[u8], found: Front) -> io::Result<()> {
-    match found {
-        Front::NoField => print(rt, b" none"),
-        Front::Field { tag, start, len } => {
-            print_number(rt, b' ', size32(tag))?;
-            print_part(rt, b'@', run, start, len)
-        }
-    }
+fn print_field(rt: &impl Print, run: &[u8], found: Option<Front>) -> io::Result<()> {
+    let Some(Front { tag, start, len }) = found else {
+        return print(rt, b" none");
+    };
+    print_number(rt, b' ', size32(tag))?;
+    print_part(rt, b'@', run, start, len)
 }
 
 // The letter of one of the six types: heartbeat, test request, resend request, sequence reset, logout, logon.
@@ -97,40 +86,18 @@ fn letter(kind: Kind) -> u8 {
     }
 }
 
-fn gap_fill(fill: bool) -> usize {
-    if fill { 1 } else { 0 }
-}
-
-// How a frame is judged, by the word's first letter.
-fn print_judgement(rt: &impl Print, judged: u8) -> io::Result<()> {
-    if judged == b'n' {
-        return print(rt, b" next ");
-    }
-    if judged == b'a' {
-        return print(rt, b" again ");
-    }
-    if judged == b'g' {
-        return print(rt, b" gap ");
-    }
-    print(rt, b" reset ")
-}
-
-// What a frame says: which type, and its place; the number, the type's own values, and gap fill or not; the text of the
-// first value, and the fields.
-fn print_message(rt: &impl Print, judged: u8, bytes: &[u8], m: Message) -> io::Result<()> {
-    let kind = m.kind;
-    let name = m.name;
-    let fields = m.fields;
-    let text = m.text;
-    print_judgement(rt, judged)?;
-    print_byte(rt, letter(kind))?;
-    print_part(rt, b'@', bytes, name.start, name.len)?;
+// How a frame is judged, and what it says: which type, and its place; the number, the type's own values, and gap fill
+// or not; the text of the first value, and the fields.
+fn print_message(rt: &impl Print, judged: &[u8], bytes: &[u8], m: Message) -> io::Result<()> {
+    print(rt, judged)?;
+    print_byte(rt, letter(m.kind))?;
+    print_part(rt, b'@', bytes, m.name.start, m.name.len)?;
     print_number(rt, b' ', size32(m.number))?;
     print_number(rt, b'/', size32(m.first))?;
     print_number(rt, b'/', size32(m.second))?;
-    print_number(rt, b'/', gap_fill(m.fill))?;
-    print_part(rt, b' ', bytes, text.start, text.len)?;
-    print_part(rt, b' ', bytes, fields.start, fields.len)
+    print_number(rt, b'/', usize::from(m.fill))?;
+    print_part(rt, b' ', bytes, m.text.start, m.text.len)?;
+    print_part(rt, b' ', bytes, m.fields.start, m.fields.len)
 }
 
 fn print_refusal(rt: &impl Print, r: Refusal) -> io::Result<()> {
@@ -141,28 +108,27 @@ fn print_refusal(rt: &impl Print, r: Refusal) -> io::Result<()> {
 fn print_judged(rt: &impl Print, bytes: &[u8], answer: Judged) -> io::Result<()> {
     match answer {
         Judged::Refused(r) => print_refusal(rt, r),
-        Judged::Next(m) => print_message(rt, b'n', bytes, m),
-        Judged::Again(m) => print_message(rt, b'a', bytes, m),
-        Judged::Gap(m) => print_message(rt, b'g', bytes, m),
-        Judged::Reset(m) => print_message(rt, b'r', bytes, m),
+        Judged::Next(m) => print_message(rt, b" next ", bytes, m),
+        Judged::Again(m) => print_message(rt, b" again ", bytes, m),
+        Judged::Gap(m) => print_message(rt, b" gap ", bytes, m),
+        Judged::Reset(m) => print_message(rt, b" reset ", bytes, m),
     }
 }
 
 // The expected number then, and the answer.
 fn print_read(rt: &impl Print, expected: u32, bytes: &[u8]) -> io::Result<()> {
     let reading = read(bytes, expected);
-    let answer = reading.answer;
     print_number(rt, b' ', size32(reading.expected))?;
-    print_judged(rt, bytes, answer)
+    print_judged(rt, bytes, reading.answer)
 }
 
-fn print_written(rt: &impl Print, answer: Written) -> io::Result<()> {
+fn print_written(rt: &impl Print, answer: Result<usize, WriteError>) -> io::Result<()> {
     match answer {
-        Written::Bytes(n) => {
+        Ok(n) => {
             print(rt, b" written")?;
             print_number(rt, b' ', n)
         }
-        Written::Refused(r) => print_refusal(rt, r),
+        Err(WriteError::Refused(r)) => print_refusal(rt, r),
         _ => Ok(()),
     }
 }
@@ -186,15 +152,12 @@ fn write_in(
     if buffer.len() < room {
         return Ok(());
     }
-    print_output(rt, name, run, &mut buffer[0..room])
+    print_output(rt, name, run, &mut buffer[..room])
 }
 
 // A type and a run behind the type's length, into an output of so many zeros, at most 65,536.
 fn print_write(rt: &impl Print, room: u32, bytes: &[u8]) -> io::Result<()> {
-    if bytes.len() == 0 {
-        return Ok(());
-    }
-    if bytes[0] < b'0' {
+    if bytes.is_empty() || bytes[0] < b'0' {
         return Ok(());
     }
     let past = 1 + size8(bytes[0] - b'0');
@@ -232,16 +195,12 @@ fn print_call(rt: &impl Print, kind: u8, n: u32, bytes: &[u8]) -> io::Result<()>
 }
 
 fn answer(rt: &impl Print, kind: u8, n: u32, bytes: &[u8]) -> io::Result<()> {
-    if kind == b'r' {
-        return print_read(rt, n, bytes);
+    match kind {
+        b'r' => print_read(rt, n, bytes),
+        b'w' => print_write(rt, n, bytes),
+        b'i' => print_index(rt, n, bytes),
+        _ => print_first(rt, n, bytes),
     }
-    if kind == b'w' {
-        return print_write(rt, n, bytes);
-    }
-    if kind == b'i' {
-        return print_index(rt, n, bytes);
-    }
-    print_first(rt, n, bytes)
 }
 
 // A call: its letter, its length, its number and what is behind it.
@@ -255,31 +214,28 @@ fn call(rt: &impl Print, bytes: &[u8]) -> io::Result<()> {
     print(rt, b"\n")
 }
 
-// How many bytes the call at the front has; 0 where no whole call stands there.
-fn call_size(input: &[u8]) -> usize
-    ensures { result ≤ length input.now }
+// How many bytes the call at the front has; none where no whole call stands there.
+fn call_size(input: &[u8]) -> Option<usize>
+    ensures { IfSome result (λ n. (0 < n) × (n ≤ length input.now)) }
 {
     if input.len() < 5 {
-        return 0;
+        return None;
     }
     let n = size32(be32(input, 1));
     if input.len() - 5 < n {
-        return 0;
+        return None;
     }
-    5 + n
+    Some(5 + n)
 }
 
 // All calls of some bytes.
 fn calls(rt: &impl Print, input: &[u8]) -> io::Result<()> {
     let mut rest = input;
-    loop {
-        let n = call_size(rest);
-        if n == 0 {
-            return Ok(());
-        }
-        call(rt, &rest[0..n])?;
+    while let Some(n) = call_size(rest) {
+        call(rt, &rest[..n])?;
         rest = &rest[n..];
     }
+    Ok(())
 }
 
 fn main(rt: HostRuntime) -> io::Result<()> {

@@ -15,20 +15,11 @@ use Rattle.ftd.specs.Chain.{packets_of, pieces_of, overhead_of, overhead, most_p
 use Rattle.ftd.specs.Refusal.{number_of}
 use Rattle.ftd.specs.declared.chain.Message.{Message}
 use Rattle.ftd.specs.declared.refusal.Refusal.TheVariants.{TooSmall}
-use Rattle.ftd.specs.declared.tags.TradeDate.{TradeDate}
-use Rattle.ftd.specs.declared.tags.TradeDate.TheVariants.{None, At}
+use Rattle.ftd.specs.Types.{TradeDate}
 use Rattle.ftd.proofs.chain.Laws.{chain_laws}
 use Rattle.ftd.proofs.chain.Pieces.{shaped-facts}
 use Rattle.flow.specs.declared.sender.Sender.{Sender}
-use Rattle.flow.specs.declared.sender.Published.{Published}
-use Rattle.flow.specs.declared.sender.Published.TheVariants.{Number}
-use Rattle.flow.specs.declared.sender.Published.TheVariants.{Refused as NotPublished}
-use Rattle.flow.specs.declared.sender.Sent.{Sent}
-use Rattle.flow.specs.declared.sender.Sent.TheVariants.{Drained, Wrote, Refused}
-use Rattle.flow.specs.declared.sender.SentPacket.{SentPacket}
-use Rattle.flow.specs.declared.sender.SentPacket.TheVariants.{Drained as NoPacket}
-use Rattle.flow.specs.declared.sender.SentPacket.TheVariants.{Wrote as Packet-sent}
-use Rattle.flow.specs.declared.sender.SentPacket.TheVariants.{Refused as NotPacket}
+use Rattle.flow.specs.Types.{Published}
 use Rattle.flow.specs.Ends.{Wrote as Leaves, place_of}
 use Rattle.flow.specs.Log.{entry_content, entry_series, strange_series, nonzero, misnumbered, misshapen, is_wanted}
 use Rattle.flow.specs.Log.{log_short, entries_of, walk, entry_of}
@@ -41,6 +32,8 @@ use Rattle.flow.proofs.calls.Serving.{send-taken, send-cases, PacketDone, packet
 use Rattle.flow.proofs.calls.Serving.{packet-drained, packet-damaged, packet-missing, packet-small, packet-taken}
 use Rattle.flow.proofs.calls.Serving.{packet-cases}
 use Rattle.flow.proofs.bench.Opened.{opened}
+use Rattle.std.specs.Prelude.{Some, None, Ok, Err}
+use Rattle.flow.specs.Types.{SendAnswer, PacketSent}
 
 -- ─── What a content of right shape takes ───
 
@@ -73,14 +66,14 @@ module _ (m : Message) (content : List ℕ) (s : shaped content most_content ≡
           → length (joined (packets_of m content)) ≤ most_output
       go None true h = omega (arith, h, few, short)
       go None false h = omega (arith, h, few, short)
-      go (At d) true h = omega (arith, h, few, short)
-      go (At d) false h = omega (arith, h, few, short)
+      go (Some d) true h = omega (arith, h, few, short)
+      go (Some d) false h = omega (arith, h, few, short)
 
 -- ─── Content that Publish takes ───
 
 abbrev IsTaken : Published → Type 0
-IsTaken (Number k) = Unit {0}
-IsTaken (NotPublished r) = ⊥
+IsTaken (Ok k) = Unit {0}
+IsTaken (Err r) = ⊥
 
 module _ (e : Sender) (s t : ℕ) (content log : List ℕ) where
   shape_of : (r : Leaves Sender Published) → PublishDone e s t content log r → IsTaken r.answer
@@ -88,7 +81,7 @@ module _ (e : Sender) (s t : ℕ) (content log : List ℕ) where
   shape_of _ (publish-refused r) h = absurd h
   shape_of _ (publish-taken tests) h = tests.run
 
-  taken-shaped : (k : ℕ) → (publish_of e s t content log).answer ≡ Number k → shaped content most_content ≡ true
+  taken-shaped : (k : ℕ) → (publish_of e s t content log).answer ≡ Ok k → shaped content most_content ≡ true
   taken-shaped k h = shape_of (publish_of e s t content log) (publish-cases e s t content log) (rw h tt)
 
 -- ─── What Send finds in the log has the right shape ───
@@ -117,17 +110,17 @@ module _ (e : Sender) (s k : ℕ) where
 
 -- ─── An output of the most bytes is never too small ───
 
-abbrev IsSmall : Sent → Type 0
-IsSmall Drained = ⊥
-IsSmall (Wrote number len) = ⊥
-IsSmall (Refused r) = T (eqb (number_of r) 18)
+abbrev IsSmall : SendAnswer → Type 0
+IsSmall (Ok None) = ⊥
+IsSmall (Ok (Some found)) = ⊥
+IsSmall (Err r) = T (eqb (number_of r) 18)
 
 module _ (e : Sender) (s : ℕ) (log out : List ℕ) (room : most_output ≤ length out) where
   entry-fits : (x : List ℕ) → entry_of e log s (place_of e s).next ≡ some x → length (send_bytes e s x) ≤ most_output
   unfolding send_bytes
   entry-fits x h = all_fit _ (entry_content x) (found-shaped e s (place_of e s).next log x h)
 
-  not-small : (r : Leaves Sender Sent) → SendDone e s log out r → IsSmall r.answer → ⊥
+  not-small : (r : Leaves Sender SendAnswer) → SendDone e s log out r → IsSmall r.answer → ⊥
   not-small _ (send-unknown a) h = h
   not-small _ (send-outside a b) h = h
   not-small _ (send-drained a b) h = h
@@ -135,15 +128,15 @@ module _ (e : Sender) (s : ℕ) (log out : List ℕ) (room : most_output ≤ len
   not-small _ (send-small x a b c d) h = omega (arith, d, entry-fits x c, room)
   not-small _ (send-taken x a b c d) h = h
 
-  enough : (send_of e s log out).answer ≡ Refused TooSmall → ⊥
+  enough : (send_of e s log out).answer ≡ Err TooSmall → ⊥
   enough h = not-small (send_of e s log out) (send-cases e s log out) (rw h tt)
 
 -- ─── Nor one of the most bytes of a packet, for one packet ───
 
-abbrev IsSmallPacket : SentPacket → Type 0
-IsSmallPacket NoPacket = ⊥
-IsSmallPacket (Packet-sent number len last) = ⊥
-IsSmallPacket (NotPacket r) = T (eqb (number_of r) 18)
+abbrev IsSmallPacket : PacketSent → Type 0
+IsSmallPacket (Ok None) = ⊥
+IsSmallPacket (Ok (Some found)) = ⊥
+IsSmallPacket (Err r) = T (eqb (number_of r) 18)
 
 module _ (e : Sender) (s : ℕ) (log out : List ℕ) (room : most_packet ≤ length out) where
   packet-fits : (x : List ℕ) → entry_of e log s (place_of e s).next ≡ some x
@@ -151,7 +144,7 @@ module _ (e : Sender) (s : ℕ) (log out : List ℕ) (room : most_packet ≤ len
   unfolding next_packet
   packet-fits x h l = small _ (entry_content x) (found-shaped e s (place_of e s).next log x h) (place_of e s).piece l
 
-  packet-not-small : (r : Leaves Sender SentPacket) → PacketDone e s log out r → IsSmallPacket r.answer → ⊥
+  packet-not-small : (r : Leaves Sender PacketSent) → PacketDone e s log out r → IsSmallPacket r.answer → ⊥
   packet-not-small _ (packet-unknown a) h = h
   packet-not-small _ (packet-outside a b) h = h
   packet-not-small _ (packet-drained a b) h = h
@@ -160,7 +153,7 @@ module _ (e : Sender) (s : ℕ) (log out : List ℕ) (room : most_packet ≤ len
   packet-not-small _ (packet-small x a b c d f) h = omega (arith, f, packet-fits x c d, room)
   packet-not-small _ (packet-taken x a b c d f) h = h
 
-  enough-packet : (send_packet_of e s log out).answer ≡ NotPacket TooSmall → ⊥
+  enough-packet : (send_packet_of e s log out).answer ≡ Err TooSmall → ⊥
   enough-packet h = packet-not-small (send_packet_of e s log out) (packet-cases e s log out) (rw h tt)
 
 -- ─── All of it ───

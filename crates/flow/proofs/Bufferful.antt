@@ -10,9 +10,7 @@ use Rattle.ftd.specs.Packet.{missing_of, said_length, not_one_packet, read_of, w
 use Rattle.ftd.specs.Chain.Laws.{packet_form}
 use Rattle.ftd.proofs.Lists.{part-part}
 use Rattle.ftd.specs.declared.packet.Span.{Span}
-use Rattle.flow.specs.declared.sender.Published.{Published}
-use Rattle.flow.specs.declared.sender.Published.TheVariants.{Number}
-use Rattle.flow.specs.declared.sender.Published.TheVariants.{Refused as NotPublished}
+use Rattle.flow.specs.Types.{Published}
 use Rattle.flow.specs.declared.receiver.Origin.{Origin}
 use Rattle.flow.specs.declared.receiver.Origin.TheVariants.{Packet, Buffer}
 use Rattle.flow.specs.declared.receiver.Received.{Received}
@@ -32,6 +30,7 @@ use Rattle.flow.proofs.several.OneByOne.{StopFits, Fits, one_by_one}
 use Rattle.flow.proofs.several.Received.{some-packet, packet-local, received-inside}
 use Rattle.flow.proofs.several.Published.{some-record, record-local}
 use Rattle.flow.proofs.several.Heard.{heard-run}
+use Rattle.std.specs.Prelude.{Ok, Err}
 
 -- ─── Packets ───
 
@@ -74,8 +73,8 @@ packets-fit =
 
 published-fits : (s log : List ℕ) (at : ℕ) (a : Published)
     → StopFits publishing s log (published_said a) (published_stops at a)
-published-fits s log at (Number k) = refl
-published-fits s log at (NotPublished r) = (refl, refl)
+published-fits s log at (Ok k) = refl
+published-fits s log at (Err r) = (refl, refl)
 
 records-fit : Fits publishing
 records-fit =

@@ -11,7 +11,6 @@ use lib.Seq.{take-append_seam}
 use lib.Dec.{T}
 use Rattle.ftd.specs.Packet.{dated_of}
 use Rattle.ftd.specs.Bench.{all_same}
-use Rattle.ftd.specs.declared.tags.PacketPlace.TheVariants.{Nth}
 use Rattle.flow.specs.Ends.{most_pieces}
 use Rattle.flow.specs.Receiving.{misplaced}
 use Rattle.flow.specs.World.{Event, Transmission, start, run}
@@ -23,10 +22,11 @@ use Rattle.flow.proofs.pieces.Takes.{PacketAt, take-place}
 use Rattle.flow.proofs.source.Sources.{run-source}
 use Rattle.flow.proofs.single.Pieces.{packet-tags, compared, unplaced, agreeing, repeated, as_before, counts, full}
 use Rattle.flow.proofs.bench.Opened.{opened}
+use Rattle.std.specs.Prelude.{Some}
 
 placed : (log buffer : List ℕ) (es : List Event) (i j : ℕ) (t : Transmission) (p : List ℕ)
     → get_elem? (run (start log buffer) es).serving.transmissions i ≡ some t → get_elem? t.packets j ≡ some p
-    → (dated_of p).place ≡ Nth j
+    → (dated_of p).place ≡ Some j
 placed log buffer es i j t p q h =
     let v = (run (start log buffer) es).serving in
     let g = every-at (BegunIn v.published) v.transmissions i t (run-source log buffer es).begun q in
@@ -49,7 +49,7 @@ tagged log buffer es i j t p q h =
       extension = packet-tags _ g.what.content j p (place_kept t.packets _ g.packets j p h);
     }
 
-none-agrees : (j : ℕ) → j < 65536 → misplaced (Nth j) most_pieces ≡ true
+none-agrees : (j : ℕ) → j < 65536 → misplaced (Some j) most_pieces ≡ true
 none-agrees j h = ap not (ne_eqb j most_pieces λ q. omega arith)
 
 example : T (all_same example_rows)

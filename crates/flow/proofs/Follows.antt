@@ -9,8 +9,7 @@ use borrow.Author.Tests.{lt-ltb}
 use lib.Dec.{T}
 use Rattle.ftd.specs.Bench.{all_same}
 use Rattle.ftd.specs.Follow.{NumberedLaw}
-use Rattle.ftd.specs.declared.tags.TradeDate.{TradeDate}
-use Rattle.ftd.specs.declared.tags.TradeDate.TheVariants.{None, At}
+use Rattle.ftd.specs.Types.{TradeDate}
 use Rattle.ftd.proofs.Follow.{follows}
 use Rattle.flow.specs.Follows.{rises, of_series, example_rows, NumbersFollow}
 use Rattle.flow.proofs.common.Bools.{clash}
@@ -18,6 +17,7 @@ use Rattle.flow.proofs.common.Days.{Above}
 use Rattle.flow.proofs.bench.Opened.{opened}
 use Rattle.flow.proofs.numbers.Does.{Does, nothing, next, opens, begins, call-does, told}
 use Rattle.flow.proofs.numbers.Days.{stretch, from-fresh}
+use Rattle.std.specs.Prelude.{Some, None}
 
 -- What one call does, as each clause asks for it.
 module _ (date : TradeDate) (last : ℕ) (anew : Bool) (took : Option ℕ) (day after : TradeDate) (n : ℕ) where
@@ -46,9 +46,9 @@ module _ (date : TradeDate) (last : ℕ) (anew : Bool) (took : Option ℕ) (day 
   from_one (opens a t b x y) q = omega arith
   from_one (begins d a t x b y) q = omega arith
 
-  above-rises : (d : ℕ) (was : TradeDate) → Above d was → rises was (At d) ≡ true
+  above-rises : (d : ℕ) (was : TradeDate) → Above d was → rises was (Some d) ≡ true
   above-rises d None h = refl
-  above-rises d (At k) h = lt-ltb k d h
+  above-rises d (Some k) h = lt-ltb k d h
 
   days : Does date last anew took day after n → (after ≡ date) ⊎ (rises date after ≡ true)
   days (nothing a t x y) = inl x

@@ -1,5 +1,6 @@
 -- The proof of demand 3, layer by layer; each layer's file says what it gives to the next.
 pub mod common
+pub mod Options
 pub mod ends
 pub mod calls
 pub mod single

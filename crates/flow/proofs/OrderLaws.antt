@@ -8,7 +8,6 @@ use mathlib.Core.Option.{Option, none, some}
 use lib.ListN.{take}
 use Rattle.ftd.specs.declared.refusal.Refusal.{Refusal}
 use Rattle.ftd.specs.declared.refusal.Refusal.TheVariants.{UnknownSeries, OtherDay, DamagedLog}
-use Rattle.ftd.specs.declared.tags.TradeDate.TheVariants.{At}
 use Rattle.flow.specs.declared.sender.Day.{Day}
 use Rattle.flow.specs.declared.sender.Seat.{Seat}
 use Rattle.flow.specs.declared.sender.Sender.{Sender}
@@ -30,6 +29,7 @@ use Rattle.flow.proofs.order.Lists.{no, never-differ, never-refused}
 use Rattle.flow.proofs.order.Logged.{logged-damaged, logged-reads}
 use Rattle.flow.proofs.order.Given.{date-sym, unknown, other-day, damaged-log, no_other, compared, compares}
 use Rattle.flow.proofs.order.Made.{logged-published}
+use Rattle.std.specs.Prelude.{Some}
 
 -- ─── Of any ends and logs ───
 
@@ -156,7 +156,7 @@ module _ (s : ℕ) (a b c : Sender) (log other third : List ℕ) where
 -- ─── Of ends that calls have made ───
 
 module _ (v u : SenderSide) (h : ServedSide v) (k : ServedSide u) (s : ℕ) where
-  pub sides : (d : ℕ) → v.day ≡ At d → u.day ≡ At d → is_served v.end s ≡ true → is_served u.end s ≡ true
+  pub sides : (d : ℕ) → v.day ≡ Some d → u.day ≡ Some d → is_served v.end s ≡ true → is_served u.end s ≡ true
       → Compares s v.end v.log u.end u.log (of s d v.published) (of s d u.published)
   sides d a b x y =
       record {
@@ -171,7 +171,7 @@ module _ (v u : SenderSide) (h : ServedSide v) (k : ServedSide u) (s : ℕ) wher
   no-damage q =
       let p = (damaged-log s v.end v.log u.end u.log).0 q in
       let i = served-day v.end v.log v.day v.published h s p.0 in
-      let j : u.day ≡ At i.0 = sym k.same-day ∙ sym p.2 ∙ h.same-day ∙ i.1 in
+      let j : u.day ≡ Some i.0 = sym k.same-day ∙ sym p.2 ∙ h.same-day ∙ i.1 in
       let c = sides i.0 i.1 j p.0 p.1 in
       let l = of s i.0 v.published in
       let m = of s i.0 u.published in

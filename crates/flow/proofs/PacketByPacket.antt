@@ -13,17 +13,10 @@ use lib.Seq.{take-append_seam}
 use lib.Dec.{T, eqb}
 use Rattle.ftd.specs.Chain.{packets_of}
 use Rattle.ftd.specs.declared.refusal.Refusal.TheVariants.{DamagedLog}
-use Rattle.ftd.specs.declared.tags.TradeDate.{TradeDate}
-use Rattle.ftd.specs.declared.tags.TradeDate.TheVariants.{At}
+use Rattle.ftd.specs.Types.{TradeDate}
 use Rattle.flow.specs.declared.sender.Place.{Place}
 use Rattle.flow.specs.declared.sender.Sender.{Sender}
-use Rattle.flow.specs.declared.sender.Sent.{Sent}
-use Rattle.flow.specs.declared.sender.Sent.TheVariants.{Drained}
-use Rattle.flow.specs.declared.sender.Sent.TheVariants.{Wrote as Message-sent}
-use Rattle.flow.specs.declared.sender.SentPacket.{SentPacket}
-use Rattle.flow.specs.declared.sender.SentPacket.TheVariants.{Drained as NoPacket}
-use Rattle.flow.specs.declared.sender.SentPacket.TheVariants.{Refused as NotPacket}
-use Rattle.flow.specs.declared.sender.Published.{Published}
+use Rattle.flow.specs.Types.{Published}
 use Rattle.flow.specs.Ends.{Wrote, is_served, published_of, place_of, with_entry}
 use Rattle.flow.specs.Log.{entry_bytes}
 use Rattle.flow.specs.Answers.{Message}
@@ -54,6 +47,9 @@ use Rattle.flow.proofs.source.Entries.{NextEntry, next-entry, cut-packets}
 use Rattle.flow.proofs.source.Goings.{entry-packets}
 use Rattle.flow.proofs.source.Sources.{Source, run-source}
 use Rattle.flow.proofs.single.Packets.{one-packet, no-packet, publishing-allowed, from_first}
+use Rattle.std.specs.Prelude.{Some, None, Ok, Err}
+use Rattle.flow.specs.Types.{SendAnswer, message_sent, PacketSent}
+use Rattle.flow.proofs.Options.{same-message}
 
 -- ─── What is on the line ───
 
@@ -78,7 +74,7 @@ left-seated e s q =
     let b = and_both (is_served e s) (place_of e s).login a.0 in
     (record { served = b.0; login = b.1 }, some_left e s [] [] (not-true _ a.1))
 
-same_at : (t : TradeDate) (a b : ℕ) → t ≡ At a → t ≡ At b → a ≡ b
+same_at : (t : TradeDate) (a b : ℕ) → t ≡ Some a → t ≡ Some b → a ≡ b
 same_at t a b p q = cc
 
 same_next : (n a b : ℕ) → n ≡ suc a → n ≡ suc b → a ≡ b
@@ -162,8 +158,8 @@ publishing v h t tid content s l =
 -- ─── A whole Send ───
 
 module _ (w : World) (h : Source w.serving) (s : ℕ) (out : List ℕ) where
-  sent-all : (r : Wrote Sender Sent) → SendDone w.serving.end s w.serving.log out r → (k n : ℕ)
-      → r.answer ≡ Message-sent k n → AllSent w (serves w (after_send w.serving s r)) s k
+  sent-all : (r : Wrote Sender SendAnswer) → SendDone w.serving.end s w.serving.log out r → (k n : ℕ)
+      → r.answer ≡ message_sent k n → AllSent w (serves w (after_send w.serving s r)) s k
   sent-all r (send-unknown a) k n q = absurd (let z : ◌≡◌ {A = ℕ} 0 1 = cc in omega arith)
   sent-all r (send-outside a b) k n q = absurd (let z : ◌≡◌ {A = ℕ} 0 1 = cc in omega arith)
   sent-all r (send-drained a b) k n q = absurd (let z : ◌≡◌ {A = ℕ} 0 1 = cc in omega arith)
@@ -172,7 +168,7 @@ module _ (w : World) (h : Source w.serving) (s : ℕ) (out : List ℕ) where
   sent-all r (send-taken x a b c d) k n q =
       let v = w.serving in
       let e = next-entry v.end v.log v.day v.published h.served s a b in
-      let same : (place_of v.end s).next ≡ k = cc in
+      let same : (place_of v.end s).next ≡ k = same-message _ _ _ _ q in
       let bytes = send_bytes v.end s x in
       let cut = take-append_seam bytes (drop (length bytes) out) in
       let ended = ended_in s v.transmissions in
@@ -199,7 +195,7 @@ module _ (e : Sender) (s : ℕ) (log out : List ℕ) where
   abbrev Done : Type 0
   Done = Seated e s × (published_of e s < (place_of e s).next)
 
-  drained-then : (r : Wrote Sender Sent) → SendDone e s log out r → r.answer ≡ Drained → Done
+  drained-then : (r : Wrote Sender SendAnswer) → SendDone e s log out r → r.answer ≡ (Ok None) → Done
   drained-then r (send-unknown a) q = absurd (let z : ◌≡◌ {A = ℕ} 0 1 = cc in omega arith)
   drained-then r (send-outside a b) q = absurd (let z : ◌≡◌ {A = ℕ} 0 1 = cc in omega arith)
   drained-then r (send-drained a b) q = (a, b)
@@ -207,7 +203,7 @@ module _ (e : Sender) (s : ℕ) (log out : List ℕ) where
   drained-then r (send-small x a b c d) q = absurd (let z : ◌≡◌ {A = ℕ} 0 1 = cc in omega arith)
   drained-then r (send-taken x a b c d) q = absurd (let z : ◌≡◌ {A = ℕ} 0 1 = cc in omega arith)
 
-  drained-if : (r : Wrote Sender Sent) → SendDone e s log out r → Done → r.answer ≡ Drained
+  drained-if : (r : Wrote Sender SendAnswer) → SendDone e s log out r → Done → r.answer ≡ (Ok None)
   drained-if r (send-unknown a) g = absurd (not-both (is_served e s) g.0.served a)
   drained-if r (send-outside a b) g = absurd (not-both (place_of e s).login g.0.login b)
   drained-if r (send-drained a b) g = refl
@@ -215,7 +211,7 @@ module _ (e : Sender) (s : ℕ) (log out : List ℕ) where
   drained-if r (send-small x a b c d) g = absurd (let q = g.1 in omega arith)
   drained-if r (send-taken x a b c d) g = absurd (let q = g.1 in omega arith)
 
-  none_then : (r : Wrote Sender SentPacket) → PacketDone e s log out r → r.answer ≡ NoPacket → Done
+  none_then : (r : Wrote Sender PacketSent) → PacketDone e s log out r → r.answer ≡ (Ok None) → Done
   none_then r (packet-unknown a) q = absurd (let z : ◌≡◌ {A = ℕ} 0 1 = cc in omega arith)
   none_then r (packet-outside a b) q = absurd (let z : ◌≡◌ {A = ℕ} 0 1 = cc in omega arith)
   none_then r (packet-drained a b) q = (a, b)
@@ -224,7 +220,7 @@ module _ (e : Sender) (s : ℕ) (log out : List ℕ) where
   none_then r (packet-small x a b c d f) q = absurd (let z : ◌≡◌ {A = ℕ} 0 1 = cc in omega arith)
   none_then r (packet-taken x a b c d f) q = absurd (let z : ◌≡◌ {A = ℕ} 0 1 = cc in omega arith)
 
-  none-if : (r : Wrote Sender SentPacket) → PacketDone e s log out r → Done → r.answer ≡ NoPacket
+  none-if : (r : Wrote Sender PacketSent) → PacketDone e s log out r → Done → r.answer ≡ (Ok None)
   none-if r (packet-unknown a) g = absurd (not-both (is_served e s) g.0.served a)
   none-if r (packet-outside a b) g = absurd (not-both (place_of e s).login g.0.login b)
   none-if r (packet-drained a b) g = refl
@@ -234,7 +230,7 @@ module _ (e : Sender) (s : ℕ) (log out : List ℕ) where
   none-if r (packet-taken x a b c d f) g = absurd (let q = g.1 in omega arith)
 
 none_left : (e : Sender) (s : ℕ) (log out more : List ℕ)
-    → ((send_of e s log out).answer ≡ Drained) ↔ ((send_packet_of e s log more).answer ≡ NoPacket)
+    → ((send_of e s log out).answer ≡ (Ok None)) ↔ ((send_packet_of e s log more).answer ≡ (Ok None))
 none_left e s log out more = (
   λ q. none-if e s log more (send_packet_of e s log more) (packet-cases e s log more)
       (drained-then e s log out (send_of e s log out) (send-cases e s log out) q),
@@ -243,8 +239,8 @@ none_left e s log out more = (
 )
 
 module _ (v : SenderSide) (h : Source v) (s : ℕ) (out : List ℕ) where
-  pub packet-damaged-never : (r : Wrote Sender SentPacket) → PacketDone v.end s v.log out r
-      → r.answer ≡ NotPacket DamagedLog → ⊥
+  pub packet-damaged-never : (r : Wrote Sender PacketSent) → PacketDone v.end s v.log out r
+      → r.answer ≡ Err DamagedLog → ⊥
   packet-damaged-never r (packet-unknown a) q = let z : ◌≡◌ {A = ℕ} 0 1 = cc in omega arith
   packet-damaged-never r (packet-outside a b) q = let z : ◌≡◌ {A = ℕ} 0 1 = cc in omega arith
   packet-damaged-never r (packet-drained a b) q = let z : ◌≡◌ {A = ℕ} 0 1 = cc in omega arith

@@ -13,7 +13,7 @@ use Rattle.ftd.proofs.runs.Joined.{Entry, Entries, run-behind, run-of}
 use Rattle.flow.specs.declared.sender.Sender.{Sender}
 use Rattle.flow.specs.declared.several.PublishedSeveral.{PublishedSeveral}
 use Rattle.flow.specs.Ends.{Wrote}
-use Rattle.flow.specs.declared.sender.Published.{Published}
+use Rattle.flow.specs.Types.{Published}
 use Rattle.flow.specs.Serving.{publish_of}
 use Rattle.flow.specs.Several.{Took, took, stop_or, walk_from, walk_over, several_of, record_form, publish_record}
 use Rattle.flow.specs.Several.{published_stops, publishing, publish_several_of}

@@ -17,25 +17,23 @@ use Rattle.ftd.specs.Composition.{composed}
 use Rattle.ftd.specs.Refusal.{number_of}
 use Rattle.ftd.specs.declared.composition.Direction.TheVariants.{Up}
 use Rattle.ftd.specs.declared.refusal.Refusal.{Refusal}
-use Rattle.ftd.specs.declared.tags.TradeDate.{TradeDate}
-use Rattle.ftd.specs.declared.tags.PacketPlace.{PacketPlace}
+use Rattle.ftd.specs.Types.{TradeDate}
+use Rattle.ftd.specs.Types.{PacketPlace}
 use Rattle.ftd.specs.declared.packet.Span.{Span}
 use Rattle.ftd.specs.declared.packet.Header.{Header}
 use Rattle.flow.specs.declared.sender.Sender.{Sender}
-use Rattle.flow.specs.declared.sender.Opened.{Opened}
-use Rattle.flow.specs.declared.sender.Published.{Published}
-use Rattle.flow.specs.declared.sender.LoggedIn.{LoggedIn}
-use Rattle.flow.specs.declared.sender.Sent.{Sent}
-use Rattle.flow.specs.declared.sender.SentPacket.{SentPacket}
+use Rattle.flow.specs.Types.{Opened}
+use Rattle.flow.specs.Types.{Published}
+use Rattle.flow.specs.Types.{LoggedIn}
 use Rattle.flow.specs.declared.receiver.KeptSeries.{KeptSeries}
 use Rattle.flow.specs.declared.receiver.LiveSeries.{LiveSeries}
 use Rattle.flow.specs.declared.receiver.Receiver.{Receiver}
-use Rattle.flow.specs.declared.receiver.Requested.{Requested}
-use Rattle.flow.specs.declared.receiver.Confirmed.{Confirmed}
+use Rattle.flow.specs.Types.{Requested}
+use Rattle.flow.specs.Types.{Confirmed}
 use Rattle.flow.specs.declared.receiver.Received.{Received}
 use Rattle.flow.specs.declared.checkpoint.Checkpoints.{Checkpoints}
-use Rattle.flow.specs.declared.checkpoint.Saved.{Saved}
-use Rattle.flow.specs.declared.checkpoint.Restored.{Restored}
+use Rattle.flow.specs.Types.{Saved}
+use Rattle.flow.specs.Types.{Restored}
 use Rattle.flow.specs.Ends.{Left, Wrote, index_of, no_live, logged_in, new_kept, request_content, kept_series}
 use Rattle.flow.specs.Ends.{is_open, kept_of, live_of, with_series}
 use Rattle.flow.specs.Answers.{refused, opened_said, published_said, login_said, sent_said, sent_packet_said}
@@ -65,6 +63,7 @@ use Rattle.flow.proofs.calls.Receive.{holds-first, holds-middle, hands-last, Rec
 use Rattle.flow.proofs.calls.Receive.{receive-as}
 use Rattle.flow.proofs.rewind.Linked.{Keeps-as, keeps, keep-as, Restores-as, restores, restore-as}
 use Rattle.flow.proofs.Bufferful.{bufferful}
+use Rattle.flow.specs.Types.{SendAnswer, PacketSent}
 
 -- ─── The serving end ───
 
@@ -86,7 +85,7 @@ module _ (e : Sender) where
   login-stays s p content out _ (login-taken x y c a b d tests) n h =
       let z : ◌≡◌ {A = ℕ} 0 1 = cc in absurd (omega arith)
 
-  send-stays : (s : ℕ) (log out : List ℕ) (r : Wrote Sender Sent) → SendDone e s log out r → StaysWith sent_said e out r
+  send-stays : (s : ℕ) (log out : List ℕ) (r : Wrote Sender SendAnswer) → SendDone e s log out r → StaysWith sent_said e out r
   send-stays s log out _ (send-unknown a) n h = (refl, refl)
   send-stays s log out _ (send-outside a b) n h = (refl, refl)
   send-stays s log out _ (send-drained a b) n h = (refl, refl)
@@ -94,7 +93,7 @@ module _ (e : Sender) where
   send-stays s log out _ (send-small x a b c d) n h = (refl, refl)
   send-stays s log out _ (send-taken x a b c d) n h = let z : ◌≡◌ {A = ℕ} 0 1 = cc in absurd (omega arith)
 
-  packet-stays : (s : ℕ) (log out : List ℕ) (r : Wrote Sender SentPacket) → PacketDone e s log out r
+  packet-stays : (s : ℕ) (log out : List ℕ) (r : Wrote Sender PacketSent) → PacketDone e s log out r
       → StaysWith sent_packet_said e out r
   packet-stays s log out _ (packet-unknown a) n h = (refl, refl)
   packet-stays s log out _ (packet-outside a b) n h = (refl, refl)

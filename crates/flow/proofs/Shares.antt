@@ -19,14 +19,9 @@ use Rattle.ftd.specs.declared.composition.Direction.TheVariants.{Down}
 use Rattle.ftd.specs.declared.refusal.Refusal.TheVariants.{TooSmall}
 use Rattle.flow.specs.declared.sender.DaySeries.{DaySeries}
 use Rattle.flow.specs.declared.sender.Sender.{Sender}
-use Rattle.flow.specs.declared.sender.Opened.{Opened}
-use Rattle.flow.specs.declared.sender.Opened.TheVariants.{Done}
-use Rattle.flow.specs.declared.sender.Published.{Published}
-use Rattle.flow.specs.declared.sender.Published.TheVariants.{Number}
-use Rattle.flow.specs.declared.sender.Published.TheVariants.{Refused as NotPublished}
-use Rattle.flow.specs.declared.sender.LoggedIn.{LoggedIn}
-use Rattle.flow.specs.declared.sender.Sent.{Sent}
-use Rattle.flow.specs.declared.sender.SentPacket.{SentPacket}
+use Rattle.flow.specs.Types.{Opened}
+use Rattle.flow.specs.Types.{Published}
+use Rattle.flow.specs.Types.{LoggedIn}
 use Rattle.flow.specs.Ends.{Left, Wrote, most_messages, index_of, no_series, fresh_sender, day_series, is_served}
 use Rattle.flow.specs.Ends.{published_of, reserve_of, used_of, grown_series, with_entry, with_place, opened_series, sum_of}
 use Rattle.flow.specs.Ends.{share_of, shares_of}
@@ -49,6 +44,8 @@ use Rattle.flow.proofs.calls.Serving.{packet-missing, packet-small, packet-taken
 use Rattle.flow.proofs.single.Accounts.{refused-11, unchanged, taken, given, reserve-place, reserve-entry}
 use Rattle.flow.proofs.single.Accounts.{used-place, used-entry, opened-used, fresh-used, either_way}
 use Rattle.flow.proofs.bench.Opened.{opened}
+use Rattle.std.specs.Prelude.{Ok, Err}
+use Rattle.flow.specs.Types.{SendAnswer, PacketSent}
 
 -- ─── Sums ───
 
@@ -233,7 +230,7 @@ module _ (Q : Sender → Type 0)
   send-keeps : (e : Sender) (s : ℕ) (log out : List ℕ) → Q e → Q (send_of e s log out).end
   send-keeps e s log out q = go (send_of e s log out) (send-cases e s log out)
     where
-      go : (r : Wrote Sender Sent) → SendDone e s log out r → Q r.end
+      go : (r : Wrote Sender SendAnswer) → SendDone e s log out r → Q r.end
       go r (send-unknown a) = q
       go r (send-outside a b) = q
       go r (send-drained a b) = q
@@ -245,7 +242,7 @@ module _ (Q : Sender → Type 0)
   unfolding after_packet
   packet-keeps e s log out q = go (send_packet_of e s log out) (packet-cases e s log out)
     where
-      go : (r : Wrote Sender SentPacket) → PacketDone e s log out r → Q r.end
+      go : (r : Wrote Sender PacketSent) → PacketDone e s log out r → Q r.end
       go r (packet-unknown a) = q
       go r (packet-outside a b) = q
       go r (packet-drained a b) = q
@@ -289,8 +286,8 @@ all-within n e (c ∷ cs) l w = all-within n (served e c) cs l.1 (call-within n 
 -- ─── Row 18 ───
 
 abbrev IsSmall : Published → Type 0
-IsSmall (Number k) = ⊥
-IsSmall (NotPublished r) = T (eqb (number_of r) 18)
+IsSmall (Ok k) = ⊥
+IsSmall (Err r) = T (eqb (number_of r) 18)
 
 -- What 18 says: the series is open, the log is not short, and one of the two tests holds.
 record Small (e : Sender) (s : ℕ) (content log : List ℕ) : Type 0 where
@@ -315,7 +312,7 @@ module _ (e : Sender) (s t : ℕ) (content log : List ℕ) where
       (λ q h. record { open-series = not-false _ q5; long = q6; why = q }) λ q7.
       by-when Then (leb most_messages (published_of e s)) (λ q h. absurd h) λ q8 h. absurd h
 
-  small-told : (publish_of e s t content log).answer ≡ NotPublished TooSmall → Small e s content log
+  small-told : (publish_of e s t content log).answer ≡ Err TooSmall → Small e s content log
   small-told q = small-then (rw q tt)
 
   not-fits : log_short e log ≡ false → not (entry_fits e log content) ≡ true
@@ -351,7 +348,7 @@ module _ (e : Sender) (s t : ℕ) (content log : List ℕ) where
   -- Where no row before it refuses, the second test decides.
   shares-small : refused_before e s t content log ≡ false
       → length log < shares_of (with_entry e s (16 + length content))
-      → (publish_of e s t content log).answer ≡ NotPublished TooSmall
+      → (publish_of e s t content log).answer ≡ Err TooSmall
   unfolding publish_of
   shares-small r h =
       let a6 =
@@ -379,12 +376,12 @@ module _ (e : Sender) (s t : ℕ) (content log : List ℕ) where
 
 -- ─── The promise ───
 
-promise : (e : Sender) (date : ℕ) (ss rs log : List ℕ) → (open_day_of e date ss rs log).answer ≡ Done
+promise : (e : Sender) (date : ℕ) (ss rs log : List ℕ) → (open_day_of e date ss rs log).answer ≡ (Ok tt)
     → (cs : List ServingCall) → AllOneLength (length log) cs →
     let f = served_all (open_day_of e date ss rs log).end cs in
     (s t : ℕ) (content l : List ℕ) → length l ≡ length log
     → used_of f s + (16 + length content) ≤ reserve_of f s
-    → (publish_of f s t content l).answer ≡ NotPublished TooSmall → ⊥
+    → (publish_of f s t content l).answer ≡ Err TooSmall → ⊥
 promise e date ss rs log done cs one s t content l same fits told =
     let g = (open_day_of e date ss rs log).end in
     let start = begins (open_day_of e date ss rs log) (open-cases e date ss rs log) done in
@@ -396,7 +393,7 @@ promise e date ss rs log done cs one s t content l same fits told =
     let m = shares-same f s h.open-series (16 + length content) fits in
     omega arith
   where
-    begins : (r : Left Sender Opened) → OpenDone e date ss rs log r → r.answer ≡ Done
+    begins : (r : Left Sender Opened) → OpenDone e date ss rs log r → r.answer ≡ (Ok tt)
         → Accounts r.end × Within (length log) r.end
     begins r (open-refused x) q = absurd (let z : ◌≡◌ {A = ℕ} 0 1 = cc in omega arith)
     begins r (open-taken a b c d) q = (opened-accounts date ss rs, opened-within date ss rs (length log) c)

@@ -11,9 +11,8 @@ use Rattle.ftd.specs.Bench.{all_same}
 use Rattle.ftd.specs.Packet.{dated_of}
 use Rattle.ftd.specs.Refusal.{number_of}
 use Rattle.ftd.specs.declared.refusal.Refusal.{Refusal}
-use Rattle.ftd.specs.declared.tags.TradeDate.{TradeDate}
-use Rattle.ftd.specs.declared.tags.TradeDate.TheVariants.{None, At}
-use Rattle.ftd.specs.declared.tags.PacketPlace.{PacketPlace}
+use Rattle.ftd.specs.Types.{TradeDate}
+use Rattle.ftd.specs.Types.{PacketPlace}
 use Rattle.ftd.specs.declared.packet.Span.{Span}
 use Rattle.ftd.specs.declared.packet.Chain.{Chain}
 use Rattle.ftd.specs.declared.packet.Chain.TheVariants.{Single, First, Middle, Last}
@@ -22,7 +21,7 @@ use Rattle.flow.specs.declared.sender.Sender.{Sender}
 use Rattle.flow.specs.declared.receiver.KeptSeries.{KeptSeries}
 use Rattle.flow.specs.declared.receiver.LiveSeries.{LiveSeries}
 use Rattle.flow.specs.declared.receiver.Receiver.{Receiver}
-use Rattle.flow.specs.declared.receiver.Confirmed.{Confirmed}
+use Rattle.flow.specs.Types.{Confirmed}
 use Rattle.flow.specs.declared.receiver.Received.{Received}
 use Rattle.flow.specs.Ends.{◌when◌else◌, Left, Wrote, before, differs, is_open, kept_of, live_of}
 use Rattle.flow.specs.Answers.{refused, handed_on, is_taken, received_said, confirmed_said}
@@ -37,20 +36,21 @@ use Rattle.flow.proofs.calls.Receiving.{Confirmed-as, confirms, confirm-as}
 use Rattle.flow.proofs.calls.Receive.{Why, other-day, out-of-line, astray, broken, no-room-first}
 use Rattle.flow.proofs.calls.Receive.{no-room-later, Took, unknown, not_in, repeats, hands-single, holds-first}
 use Rattle.flow.proofs.calls.Receive.{holds-middle, hands-last, Received-as, unread, idles, reads, receive-as}
+use Rattle.std.specs.Prelude.{Some, None}
 
 -- ─── A trade date beside itself ───
 
 same_differs : (d : TradeDate) → differs d d ≡ false
 same_differs None = refl
-same_differs (At d) = rw (eq-eqb d d refl)
+same_differs (Some d) = rw (eq-eqb d d refl)
 
 same-before : (d : TradeDate) → before d d ≡ false
 same-before None = refl
-same-before (At d) = le-ltb d d (omega arith)
+same-before (Some d) = le-ltb d d (omega arith)
 
 before-none : (d : TradeDate) → before d None ≡ false
 before-none None = refl
-before-none (At d) = refl
+before-none (Some d) = refl
 
 -- ─── Receive ───
 

@@ -13,8 +13,7 @@ use mathlib.Core.Bool.{Bool, true}
 use Rattle.ftd.specs.Bytes.{part}
 use Rattle.ftd.specs.Packet.{dated_of}
 use Rattle.ftd.specs.Resume.{resume_of}
-use Rattle.ftd.specs.declared.tags.TradeDate.{TradeDate}
-use Rattle.ftd.specs.declared.tags.TradeDate.TheVariants.{None, At}
+use Rattle.ftd.specs.Types.{TradeDate}
 use Rattle.ftd.specs.declared.packet.Span.{Span}
 use Rattle.ftd.specs.declared.packet.Header.{Header}
 use Rattle.ftd.specs.declared.packet.Packet.TheVariants.{Message as Accepted}
@@ -30,6 +29,7 @@ use Rattle.flow.proofs.calls.Serving.{LoginTests}
 use Rattle.flow.proofs.steps.Turns.{Turn, Onward}
 use Rattle.flow.proofs.logins.Timely.{Reached, reached-onward, reached-here, Request}
 use Rattle.flow.proofs.logins.Start.{asked-request, request-onward, taken-opens, taken-reached}
+use Rattle.std.specs.Prelude.{Some, None}
 
 pub record LoginStarts : Type 0 where
   -- What Ask writes is a request, if nothing was received without a day; every step of the end keeps it one.
@@ -39,11 +39,11 @@ pub record LoginStarts : Type 0 where
   pub kept : (o : TradeDate) (c : Bool) (r : Receiver) → Eight r → (r' : Receiver) (ms : List Message) (ks : List ℕ)
       → Turn o c r r' ms ks → (p : List ℕ) → Request r p → Request r' p
   -- A login that takes it on day d: the series is open at the end that asked, and the start is reached there,
-  pub opens : (e : Sender) (d : ℕ) → e.day.date ≡ At d → (r : Receiver) (p : List ℕ) → Request r p
+  pub opens : (e : Sender) (d : ℕ) → e.day.date ≡ Some d → (r : Receiver) (p : List ℕ) → Request r p
       → (s : ℕ) (content out : List ℕ) (h : Header) (x body : Span)
       → (dated_of p).packet ≡ Accepted h x body
       → LoginTests e s h (dated_of p).date (part p body.start body.len) content out → is_open r s ≡ true
-  pub reached : (e : Sender) (d : ℕ) → e.day.date ≡ At d → (r : Receiver) (p : List ℕ) → Request r p
+  pub reached : (e : Sender) (d : ℕ) → e.day.date ≡ Some d → (r : Receiver) (p : List ℕ) → Request r p
       → (s : ℕ) (content out : List ℕ) (h : Header) (x body : Span)
       → (dated_of p).packet ≡ Accepted h x body
       → LoginTests e s h (dated_of p).date (part p body.start body.len) content out
@@ -51,7 +51,7 @@ pub record LoginStarts : Type 0 where
   -- stays reached, and is at most last + 1 whenever day d is kept.
   pub onward : (d k : ℕ) (date : TradeDate) (last : ℕ) (after : TradeDate) (n : ℕ) → Onward date last after n
       → Reached d k date last → Reached d k after n
-  pub within : (d k : ℕ) (date : TradeDate) (last : ℕ) → date ≡ At d → Reached d k date last → k ≤ suc last
+  pub within : (d k : ℕ) (date : TradeDate) (last : ℕ) → date ≡ Some d → Reached d k date last → k ≤ suc last
 
 pub login-starts : LoginStarts
 login-starts =

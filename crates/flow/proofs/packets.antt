@@ -13,7 +13,7 @@ use Rattle.ftd.specs.Chain.{packets_of}
 use Rattle.ftd.specs.Fields.{shaped}
 use Rattle.ftd.specs.Chain.Laws.{piece_at_place, packet_at_place, place_for}
 use Rattle.ftd.specs.Login.{login_bytes}
-use Rattle.ftd.specs.declared.tags.TradeDate.{TradeDate}
+use Rattle.ftd.specs.Types.{TradeDate}
 use Rattle.ftd.specs.declared.chain.Message.{Message as Headed}
 use Rattle.flow.specs.declared.sender.Sender.{Sender}
 use Rattle.flow.specs.declared.receiver.Receiver.{Receiver}

@@ -1,5 +1,4 @@
 -- Laws of Receive's parts.
-pub mod Checks
 pub mod Pieces
 pub mod Rows
 pub mod Back

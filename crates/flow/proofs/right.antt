@@ -13,7 +13,6 @@ use mathlib.Core.List.{List, [], ◌++◌, map}
 use mathlib.Core.Bool.{true}
 use mathlib.Core.Option.{some}
 use lib.ListN.{get_elem?}
-use Rattle.ftd.specs.declared.tags.TradeDate.TheVariants.{At}
 use Rattle.flow.specs.declared.receiver.Receiver.{Receiver}
 use Rattle.flow.specs.Ends.{day_of, fresh_receiver, is_open, kept_of, logged_in, with_series}
 use Rattle.flow.specs.Answers.{Message, confirmed_said, received_said, message_in, report_in}
@@ -24,6 +23,7 @@ use Rattle.flow.proofs.ends.ReceiverLookups.{Eight}
 use Rattle.flow.proofs.pieces.Takes.{PacketAt}
 use Rattle.flow.proofs.right.End.{EndRight, fresh-right, grown-right, open-right, connect-right, confirm-right}
 use Rattle.flow.proofs.right.End.{drop-right, receive-right}
+use Rattle.std.specs.Prelude.{Some}
 
 pub record RightLaws : Type 0 where
   pub fresh : (buffer : List ℕ) → EndRight [] [] [] fresh_receiver buffer
@@ -49,7 +49,7 @@ pub record RightLaws : Type 0 where
       → EndRight P H R e buffer → Eight e → (s d place : ℕ) (x : Message) (j : ℕ) (p : List ℕ)
       → get_elem? (of s d P) place ≡ some x → PacketAt s x.tid (suc place) d x.content j p →
       let r = receive_of e p buffer in
-      EndRight P (H ++ map (dated s (At d)) (message_in (received_said p r.bytes r.answer)))
+      EndRight P (H ++ map (dated s (Some d)) (message_in (received_said p r.bytes r.answer)))
       (R ++ map (dated s (day_of e s)) (report_in (received_said p r.bytes r.answer))) r.end r.bytes
 
 pub right-laws : RightLaws

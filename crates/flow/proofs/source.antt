@@ -23,9 +23,6 @@ use mathlib.Core.List.{List}
 use mathlib.Core.Option.{some}
 use lib.ListN.{length, get_elem?}
 use Rattle.ftd.specs.declared.refusal.Refusal.TheVariants.{DamagedLog}
-use Rattle.ftd.specs.declared.tags.TradeDate.TheVariants.{At}
-use Rattle.flow.specs.declared.sender.Sent.TheVariants.{Drained}
-use Rattle.flow.specs.declared.sender.Sent.TheVariants.{Refused as NotSent}
 use Rattle.flow.specs.Ends.{published_of, place_of}
 use Rattle.flow.specs.Answers.{Message}
 use Rattle.flow.specs.Serving.{open_day_of, publish_of, login_of, send_of, send_packet_of}
@@ -43,6 +40,7 @@ use Rattle.flow.proofs.source.Entries.{NextEntry, next-entry}
 use Rattle.flow.proofs.source.Sends.{send-undamaged, drained-exactly}
 use Rattle.flow.proofs.source.Answers.{GenuineAnswers}
 use Rattle.flow.proofs.source.Sources.{Source, move-source, fresh_side, fresh-source}
+use Rattle.std.specs.Prelude.{Some, None, Ok, Err}
 
 pub record SourceLaws : Type 0 where
   -- Each call is a move: nothing, or what the call does that was taken (`Move`). In any state, of any arguments.
@@ -84,9 +82,9 @@ pub record SourceLaws : Type 0 where
   pub finds : (v : SenderSide) → Source v → (s : ℕ) → Seated v.end s
       → (place_of v.end s).next ≤ published_of v.end s → NextEntry v.end v.log v.day v.published s
   pub undamaged : (v : SenderSide) → Source v → (s : ℕ) (out : List ℕ)
-      → (send_of v.end s v.log out).answer ≡ NotSent DamagedLog → ⊥
-  pub drained : (v : SenderSide) → Source v → (s : ℕ) (out : List ℕ) (d : ℕ) → v.day ≡ At d
-      → ((send_of v.end s v.log out).answer ≡ Drained)
+      → (send_of v.end s v.log out).answer ≡ Err DamagedLog → ⊥
+  pub drained : (v : SenderSide) → Source v → (s : ℕ) (out : List ℕ) (d : ℕ) → v.day ≡ Some d
+      → ((send_of v.end s v.log out).answer ≡ (Ok None))
       ↔ (Seated v.end s × (length (of s d v.published) < (place_of v.end s).next))
 
 pub source-laws : SourceLaws

@@ -8,7 +8,7 @@ use mathlib.Core.Path.{◌≡◌, refl}
 use mathlib.Core.List.{List, []}
 use mathlib.Core.Bool.{Bool, true}
 use Rattle.ftd.specs.Packet.{dated_of}
-use Rattle.ftd.specs.declared.tags.TradeDate.{TradeDate}
+use Rattle.ftd.specs.Types.{TradeDate}
 use Rattle.flow.specs.declared.receiver.Receiver.{Receiver}
 use Rattle.flow.specs.Ends.{day_of, last_of, is_open, all_parts}
 use Rattle.flow.specs.Answers.{Message, confirmed_said, received_said, message_in, report_in}

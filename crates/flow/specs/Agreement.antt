@@ -3,13 +3,12 @@
 use Rattle.std.specs.Prelude.{ℕ, ◌<◌, ◌≤◌, ◌≡◌, List, [], ◌∷◌, ◌++◌, map, cond, ◌&&◌, length, take, drop, eqb}
 use Rattle.std.proofs.Math.Option.{some}
 use Rattle.std.proofs.Math.ListN.{get_elem?}
-use Rattle.ftd.specs.declared.tags.TradeDate.TheVariants.{At}
-use Rattle.flow.specs.declared.sender.Sent.TheVariants.{Drained}
 use Rattle.flow.specs.Ends.{is_day, all_parts}
 use Rattle.flow.specs.Serving.{send_of}
 use Rattle.flow.specs.Answers.{Message}
 use Rattle.flow.specs.World.{InSeries, in_series, Dated, Event, answer, message, whole, transmission, World, start}
 use Rattle.flow.specs.World.{step, run}
+use Rattle.std.specs.Prelude.{Some, None, Ok}
 
 -- ─── "For every series and day" ───
 
@@ -42,7 +41,7 @@ pub record Agreed (w : World) (s d : ℕ) : Type 0 where
 -- Everything in a history is of a day, so that it counts for a series and a day.
 abbrev pub EachDated : {A : Type 0} → List (Dated A) → Type 0
 EachDated [] = Unit
-EachDated (x ∷ l) = ((d : ℕ) × (x.day ≡ At d)) × EachDated l
+EachDated (x ∷ l) = ((d : ℕ) × (x.day ≡ Some d)) × EachDated l
 
 -- ─── "whenever, since the serving end last took a login there .." ───
 
@@ -64,7 +63,7 @@ in_that s (x ∷ l) = cond (eqb x.series s) (x.what ∷ in_that s l) (in_that s 
 pub record CaughtUp (u v w : World) (s d : ℕ) (a out : List ℕ) : Type 0 where
   -- The event is a login of series s on day d that was taken: it put an answer on the line;
   pub login : v.serving.answers ≡ u.serving.answers ++ (in_series s a ∷ [])
-  pub day : v.serving.day ≡ At d
+  pub day : v.serving.day ≡ Some d
   -- and the last one there: behind it there is no other.
   pub last : in_that s (since v.serving.answers w.serving.answers) ≡ []
   -- "that login's answer and then every message sent were delivered, whole and in order (whatever else was delivered
@@ -73,7 +72,7 @@ pub record CaughtUp (u v w : World) (s d : ℕ) (a out : List ℕ) : Type 0 wher
       Subsequence (answer s a ∷ map message (in_that s (since v.serving.messages w.serving.messages)))
       (since v.receiving.delivered w.receiving.delivered)
   -- "the sender has none left at the list's end": Send would answer "none".
-  pub drained : (send_of w.serving.end s w.serving.log out).answer ≡ Drained
+  pub drained : (send_of w.serving.end s w.serving.log out).answer ≡ (Ok None)
   -- "the buffers are large enough": the chain buffer holds all its parts. An output that is too small makes a Send
   -- refused, and a refused Send sends nothing and leaves one more to send.
   pub room : all_parts w.receiving.end ≤ length w.receiving.buffer

@@ -4,38 +4,20 @@ use Rattle.std.specs.Prelude.{ℕ, List, [], ◌∷◌, map, Bool, true, false, 
 use Rattle.ftd.specs.Bytes.{part}
 use Rattle.ftd.specs.Refusal.{number_of}
 use Rattle.ftd.specs.declared.packet.Span.{Span}
-use Rattle.flow.specs.declared.sender.Opened.{Opened}
-use Rattle.flow.specs.declared.sender.Opened.TheVariants.{Done}
-use Rattle.flow.specs.declared.sender.Opened.TheVariants.{Refused as NotOpened}
-use Rattle.flow.specs.declared.sender.Published.{Published}
-use Rattle.flow.specs.declared.sender.Published.TheVariants.{Number}
-use Rattle.flow.specs.declared.sender.Published.TheVariants.{Refused as NotPublished}
-use Rattle.flow.specs.declared.sender.LoggedIn.{LoggedIn}
-use Rattle.flow.specs.declared.sender.LoggedIn.TheVariants.{Wrote as Answered}
-use Rattle.flow.specs.declared.sender.LoggedIn.TheVariants.{Refused as NotIn}
-use Rattle.flow.specs.declared.sender.Sent.{Sent}
-use Rattle.flow.specs.declared.sender.Sent.TheVariants.{Drained}
-use Rattle.flow.specs.declared.sender.Sent.TheVariants.{Wrote as Message-sent}
-use Rattle.flow.specs.declared.sender.Sent.TheVariants.{Refused as NotSent}
-use Rattle.flow.specs.declared.sender.SentPacket.{SentPacket}
-use Rattle.flow.specs.declared.sender.SentPacket.TheVariants.{Drained as NoPacket}
-use Rattle.flow.specs.declared.sender.SentPacket.TheVariants.{Wrote as Packet-sent}
-use Rattle.flow.specs.declared.sender.SentPacket.TheVariants.{Refused as NotPacket}
-use Rattle.flow.specs.declared.receiver.Requested.{Requested}
-use Rattle.flow.specs.declared.receiver.Requested.TheVariants.{Wrote as Asked}
-use Rattle.flow.specs.declared.receiver.Requested.TheVariants.{Refused as NotAsked}
-use Rattle.flow.specs.declared.receiver.Confirmed.{Confirmed}
-use Rattle.flow.specs.declared.receiver.Confirmed.TheVariants.{Last}
-use Rattle.flow.specs.declared.receiver.Confirmed.TheVariants.{Refused as NotConfirmed}
+use Rattle.flow.specs.Types.{Opened}
+use Rattle.flow.specs.Types.{Published}
+use Rattle.flow.specs.Types.{LoggedIn}
+use Rattle.flow.specs.Types.{Requested}
+use Rattle.flow.specs.Types.{Confirmed}
 use Rattle.flow.specs.declared.receiver.Origin.{Origin}
 use Rattle.flow.specs.declared.receiver.Origin.TheVariants.{Packet, Buffer}
 use Rattle.flow.specs.declared.receiver.Received.{Received}
 use Rattle.flow.specs.declared.receiver.Received.TheVariants.{Idle, Duplicate, Partial, Complete}
 use Rattle.flow.specs.declared.receiver.Received.TheVariants.{Refused as NotTaken}
-use Rattle.flow.specs.declared.checkpoint.Saved.{Saved}
-use Rattle.flow.specs.declared.checkpoint.Saved.TheVariants.{Done as Saved-done, Refused as NotSaved}
-use Rattle.flow.specs.declared.checkpoint.Restored.{Restored}
-use Rattle.flow.specs.declared.checkpoint.Restored.TheVariants.{Done as Restored-done, Refused as NotRestored}
+use Rattle.flow.specs.Types.{Saved}
+use Rattle.flow.specs.Types.{Restored}
+use Rattle.std.specs.Prelude.{Some, None, Ok, Err}
+use Rattle.flow.specs.Types.{SendAnswer, PacketSent}
 
 -- ─── The paper's words, with their values ───
 
@@ -63,34 +45,34 @@ pub data Said : Type 0 where
 -- ─── Each answer's ───
 
 abbrev pub opened_said : Opened → Said
-opened_said Done = opened
-opened_said (NotOpened r) = refused (number_of r)
+opened_said (Ok tt) = opened
+opened_said (Err r) = refused (number_of r)
 
 abbrev pub published_said : Published → Said
-published_said (Number k) = published k
-published_said (NotPublished r) = refused (number_of r)
+published_said (Ok k) = published k
+published_said (Err r) = refused (number_of r)
 
 abbrev pub login_said : LoggedIn → Said
-login_said (Answered n) = answered n
-login_said (NotIn r) = refused (number_of r)
+login_said (Ok n) = answered n
+login_said (Err r) = refused (number_of r)
 
-abbrev pub sent_said : Sent → Said
-sent_said Drained = none
-sent_said (Message-sent k n) = sent k n
-sent_said (NotSent r) = refused (number_of r)
+abbrev pub sent_said : SendAnswer → Said
+sent_said (Ok None) = none
+sent_said (Ok (Some found)) = sent found.number found.len
+sent_said (Err r) = refused (number_of r)
 
-abbrev pub sent_packet_said : SentPacket → Said
-sent_packet_said NoPacket = none
-sent_packet_said (Packet-sent k n last) = sent_packet k n last
-sent_packet_said (NotPacket r) = refused (number_of r)
+abbrev pub sent_packet_said : PacketSent → Said
+sent_packet_said (Ok None) = none
+sent_packet_said (Ok (Some found)) = sent_packet found.number found.len found.last
+sent_packet_said (Err r) = refused (number_of r)
 
 abbrev pub requested_said : Requested → Said
-requested_said (Asked n) = asked n
-requested_said (NotAsked r) = refused (number_of r)
+requested_said (Ok n) = asked n
+requested_said (Err r) = refused (number_of r)
 
 abbrev pub confirmed_said : Confirmed → Said
-confirmed_said (Last n) = confirmed n
-confirmed_said (NotConfirmed r) = refused (number_of r)
+confirmed_said (Ok n) = confirmed n
+confirmed_said (Err r) = refused (number_of r)
 
 -- The content lies in the packet p that was given, or in the reassembly buffer as the call left it.
 abbrev pub content_in : List ℕ → List ℕ → Origin → Span → List ℕ
@@ -106,12 +88,12 @@ received_said p buffer (Complete n tid origin at) =
 received_said p buffer (NotTaken r) = refused (number_of r)
 
 abbrev pub saved_said : Saved → Said
-saved_said Saved-done = kept
-saved_said (NotSaved r) = refused (number_of r)
+saved_said (Ok tt) = kept
+saved_said (Err r) = refused (number_of r)
 
 abbrev pub restored_said : Restored → Said
-restored_said Restored-done = returned
-restored_said (NotRestored r) = refused (number_of r)
+restored_said (Ok tt) = returned
+restored_said (Err r) = refused (number_of r)
 
 -- ─── What is read off them ───
 

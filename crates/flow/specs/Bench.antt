@@ -5,9 +5,8 @@ use Rattle.ftd.specs.Bytes.{joined}
 use Rattle.ftd.specs.Fields.{field_with}
 use Rattle.ftd.specs.Chain.{packets_of}
 use Rattle.ftd.specs.Bench.{BenchRow, bench_row, all_same, up_to_nine, twelfth}
-use Rattle.ftd.specs.declared.tags.TradeDate.TheVariants.{At}
 use Rattle.flow.specs.declared.sender.Sender.{Sender}
-use Rattle.flow.specs.declared.sender.LoggedIn.{LoggedIn}
+use Rattle.flow.specs.Types.{LoggedIn}
 use Rattle.flow.specs.declared.receiver.Receiver.{Receiver}
 use Rattle.flow.specs.Ends.{Wrote, fresh_receiver, with_series, logged_in}
 use Rattle.flow.specs.Answers.{Message, Said, refused, opened, published, answered, sent, none, asked, confirmed}
@@ -16,6 +15,7 @@ use Rattle.flow.specs.Answers.{received_said}
 use Rattle.flow.specs.Serving.{login_of, send_of}
 use Rattle.flow.specs.Receiving.{open_end_of, request_bytes, receive_of}
 use Rattle.flow.specs.World.{open_sender, publish, World, start, run}
+use Rattle.std.specs.Prelude.{Some}
 
 -- ─── Answers in numbers: which one it is, and its values ───
 
@@ -65,14 +65,14 @@ space n = replicate n 170
 
 -- A receiving end with series 1, of day 7, at a last number.
 unfoldable pub at_last : ℕ → Receiver
-at_last last = with_series (open_end_of fresh_receiver (1 ∷ [])).end 1 (At 7) last logged_in
+at_last last = with_series (open_end_of fresh_receiver (1 ∷ [])).end 1 (Some 7) last logged_in
 
 -- ─── P10: each from last 5 ───
 
 -- S with a number.
 abbrev pub receives_row : ℕ → Said
 receives_row k =
-    let p = joined (packets_of (record { date = At 7; tid = tid; series = 1; number = k; counted = true }) (note 1 3)) in
+    let p = joined (packets_of (record { date = Some 7; tid = tid; series = 1; number = k; counted = true }) (note 1 3)) in
     let r = receive_of (at_last 5) p [] in
     received_said p r.bytes r.answer
 

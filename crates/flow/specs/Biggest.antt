@@ -6,16 +6,13 @@ use Rattle.ftd.specs.Chain.{packets_of, most_packets, most_packet, most_output}
 use Rattle.ftd.specs.Bench.{same}
 use Rattle.ftd.specs.declared.chain.Message.{Message}
 use Rattle.ftd.specs.declared.refusal.Refusal.TheVariants.{TooSmall}
-use Rattle.ftd.specs.declared.tags.TradeDate.TheVariants.{At}
 use Rattle.flow.specs.declared.limits.Most.{Most}
 use Rattle.flow.specs.declared.sender.Sender.{Sender}
-use Rattle.flow.specs.declared.sender.Published.TheVariants.{Number}
-use Rattle.flow.specs.declared.sender.Sent.TheVariants.{Refused}
-use Rattle.flow.specs.declared.sender.SentPacket.TheVariants.{Refused as NotPacket}
 use Rattle.flow.specs.Ends.{fresh_sender}
 use Rattle.flow.specs.Answers.{published, published_said}
 use Rattle.flow.specs.Serving.{open_day_of, publish_of, send_of, send_packet_of}
 use Rattle.flow.specs.Bench.{numbers, note, space, tid}
+use Rattle.std.specs.Prelude.{Some, Ok, Err}
 
 -- For the constants of the serving end's type.
 abbrev pub sender_most : Most
@@ -29,7 +26,7 @@ unfoldable pub biggest_content : List ℕ
 biggest_content = joined (replicate 8 (note 0 0 ++ note 0 4069)) ++ note 0 114
 
 abbrev pub biggest_message : Message
-biggest_message = record { date = At 7; tid = tid; series = 1; number = 1; counted = true }
+biggest_message = record { date = Some 7; tid = tid; series = 1; number = 1; counted = true }
 
 -- Publish takes it, as number 1 of series 1, and it needs so many packets and bytes.
 abbrev pub reaches : ℕ → ℕ → Bool
@@ -48,17 +45,17 @@ pub record Biggest : Type 0 where
   pub in-numbers : (most_packets ≡ 17) × (most_packet ≡ 4110) × (most_output ≡ 33278)
   -- Content that Publish takes needs at most so many packets, each of at most so many bytes, and so many bytes in all,
   -- whatever the packets bear.
-  pub packets : (e : Sender) (s t : ℕ) (content log : List ℕ) (k : ℕ) → (publish_of e s t content log).answer ≡ Number k
+  pub packets : (e : Sender) (s t : ℕ) (content log : List ℕ) (k : ℕ) → (publish_of e s t content log).answer ≡ Ok k
       → (m : Message) → length (packets_of m content) ≤ most_packets
-  pub packet : (e : Sender) (s t : ℕ) (content log : List ℕ) (k : ℕ) → (publish_of e s t content log).answer ≡ Number k
+  pub packet : (e : Sender) (s t : ℕ) (content log : List ℕ) (k : ℕ) → (publish_of e s t content log).answer ≡ Ok k
       → (m : Message) (i : ℕ) → i < length (packets_of m content) → length (get_or (packets_of m content) i []) ≤ most_packet
-  pub bytes : (e : Sender) (s t : ℕ) (content log : List ℕ) (k : ℕ) → (publish_of e s t content log).answer ≡ Number k
+  pub bytes : (e : Sender) (s t : ℕ) (content log : List ℕ) (k : ℕ) → (publish_of e s t content log).answer ≡ Ok k
       → (m : Message) → length (joined (packets_of m content)) ≤ most_output
   -- One message takes as many.
   pub reached : T (reaches 17 33278)
   -- An output of as many bytes is never too small for Send, whatever the log holds.
   pub enough : (e : Sender) (s : ℕ) (log out : List ℕ) → most_output ≤ length out
-      → (send_of e s log out).answer ≡ Refused TooSmall → ⊥
+      → (send_of e s log out).answer ≡ Err TooSmall → ⊥
   -- Nor is one of as many bytes as one packet takes at most for Send of one packet (02, No. 4).
   pub enough-packet : (e : Sender) (s : ℕ) (log out : List ℕ) → most_packet ≤ length out
-      → (send_packet_of e s log out).answer ≡ NotPacket TooSmall → ⊥
+      → (send_packet_of e s log out).answer ≡ Err TooSmall → ⊥

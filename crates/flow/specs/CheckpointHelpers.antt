@@ -5,17 +5,16 @@ use Rattle.flow.specs.declared.receiver.KeptSeries.{KeptSeries}
 use Rattle.flow.specs.declared.receiver.Kept.{Kept}
 use Rattle.flow.specs.declared.receiver.Receiver.{Receiver}
 use Rattle.flow.specs.declared.checkpoint.Checkpoints.{Checkpoints}
-use Rattle.flow.specs.declared.checkpoint.NamePlace.{NamePlace}
-use Rattle.flow.specs.declared.checkpoint.NamePlace.TheVariants.{Unused, At}
-use Rattle.flow.specs.declared.checkpoint.Saved.TheVariants.{Done, Refused}
+use Rattle.flow.specs.Types.{NamePlace}
 use Rattle.flow.specs.declared.checkpoint.KeepStep.{KeepStep}
 use Rattle.flow.specs.Ends.{◌when◌else◌, member, index_of, day_of, last_of}
 use Rattle.flow.specs.Checkpoints.{checkpoint, used_names}
+use Rattle.std.specs.Prelude.{Some, None, Ok, Err}
 
 -- Where a name, as its number, stands among those in use.
 abbrev pub FindsName : Checkpoints → ℕ → NamePlace → Type 0
-FindsName c n Unused = member n (used_names c) ≡ false
-FindsName c n (At i) = (member n (used_names c) ≡ true) × (i ≡ index_of n (used_names c)) × (i < 4)
+FindsName c n None = member n (used_names c) ≡ false
+FindsName c n (Some i) = (member n (used_names c) ≡ true) × (i ≡ index_of n (used_names c)) × (i < 4)
 
 -- So many names, and what is kept under one at a place.
 abbrev pub placed_name : Checkpoints → ℕ → ℕ → ℕ → Kept → Checkpoints
@@ -24,8 +23,8 @@ placed_name c count i n kept = record { count = count; places = set c.places i (
 -- Keeping under a name that is not in use.
 abbrev pub kept_new : Checkpoints → ℕ → Kept → KeepStep
 kept_new c n kept =
-    record { checkpoints = placed_name c (c.count + 1) c.count n kept; answer = Done } when ltb c.count 4 else
-    record { checkpoints = c; answer = Refused FifthName }
+    record { checkpoints = placed_name c (c.count + 1) c.count n kept; answer = (Ok tt) } when ltb c.count 4 else
+    record { checkpoints = c; answer = Err FifthName }
 
 -- A series with what another end has of it.
 abbrev pub brought_from : Receiver → KeptSeries → KeptSeries

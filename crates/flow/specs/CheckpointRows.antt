@@ -1,14 +1,14 @@
 -- Keeping and returning (02, No. 13), worked: names, refusals and what is brought back.
 use Rattle.std.specs.Prelude.{ℕ, List, [], ◌∷◌, cond, replicate, T}
 use Rattle.ftd.specs.Bench.{BenchRow, bench_row, all_same}
-use Rattle.ftd.specs.declared.tags.TradeDate.{TradeDate}
-use Rattle.ftd.specs.declared.tags.TradeDate.TheVariants.{None, At}
+use Rattle.ftd.specs.Types.{TradeDate}
 use Rattle.flow.specs.declared.receiver.Receiver.{Receiver}
 use Rattle.flow.specs.declared.checkpoint.Checkpoints.{Checkpoints}
 use Rattle.flow.specs.Ends.{day_of, last_of, live_of, fresh_receiver, holding, with_series}
 use Rattle.flow.specs.Answers.{Said, refused, kept, returned, saved_said, restored_said}
 use Rattle.flow.specs.Checkpoints.{fresh_checkpoints, keep_of, restore_of}
 use Rattle.flow.specs.Bench.{says, tid, at_last}
+use Rattle.std.specs.Prelude.{Some, None}
 
 -- A and its like, by letter.
 abbrev pub letter : ℕ → List ℕ
@@ -29,15 +29,15 @@ saving c name = saved_said (keep_of c (at_last 7) name).answer
 abbrev pub returning : Checkpoints → List ℕ → Said
 returning c name = restored_said (restore_of c (at_last 7) name).answer
 
--- At last 7, within a chain: 4,070 bytes in one piece.
+-- Some last 7, within a chain: 4,070 bytes in one piece.
 abbrev pub chained : Receiver
-chained = with_series (at_last 7) 1 (At 7) 7 (holding tid 4070 1)
+chained = with_series (at_last 7) 1 (Some 7) 7 (holding tid 4070 1)
 
 -- The trade date, 0 where there is none; last; 1 where it is logged in; 1 where a chain is there, and of it TID, bytes
 -- and pieces.
 abbrev pub day_number : TradeDate → ℕ
 day_number None = 0
-day_number (At d) = d
+day_number (Some d) = d
 
 abbrev pub state_back : Checkpoints → List ℕ → List ℕ
 state_back c name =

@@ -12,12 +12,11 @@ use Rattle.flow.specs.declared.receiver.Kept.{Kept}
 use Rattle.flow.specs.declared.receiver.Receiver.{Receiver}
 use Rattle.flow.specs.declared.checkpoint.Checkpoint.{Checkpoint}
 use Rattle.flow.specs.declared.checkpoint.Checkpoints.{Checkpoints}
-use Rattle.flow.specs.declared.checkpoint.Saved.{Saved}
-use Rattle.flow.specs.declared.checkpoint.Saved.TheVariants.{Done as Saved-done, Refused as NotSaved}
-use Rattle.flow.specs.declared.checkpoint.Restored.{Restored}
-use Rattle.flow.specs.declared.checkpoint.Restored.TheVariants.{Done as Restored-done, Refused as NotRestored}
+use Rattle.flow.specs.Types.{Saved}
+use Rattle.flow.specs.Types.{Restored}
 use Rattle.flow.specs.Ends.{◌when◌else◌, Left, left, member, index_of, most_series, no_live, receiver, day_of, last_of}
 use Rattle.flow.specs.Ends.{fresh_receiver}
+use Rattle.std.specs.Prelude.{Ok, Err}
 
 -- ─── Names ───
 
@@ -72,9 +71,9 @@ with_checkpoint c name kept =
 
 unfoldable pub keep_of : Checkpoints → Receiver → List ℕ → Left Checkpoints Saved
 keep_of c e name =
-    left c (NotSaved WrongName) when wrong_name name else
-    left c (NotSaved FifthName) when not (is_used c name) && leb most_names c.count else
-    left (with_checkpoint c name e.kept) Saved-done
+    left c (Err WrongName) when wrong_name name else
+    left c (Err FifthName) when not (is_used c name) && leb most_names c.count else
+    left (with_checkpoint c name e.kept) (Ok tt)
 
 -- ─── Return: a name; the checkpoints are read ───
 
@@ -99,6 +98,6 @@ restored e kept =
 
 unfoldable pub restore_of : Checkpoints → Receiver → List ℕ → Left Receiver Restored
 restore_of c e name =
-    left e (NotRestored WrongName) when wrong_name name else
-    left e (NotRestored UnknownName) when not (is_used c name) else
-    left (restored e (checkpoint_of c name)) Restored-done
+    left e (Err WrongName) when wrong_name name else
+    left e (Err UnknownName) when not (is_used c name) else
+    left (restored e (checkpoint_of c name)) (Ok tt)

@@ -7,18 +7,18 @@ use Rattle.ftd.specs.Refusal.{number_of}
 use Rattle.ftd.specs.declared.packet.Span.{Span}
 use Rattle.ftd.specs.declared.refusal.Refusal.{Refusal}
 use Rattle.ftd.specs.declared.refusal.Refusal.TheVariants.{OtherDay}
-use Rattle.ftd.specs.declared.tags.TradeDate.{TradeDate}
+use Rattle.ftd.specs.Types.{TradeDate}
 use Rattle.flow.specs.declared.receiver.Receiver.{Receiver}
 use Rattle.flow.specs.declared.receiver.Origin.TheVariants.{Packet as FromPacket, Buffer as FromBuffer}
 use Rattle.flow.specs.declared.receiver.Received.{Received}
 use Rattle.flow.specs.declared.receiver.Received.TheVariants.{Idle, Duplicate, Partial, Complete}
 use Rattle.flow.specs.declared.receiver.Received.TheVariants.{Refused as NotTaken}
-use Rattle.flow.specs.declared.receiver.Target.{Target}
-use Rattle.flow.specs.declared.receiver.Target.TheVariants.{Nothing, At}
+use Rattle.flow.specs.Types.{Target}
 use Rattle.flow.specs.declared.receiver.Decision.{Decision}
 use Rattle.flow.specs.Ends.{◌when◌else◌, Wrote, wrote, before, is_open, kept_of}
 use Rattle.flow.specs.Receiving.{receive_of, dropped}
 use Rattle.flow.specs.World.{series_in}
+use Rattle.std.specs.Prelude.{Some, None}
 
 -- ─── 15 for a day before some trade date ───
 
@@ -45,8 +45,8 @@ receive_from floor e p buffer =
 
 -- Behind the bytes that are held, at a place of the buffer; nothing where it does not fit there.
 abbrev pub copied_to : Target → List ℕ → List ℕ → List ℕ
-copied_to Nothing content buffer = buffer
-copied_to (At n) content buffer = put buffer n content when leb (n + length content) (length buffer) else buffer
+copied_to None content buffer = buffer
+copied_to (Some n) content buffer = put buffer n content when leb (n + length content) (length buffer) else buffer
 
 abbrev pub span_of : List ℕ → Span → List ℕ
 span_of l at = part l at.start at.len
@@ -54,15 +54,15 @@ span_of l at = part l at.start at.len
 -- Where the content of a message lies that is handed on: in the packet; or in a part of the buffer of which the last
 -- bytes are the piece that is copied.
 abbrev pub EndsIn : Span → ℕ → List ℕ → Target → Type 0
-EndsIn all more buffer Nothing = ⊥
-EndsIn all more buffer (At n) =
+EndsIn all more buffer None = ⊥
+EndsIn all more buffer (Some n) =
     (all.start ≤ n) × (n + more ≡ all.start + all.len) × (n + more ≤ length buffer)
 
 abbrev pub LiesAt : Decision → List ℕ → Received → Type 0
 LiesAt r buffer Idle = Unit
 LiesAt r buffer (Duplicate n) = Unit
 LiesAt r buffer (Partial n) = Unit
-LiesAt r buffer (Complete n tid FromPacket all) = (all ≡ r.content) × (r.target ≡ Nothing)
+LiesAt r buffer (Complete n tid FromPacket all) = (all ≡ r.content) × (r.target ≡ None)
 LiesAt r buffer (Complete n tid FromBuffer all) = EndsIn all r.content.len buffer r.target
 LiesAt r buffer (NotTaken x) = Unit
 

@@ -8,8 +8,7 @@
 -- is above that.
 use Rattle.std.specs.Prelude.{ℕ, suc, ◌+◌, ◌-◌, ◌*◌, List, [], ◌∷◌, ◌++◌, map, Bool, true, false, cond, not, ◌&&◌, ◌||◌, length, get_or, take, drop, set, replicate, ltb, leb, eqb}
 use Rattle.ftd.specs.Fields.{most_content, packet_content}
-use Rattle.ftd.specs.declared.tags.TradeDate.{TradeDate}
-use Rattle.ftd.specs.declared.tags.TradeDate.TheVariants.{None, At}
+use Rattle.ftd.specs.Types.{TradeDate}
 use Rattle.flow.specs.declared.limits.Limits.{Limits}
 use Rattle.flow.specs.declared.sender.DaySeries.{DaySeries}
 use Rattle.flow.specs.declared.sender.Place.{Place}
@@ -17,6 +16,7 @@ use Rattle.flow.specs.declared.sender.Sender.{Sender}
 use Rattle.flow.specs.declared.receiver.KeptSeries.{KeptSeries}
 use Rattle.flow.specs.declared.receiver.LiveSeries.{LiveSeries}
 use Rattle.flow.specs.declared.receiver.Receiver.{Receiver}
+use Rattle.std.specs.Prelude.{Some, None}
 
 -- ─── The form of a call's definition ───
 
@@ -98,22 +98,22 @@ filled none l = l ++ replicate (most_series - length l) none
 -- Both are there, and the first is below the second; or at most as high.
 abbrev pub before : TradeDate → TradeDate → Bool
 before None e = false
-before (At d) None = false
-before (At d) (At e) = ltb d e
+before (Some d) None = false
+before (Some d) (Some e) = ltb d e
 
 abbrev pub up_to : ℕ → TradeDate → Bool
 up_to d None = false
-up_to d (At e) = leb d e
+up_to d (Some e) = leb d e
 
 -- There is one, and it is not the other.
 abbrev pub differs : TradeDate → TradeDate → Bool
 differs None e = false
-differs (At d) None = true
-differs (At d) (At e) = not (eqb d e)
+differs (Some d) None = true
+differs (Some d) (Some e) = not (eqb d e)
 
 abbrev pub is_day : ℕ → TradeDate → Bool
 is_day d None = false
-is_day d (At e) = eqb e d
+is_day d (Some e) = eqb e d
 
 -- ─── The serving end ───
 

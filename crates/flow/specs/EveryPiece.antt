@@ -9,7 +9,6 @@ use Rattle.ftd.specs.Packet.{extension_of, not_one_packet, dated_of}
 use Rattle.ftd.specs.Chain.{packets_of}
 use Rattle.ftd.specs.Bench.{BenchRow, bench_row, all_same}
 use Rattle.ftd.specs.declared.refusal.Refusal.TheVariants.{NotOnePacket, BrokenChain}
-use Rattle.ftd.specs.declared.tags.PacketPlace.TheVariants.{NoPlace, Nth}
 use Rattle.ftd.specs.declared.packet.Span.{Span}
 use Rattle.ftd.specs.declared.packet.Chain.{Chain}
 use Rattle.ftd.specs.declared.packet.Chain.TheVariants.{Single, First, Middle, Last}
@@ -26,6 +25,7 @@ use Rattle.flow.specs.World.{confirm_login, receive, Transmission, World, start,
 use Rattle.flow.specs.Agreement.{published_on}
 use Rattle.flow.specs.PacketByPacket.{headed_at}
 use Rattle.flow.specs.Bench.{tid, note, space, req_login, rsp_login}
+use Rattle.std.specs.Prelude.{Some, None}
 
 -- ─── An example ───
 
@@ -152,7 +152,7 @@ pub record Broken (e : Receiver) (p buffer : List ℕ) (s : ℕ) : Type 0 where
 abbrev pub received_unplaced : Receiver → List ℕ → List ℕ → Wrote Receiver Received
 received_unplaced e p buffer =
     wrote e (Refused NotOnePacket) buffer when not_one_packet p else
-    receive_read e p buffer (dated_of p).date NoPlace (dated_of p).packet
+    receive_read e p buffer (dated_of p).date None (dated_of p).packet
 
 -- ─── The statement ───
 
@@ -160,26 +160,26 @@ pub record EveryPiece : Type 0 where
   -- Packet j of a transmission, whichever Send wrote it, bears place j.
   pub placed : (log buffer : List ℕ) (es : List Event) (i j : ℕ) (t : Transmission) (p : List ℕ)
       → get_elem? (run (start log buffer) es).serving.transmissions i ≡ some t → get_elem? t.packets j ≡ some p
-      → (dated_of p).place ≡ Nth j
+      → (dated_of p).place ≡ Some j
   -- And its extension is the trade date and that place.
   pub tagged : (log buffer : List ℕ) (es : List Event) (i j : ℕ) (t : Transmission) (p : List ℕ)
       → get_elem? (run (start log buffer) es).serving.transmissions i ≡ some t → get_elem? t.packets j ≡ some p
       → Tagged (run (start log buffer) es) t j p
   -- A place other than the count of the pieces held, 0 for S and F, is 17, whatever the buffer; the chain is dropped, and
   -- nothing else changed.
-  pub compared : (e : Receiver) (p buffer : List ℕ) (h : Header) (j : ℕ) → InLine e p h → (dated_of p).place ≡ Nth j
+  pub compared : (e : Receiver) (p buffer : List ℕ) (h : Header) (j : ℕ) → InLine e p h → (dated_of p).place ≡ Some j
       → (j ≡ held_before e h h.chain → ⊥) → Broken e p buffer h.series
   -- Without a place, with one that agrees, or for the numbers 1 to last, Receive does as if there were no place.
-  pub unplaced : (e : Receiver) (p buffer : List ℕ) → (dated_of p).place ≡ NoPlace
+  pub unplaced : (e : Receiver) (p buffer : List ℕ) → (dated_of p).place ≡ None
       → receive_of e p buffer ≡ received_unplaced e p buffer
   pub agreeing : (e : Receiver) (p buffer : List ℕ) (h : Header) (extension c : Span)
-      → (dated_of p).packet ≡ Message h extension c → (dated_of p).place ≡ Nth (held_before e h h.chain)
+      → (dated_of p).packet ≡ Message h extension c → (dated_of p).place ≡ Some (held_before e h h.chain)
       → receive_of e p buffer ≡ received_unplaced e p buffer
   pub repeated : (e : Receiver) (p buffer : List ℕ) (h : Header) (extension c : Span)
       → (dated_of p).packet ≡ Message h extension c → h.number ≤ (kept_of e h.series).last
       → receive_of e p buffer ≡ received_unplaced e p buffer
   -- And then 17 is as it was before No. 10: C or L without an open chain of the same TID.
-  pub as_before : (e : Receiver) (p buffer : List ℕ) (h : Header) → InLine e p h → (dated_of p).place ≡ NoPlace
+  pub as_before : (e : Receiver) (p buffer : List ℕ) (h : Header) → InLine e p h → (dated_of p).place ≡ None
       → ((receive_of e p buffer).answer ≡ Refused BrokenChain)
       ↔ ((goes_on h.chain && not ((live_of e h.series).chain && eqb (live_of e h.series).tid h.tid)) ≡ true)
   -- A piece that is held is counted, up to 65,536.
@@ -188,10 +188,10 @@ pub record EveryPiece : Type 0 where
       → (live_of (receive_of e p buffer).end h.series).pieces
       ≡ cond (ltb (held_before e h h.chain) 65536) (held_before e h h.chain + 1) 65536
   -- A chain that has counted so many goes on with no C or L that bears a place (of two bytes).
-  pub full : (e : Receiver) (p buffer : List ℕ) (h : Header) (j : ℕ) → InLine e p h → (dated_of p).place ≡ Nth j
+  pub full : (e : Receiver) (p buffer : List ℕ) (h : Header) (j : ℕ) → InLine e p h → (dated_of p).place ≡ Some j
       → j < 65536 → goes_on h.chain ≡ true → (live_of e h.series).pieces ≡ 65536 → Broken e p buffer h.series
   -- The count stops at 65,536, and from there on no place of two bytes agrees.
   pub stops : one_more most_pieces ≡ most_pieces
-  pub none-agrees : (j : ℕ) → j < 65536 → misplaced (Nth j) most_pieces ≡ true
+  pub none-agrees : (j : ℕ) → j < 65536 → misplaced (Some j) most_pieces ≡ true
   -- It is not empty: the example's numbers are these.
   pub example : T (all_same example_rows)

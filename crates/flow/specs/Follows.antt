@@ -7,8 +7,7 @@ use Rattle.ftd.specs.Packet.{dated_of}
 use Rattle.ftd.specs.Chain.{packet_for}
 use Rattle.ftd.specs.Bench.{BenchRow, bench_row, all_same}
 use Rattle.ftd.specs.Follow.{Numbered, run_all, also, takes, counting, Follows}
-use Rattle.ftd.specs.declared.tags.TradeDate.{TradeDate}
-use Rattle.ftd.specs.declared.tags.TradeDate.TheVariants.{None, At}
+use Rattle.ftd.specs.Types.{TradeDate}
 use Rattle.ftd.specs.declared.packet.Chain.{Chain}
 use Rattle.ftd.specs.declared.packet.Chain.TheVariants.{Single, First}
 use Rattle.ftd.specs.declared.packet.Packet.{Packet}
@@ -22,6 +21,7 @@ use Rattle.flow.specs.Answers.{is_taken, report_in, opened_said, confirmed_said,
 use Rattle.flow.specs.Receiving.{open_end_of, connect_of, request_login_of, confirm_login_of, receive_of}
 use Rattle.flow.specs.World.{borne}
 use Rattle.flow.specs.Bench.{tid, note, rsp_login, at_last}
+use Rattle.std.specs.Prelude.{Some, None}
 
 -- ─── The end and its calls ───
 
@@ -81,8 +81,8 @@ took_of s v (lend buffer) = none
 -- The second is a trade date, and it is the first one or above the one there was.
 abbrev pub rises : TradeDate → TradeDate → Bool
 rises was None = false
-rises None (At d) = true
-rises (At k) (At d) = ltb k d
+rises None (Some d) = true
+rises (Some k) (Some d) = ltb k d
 
 -- An Opening that is taken; an Answer for the series that is taken, with its first or a higher trade date.
 abbrev pub anew_of : ℕ → Lent → Call → Bool
@@ -129,13 +129,13 @@ first_on s d v = cond (is_day d (day_of v.end s)) (last_of v.end s + 1) 1
 pub record OneStretch (s d : ℕ) (v : Lent) (cs : List Call) : Type 0 where
   pub count : ℕ
   pub numbers : takes_on s d v cs ≡ counting (first_on s d v) count
-  pub kept : let e = (run_all (of_series s) v cs).end in day_of e s ≡ At d → last_of e s + 1 ≡ first_on s d v + count
+  pub kept : let e = (run_all (of_series s) v cs).end in day_of e s ≡ Some d → last_of e s + 1 ≡ first_on s d v + count
 
 -- Of an end that starts fresh exactly 1 to k, k being last while the day is kept.
 pub record FromOne (s d : ℕ) (buffer : List ℕ) (cs : List Call) : Type 0 where
   pub k : ℕ
   pub numbers : takes_on s d (lent fresh_receiver buffer) cs ≡ counting 1 k
-  pub kept : let e = (run_all (of_series s) (lent fresh_receiver buffer) cs).end in day_of e s ≡ At d → last_of e s ≡ k
+  pub kept : let e = (run_all (of_series s) (lent fresh_receiver buffer) cs).end in day_of e s ≡ Some d → last_of e s ≡ k
 
 -- ─── An example ───
 
@@ -143,7 +143,7 @@ pub record FromOne (s d : ℕ) (buffer : List ℕ) (cs : List Call) : Type 0 whe
 abbrev pub sample : Chain → ℕ → ℕ → Call
 sample c d k =
     receive
-    (packet_for (record { date = At d; tid = tid; series = 1; number = k; counted = true }) 0 c
+    (packet_for (record { date = Some d; tid = tid; series = 1; number = k; counted = true }) 0 c
     (record { bytes = note 1 3; count = 1 }))
 
 -- From last 5 on day 7: 6 is taken and comes again, 7 is taken, 9 is a gap; an Answer of the same day changes nothing,
@@ -155,12 +155,12 @@ example_calls =
     ∷ sample Single 7 6
     ∷ sample Single 7 7
     ∷ sample Single 7 9
-    ∷ answer 1 (login_bytes (At 7) rsp_login)
+    ∷ answer 1 (login_bytes (Some 7) rsp_login)
     ∷ sample Single 7 8
-    ∷ answer 1 (login_bytes (At 8) rsp_login)
+    ∷ answer 1 (login_bytes (Some 8) rsp_login)
     ∷ sample Single 7 1
     ∷ sample Single 8 1
-    ∷ answer 1 (login_bytes (At 7) rsp_login)
+    ∷ answer 1 (login_bytes (Some 7) rsp_login)
     ∷ sample First 8 2
     ∷ sample Single 8 2
     ∷ []

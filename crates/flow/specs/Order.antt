@@ -10,8 +10,7 @@ use Rattle.std.proofs.Math.ListN.{get_elem?}
 use Rattle.ftd.specs.Bench.{same}
 use Rattle.ftd.specs.declared.refusal.Refusal.{Refusal}
 use Rattle.ftd.specs.declared.refusal.Refusal.TheVariants.{UnknownSeries, OtherDay, DamagedLog}
-use Rattle.ftd.specs.declared.tags.TradeDate.{TradeDate}
-use Rattle.ftd.specs.declared.tags.TradeDate.TheVariants.{None, At}
+use Rattle.ftd.specs.Types.{TradeDate}
 use Rattle.flow.specs.declared.sender.Day.{Day}
 use Rattle.flow.specs.declared.sender.Seat.{Seat}
 use Rattle.flow.specs.declared.sender.Sender.{Sender}
@@ -23,6 +22,7 @@ use Rattle.flow.specs.Log.{misnumbered, misshapen, is_wanted, entry_of}
 use Rattle.flow.specs.Answers.{Message}
 use Rattle.flow.specs.World.{Event, start, run}
 use Rattle.flow.specs.Agreement.{of}
+use Rattle.std.specs.Prelude.{Some, None}
 
 -- ─── The messages of a series, read off a log ───
 
@@ -75,9 +75,9 @@ order_read (some l) (some m) = order_from 1 l m
 -- 15: the trade dates differ.
 abbrev pub other_date : TradeDate → TradeDate → Bool
 other_date None None = false
-other_date None (At e) = true
-other_date (At d) None = true
-other_date (At d) (At e) = not (eqb d e)
+other_date None (Some e) = true
+other_date (Some d) None = true
+other_date (Some d) (Some e) = not (eqb d e)
 
 unfoldable pub order_of : ℕ → Sender → List ℕ → Sender → List ℕ → Order
 order_of s a log b other =
@@ -182,7 +182,7 @@ pub record OrderLaws : Type 0 where
   pub made : (log buffer other buffer' : List ℕ) (es fs : List Event) (s d : ℕ) →
       let v = (run (start log buffer) es).serving in
       let u = (run (start other buffer') fs).serving in
-      v.day ≡ At d → u.day ≡ At d → is_served v.end s ≡ true → is_served u.end s ≡ true
+      v.day ≡ Some d → u.day ≡ Some d → is_served v.end s ≡ true → is_served u.end s ≡ true
       → order_of s v.end v.log u.end u.log ≡ order_from 1 (of s d v.published) (of s d u.published)
   pub undamaged : (log buffer other buffer' : List ℕ) (es fs : List Event) (s : ℕ) →
       let v = (run (start log buffer) es).serving in

@@ -4,12 +4,12 @@ use Rattle.std.proofs.Math.Option.{Option, none, some}
 use Rattle.ftd.specs.Bytes.{part}
 use Rattle.ftd.specs.Runs.{run_of}
 use Rattle.flow.specs.declared.sender.Sender.{Sender}
-use Rattle.flow.specs.declared.order.NextEntry.{NextEntry}
-use Rattle.flow.specs.declared.order.NextEntry.TheVariants.{Over, At}
 use Rattle.flow.specs.Ends.{◌when◌else◌}
 use Rattle.flow.specs.Log.{entry, entry_series, entry_of}
 use Rattle.flow.specs.Answers.{Message}
 use Rattle.flow.specs.Order.{message_of}
+use Rattle.std.specs.Prelude.{Some, None}
+use Rattle.flow.specs.Types.{MaybeEntry}
 
 -- The messages of a series among entries, and among the entries that bytes start with: no test is made on the way.
 abbrev pub of_series : ℕ → List (List ℕ) → List Message
@@ -20,11 +20,11 @@ unfoldable pub messages_in : ℕ → List ℕ → List Message
 messages_in s l = of_series s (run_of entry l).entries
 
 -- The next of n messages o of a series, in the bytes l: none is left; or it lies there, and the others behind it.
-abbrev pub NextIn : List Message → ℕ → ℕ → List ℕ → NextEntry → Type 0
-NextIn o s n l Over = o ≡ []
-NextIn o s n l (At start size) =
-    (o ≡ message_of (part l start size) ∷ take (n - 1) (messages_in s (drop (start + size) l)))
-    × (16 ≤ size) × (start + size ≤ length l) × (0 < n)
+abbrev pub NextIn : List Message → ℕ → ℕ → List ℕ → MaybeEntry → Type 0
+NextIn o s n l None = o ≡ []
+NextIn o s n l (Some found) =
+    (o ≡ message_of (part l found.start found.size) ∷ take (n - 1) (messages_in s (drop (found.start + found.size) l)))
+    × (16 ≤ found.size) × (found.start + found.size ≤ length l) × (0 < n)
 
 -- Entry n of a series is found, where n is not 0.
 abbrev pub is_found : Option (List ℕ) → Bool

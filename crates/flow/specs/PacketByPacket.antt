@@ -13,15 +13,8 @@ use Rattle.ftd.specs.declared.refusal.Refusal.TheVariants.{DamagedLog, TooSmall}
 use Rattle.ftd.specs.declared.packet.Header.{Header}
 use Rattle.ftd.specs.declared.packet.Span.{Span}
 use Rattle.ftd.specs.declared.packet.Packet.TheVariants.{Message as Packet-read}
-use Rattle.ftd.specs.declared.tags.TradeDate.TheVariants.{At}
 use Rattle.flow.specs.declared.sender.Sender.{Sender}
-use Rattle.flow.specs.declared.sender.Published.{Published}
-use Rattle.flow.specs.declared.sender.LoggedIn.TheVariants.{Wrote as Answered}
-use Rattle.flow.specs.declared.sender.Sent.TheVariants.{Drained}
-use Rattle.flow.specs.declared.sender.Sent.TheVariants.{Wrote as Message-sent}
-use Rattle.flow.specs.declared.sender.SentPacket.TheVariants.{Drained as NoPacket}
-use Rattle.flow.specs.declared.sender.SentPacket.TheVariants.{Wrote as Packet-sent}
-use Rattle.flow.specs.declared.sender.SentPacket.TheVariants.{Refused as NotPacket}
+use Rattle.flow.specs.Types.{Published}
 use Rattle.flow.specs.Ends.{Wrote, wrote, most_series, is_served, place_of, last_of}
 use Rattle.flow.specs.Log.{entry_tid, entry_content, entry_of}
 use Rattle.flow.specs.Answers.{Message}
@@ -31,10 +24,12 @@ use Rattle.flow.specs.World.{confirm_login, receive, Standing, going, whole, bro
 use Rattle.flow.specs.World.{World, start, step, run}
 use Rattle.flow.specs.Agreement.{published_on}
 use Rattle.flow.specs.Bench.{tid, note, space, req_login, rsp_login}
+use Rattle.std.specs.Prelude.{Some, None, Ok, Err}
+use Rattle.flow.specs.Types.{message_sent, packet_sent}
 
 -- Message x of series s, published at a place of day d, from 0: its number is one more.
 abbrev pub headed_at : ℕ → ℕ → ℕ → Message → Headed
-headed_at s d place x = record { date = At d; tid = x.tid; series = s; number = suc place; counted = true }
+headed_at s d place x = record { date = Some d; tid = x.tid; series = s; number = suc place; counted = true }
 
 -- A transmission is the first packets of a message that was published, in order; a whole one all of them, any other one
 -- not all.
@@ -71,11 +66,11 @@ none_behind (p ∷ rest) = false
 -- What the packet form does where p is next to come and `rest` behind it.
 pub record OnePacket (e : Sender) (s : ℕ) (log out p : List ℕ) (rest : List (List ℕ)) : Type 0 where
   -- 18 exactly if the output is too short for that packet, and then nothing is changed.
-  pub small : ((send_packet_of e s log out).answer ≡ NotPacket TooSmall) ↔ (length out < length p)
-  pub kept : length out < length p → send_packet_of e s log out ≡ wrote e (NotPacket TooSmall) out
+  pub small : ((send_packet_of e s log out).answer ≡ Err TooSmall) ↔ (length out < length p)
+  pub kept : length out < length p → send_packet_of e s log out ≡ wrote e (Err TooSmall) out
   -- Otherwise it is written to the output's start; its message's number, its length and whether it is the last are told.
   pub told : length p ≤ length out
-      → (send_packet_of e s log out).answer ≡ Packet-sent (place_of e s).next (length p) (none_behind rest)
+      → (send_packet_of e s log out).answer ≡ packet_sent (place_of e s).next (length p) (none_behind rest)
   pub written : length p ≤ length out → (send_packet_of e s log out).bytes ≡ p ++ drop (length p) out
   -- The others are still to come; behind the last one the place steps on.
   pub others : length p ≤ length out → none_behind rest ≡ false
@@ -101,7 +96,7 @@ pub record AllSent (w v : World) (s k : ℕ) : Type 0 where
   pub day : ℕ
   pub place : ℕ
   pub message : Message
-  pub today : w.serving.day ≡ At day
+  pub today : w.serving.day ≡ Some day
   pub number : k ≡ suc place
   pub published : get_elem? (published_on w s day) place ≡ some message
   pub given :
@@ -186,7 +181,7 @@ pub record PacketByPacket : Type 0 where
       → to_come e s log ≡ p ∷ rest → OnePacket e s log out p rest
   -- Where there is none (only in a log that was altered), 20 is said and nothing changed.
   pub no-packet : (e : Sender) (s : ℕ) (log out : List ℕ) → has_left e s ≡ true → to_come e s log ≡ []
-      → send_packet_of e s log out ≡ wrote e (NotPacket DamagedLog) out
+      → send_packet_of e s log out ≡ wrote e (Err DamagedLog) out
   -- "Meanwhile publishing is allowed": whoever is logged in, and whatever was written of which message, Publish does the
   -- same.
   pub allowed : (e f : Sender) (t tid : ℕ) (content log : List ℕ) → e.day ≡ f.day
@@ -197,19 +192,19 @@ pub record PacketByPacket : Type 0 where
       let k = start_of e (dated_of p).date (resume_of (part p c.start c.len)) in
       let f = (login_of e s p content out).end in
       length e.day.series ≡ most_series → length e.seat.places ≡ most_series
-      → (login_of e s p content out).answer ≡ Answered n → (dated_of p).packet ≡ Packet-read h extension c
+      → (login_of e s p content out).answer ≡ Ok n → (dated_of p).packet ≡ Packet-read h extension c
       → (place_of f s ≡ record { login = true; next = k; piece = 0 })
       × ((x : List ℕ) → entry_of e log s k ≡ some x → to_come f s log ≡ all_packets e s k x)
   -- "a whole Send writes it anew from its first packet", whatever was unfinished.
   pub anew : (log buffer : List ℕ) (es : List Event) (s : ℕ) (out : List ℕ) (k n : ℕ) →
       let w = run (start log buffer) es in
-      (send_of w.serving.end s w.serving.log out).answer ≡ Message-sent k n → AllSent w (step w (send s out)) s k
+      (send_of w.serving.end s w.serving.log out).answer ≡ message_sent k n → AllSent w (step w (send s out)) s k
   -- None is left for the one form if none is left for the other, of any end and any bytes.
   pub none_left : (e : Sender) (s : ℕ) (log out more : List ℕ)
-      → ((send_of e s log out).answer ≡ Drained) ↔ ((send_packet_of e s log more).answer ≡ NoPacket)
+      → ((send_of e s log out).answer ≡ (Ok None)) ↔ ((send_packet_of e s log more).answer ≡ (Ok None))
   -- The log is never damaged for it while only the ends' calls write it.
   pub undamaged : (log buffer : List ℕ) (es : List Event) (s : ℕ) (out : List ℕ) →
       let v = (run (start log buffer) es).serving in
-      (send_packet_of v.end s v.log out).answer ≡ NotPacket DamagedLog → ⊥
+      (send_packet_of v.end s v.log out).answer ≡ Err DamagedLog → ⊥
   -- It is not empty: the example's numbers are these.
   pub example : T (all_same example_rows)

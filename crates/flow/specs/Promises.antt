@@ -10,7 +10,7 @@ use Rattle.flow.specs.declared.sender.SendStep.{SendStep}
 use Rattle.flow.specs.declared.sender.SendPacketStep.{SendPacketStep}
 use Rattle.flow.specs.declared.receiver.Receiver.{Receiver}
 use Rattle.flow.specs.declared.receiver.OpenStep.{OpenStep as OpenEndStep}
-use Rattle.flow.specs.declared.receiver.Requested.{Requested}
+use Rattle.flow.specs.Types.{Requested}
 use Rattle.flow.specs.declared.receiver.ConfirmStep.{ConfirmStep}
 use Rattle.flow.specs.declared.receiver.ReceiveStep.{ReceiveStep}
 use Rattle.flow.specs.declared.checkpoint.Checkpoints.{Checkpoints}

@@ -6,8 +6,8 @@ use Rattle.ftd.specs.Fields.{most_content}
 use Rattle.ftd.specs.Packet.{span}
 use Rattle.ftd.specs.declared.refusal.Refusal.TheVariants.{UnknownSeries, NotLoggedIn, OtherDay, OutOfLine}
 use Rattle.ftd.specs.declared.refusal.Refusal.TheVariants.{BrokenChain, TooSmall}
-use Rattle.ftd.specs.declared.tags.TradeDate.{TradeDate}
-use Rattle.ftd.specs.declared.tags.PacketPlace.{PacketPlace}
+use Rattle.ftd.specs.Types.{TradeDate}
+use Rattle.ftd.specs.Types.{PacketPlace}
 use Rattle.ftd.specs.declared.packet.Span.{Span}
 use Rattle.ftd.specs.declared.packet.Chain.{Chain}
 use Rattle.ftd.specs.declared.packet.Chain.TheVariants.{Single, First, Middle, Last}
@@ -21,14 +21,13 @@ use Rattle.flow.specs.declared.receiver.Origin.TheVariants.{Packet as FromPacket
 use Rattle.flow.specs.declared.receiver.Received.{Received}
 use Rattle.flow.specs.declared.receiver.Received.TheVariants.{Duplicate, Partial, Complete}
 use Rattle.flow.specs.declared.receiver.Received.TheVariants.{Refused as NotTaken}
-use Rattle.flow.specs.declared.receiver.Target.{Target}
-use Rattle.flow.specs.declared.receiver.Target.TheVariants.{Nothing}
-use Rattle.flow.specs.declared.receiver.Target.TheVariants.{At as To}
+use Rattle.flow.specs.Types.{Target}
 use Rattle.flow.specs.declared.receiver.Decision.{Decision}
 use Rattle.flow.specs.Ends.{◌when◌else◌, most_series, before, differs, index_of, logged_in, holding}
 use Rattle.flow.specs.Ends.{kept_series, is_open, kept_of, live_of}
 use Rattle.flow.specs.Helpers.{series_at}
 use Rattle.flow.specs.Receiving.{out_of_line, broken_chain, misplaced, one_more}
+use Rattle.std.specs.Prelude.{Some, None}
 
 -- ─── Tests ───
 
@@ -58,7 +57,7 @@ one_step kept live answer target = record { kept = kept; live = live; answer = a
 
 -- A way out that drops the chain.
 abbrev pub one_dropping : KeptSeries → Received → OneStep
-one_dropping kept answer = one_step kept logged_in answer Nothing
+one_dropping kept answer = one_step kept logged_in answer None
 
 -- A message is handed on: its number is the last one, and no chain is open.
 abbrev pub one_completing : KeptSeries → Header → Origin → Span → Target → OneStep
@@ -76,12 +75,12 @@ one_keeping kept tid held pieces target =
 unfoldable pub one_holds : KeptSeries → ℕ → ℕ → Header → ℕ → ℕ → Bool → ℕ → ℕ → OneStep
 one_holds kept i count h held pieces whole more size =
     one_dropping kept (NotTaken TooSmall) when no_room count size held more else
-    one_completing kept h FromBuffer (span (most_content * i) (held + more)) (To (most_content * i + held)) when whole else
-    one_keeping kept h.tid (held + more) pieces (To (most_content * i + held))
+    one_completing kept h FromBuffer (span (most_content * i) (held + more)) (Some (most_content * i + held)) when whole else
+    one_keeping kept h.tid (held + more) pieces (Some (most_content * i + held))
 
 -- The next number's packet, by its chain letter.
 abbrev pub one_taken : KeptSeries → LiveSeries → ℕ → ℕ → Header → Span → ℕ → Chain → OneStep
-one_taken kept live i count h at size Single = one_completing kept h FromPacket at Nothing
+one_taken kept live i count h at size Single = one_completing kept h FromPacket at None
 one_taken kept live i count h at size First = one_holds kept i count h 0 0 false at.len size
 one_taken kept live i count h at size Middle =
     one_holds kept i count h live.held live.pieces false at.len size
@@ -97,7 +96,7 @@ one_piece kept live i count h place at size chain =
 unfoldable pub takes_one : TradeDate → KeptSeries → LiveSeries → ℕ → ℕ → Header → TradeDate → PacketPlace → Span → ℕ
     → OneStep
 takes_one floor kept live i count h date place at size =
-    one_step kept live (NotTaken NotLoggedIn) Nothing when not live.login else
+    one_step kept live (NotTaken NotLoggedIn) None when not live.login else
     one_dropping kept (NotTaken OtherDay) when differs date kept.date else
     one_dropping kept (NotTaken OtherDay) when before kept.date floor else
     one_dropping kept (NotTaken OutOfLine) when out_of_line kept.last h.number else
@@ -108,7 +107,7 @@ takes_one floor kept live i count h date place at size =
 
 -- The end stays.
 abbrev pub stayed : Receiver → Received → ℕ → Span → Decision
-stayed e answer s at = record { end = e; answer = answer; series = s; content = at; target = Nothing }
+stayed e answer s at = record { end = e; answer = answer; series = s; content = at; target = None }
 
 -- What is left of the series is put back at its place.
 abbrev pub put_back : Receiver → ℕ → ℕ → Span → OneStep → Decision

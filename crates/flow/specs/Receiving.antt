@@ -14,10 +14,8 @@ use Rattle.ftd.specs.declared.refusal.Refusal.TheVariants.{FieldRun, FieldLength
 use Rattle.ftd.specs.declared.refusal.Refusal.TheVariants.{NotOnePacket, UnknownSeries, NotLoggedIn, OtherDay}
 use Rattle.ftd.specs.declared.refusal.Refusal.TheVariants.{OutOfLine, BrokenChain, TooSmall}
 use Rattle.ftd.specs.declared.composition.Direction.TheVariants.{Up, Down}
-use Rattle.ftd.specs.declared.tags.TradeDate.{TradeDate}
-use Rattle.ftd.specs.declared.tags.TradeDate.TheVariants.{None, At}
-use Rattle.ftd.specs.declared.tags.PacketPlace.{PacketPlace}
-use Rattle.ftd.specs.declared.tags.PacketPlace.TheVariants.{NoPlace, Nth}
+use Rattle.ftd.specs.Types.{TradeDate}
+use Rattle.ftd.specs.Types.{PacketPlace}
 use Rattle.ftd.specs.declared.packet.Span.{Span}
 use Rattle.ftd.specs.declared.packet.Chain.{Chain}
 use Rattle.ftd.specs.declared.packet.Chain.TheVariants.{Single, First, Middle, Last}
@@ -25,17 +23,11 @@ use Rattle.ftd.specs.declared.packet.Header.{Header}
 use Rattle.ftd.specs.declared.packet.Packet.{Packet}
 use Rattle.ftd.specs.declared.packet.Packet.TheVariants.{Short, Link, Skipped, Message}
 use Rattle.ftd.specs.declared.packet.Packet.TheVariants.{Refused as Unread}
-use Rattle.flow.specs.declared.sender.Opened.{Opened}
-use Rattle.flow.specs.declared.sender.Opened.TheVariants.{Done}
-use Rattle.flow.specs.declared.sender.Opened.TheVariants.{Refused as NotOpened}
+use Rattle.flow.specs.Types.{Opened}
 use Rattle.flow.specs.declared.receiver.LiveSeries.{LiveSeries}
 use Rattle.flow.specs.declared.receiver.Receiver.{Receiver}
-use Rattle.flow.specs.declared.receiver.Requested.{Requested}
-use Rattle.flow.specs.declared.receiver.Requested.TheVariants.{Wrote as Asked}
-use Rattle.flow.specs.declared.receiver.Requested.TheVariants.{Refused as NotAsked}
-use Rattle.flow.specs.declared.receiver.Confirmed.{Confirmed}
-use Rattle.flow.specs.declared.receiver.Confirmed.TheVariants.{Last as In}
-use Rattle.flow.specs.declared.receiver.Confirmed.TheVariants.{Refused as NotIn}
+use Rattle.flow.specs.Types.{Requested}
+use Rattle.flow.specs.Types.{Confirmed}
 use Rattle.flow.specs.declared.receiver.Origin.TheVariants.{Packet as FromPacket, Buffer as FromBuffer}
 use Rattle.flow.specs.declared.receiver.Received.{Received}
 use Rattle.flow.specs.declared.receiver.Received.TheVariants.{Idle, Duplicate, Partial, Complete}
@@ -44,6 +36,7 @@ use Rattle.flow.specs.Ends.{◌when◌else◌, Left, Wrote, left, wrote, over, m
 use Rattle.flow.specs.Ends.{wrong_series, filled, before, differs, new_kept, no_live, logged_in, holding, receiver}
 use Rattle.flow.specs.Ends.{is_open, kept_of, live_of, with_series, part_start, all_parts}
 use Rattle.flow.specs.Serving.{wrong_run, no_login, not_zero}
+use Rattle.std.specs.Prelude.{Some, None, Ok, Err}
 
 -- ─── Opening: the series, once ───
 
@@ -53,8 +46,8 @@ wrong_end_opening e ss = not (eqb e.kept.count 0) || wrong_series ss
 
 unfoldable pub open_end_of : Receiver → List ℕ → Left Receiver Opened
 open_end_of e ss =
-    left e (NotOpened Opening) when wrong_end_opening e ss else
-    left (receiver (length ss) (filled (new_kept 0) (map new_kept ss)) (replicate most_series no_live)) Done
+    left e (Err Opening) when wrong_end_opening e ss else
+    left (receiver (length ss) (filled (new_kept 0) (map new_kept ss)) (replicate most_series no_live)) (Ok tt)
 
 -- ─── Connect: login and chain of all are cleared; never refused ───
 
@@ -83,10 +76,10 @@ request_login_of e s content out =
     refused Composition when ltb 0 (count_of resume_fid content) || not (composed login_tid Up full) else
     refused UnknownSeries when not (is_open e s) else
     refused TooSmall when ltb (length out) (length bytes) else
-    wrote e (Asked (length bytes)) (over bytes out)
+    wrote e (Ok (length bytes)) (over bytes out)
   where
     refused : Refusal → Wrote Receiver Requested
-    refused r = wrote e (NotAsked r) out
+    refused r = wrote e (Err r) out
 
     full : List ℕ
     full = request_of e s content
@@ -99,7 +92,7 @@ request_login_of e s content out =
 -- 15: lower than the kept one, or absent.
 abbrev pub wrong_day : Receiver → ℕ → TradeDate → Bool
 wrong_day e s None = true
-wrong_day e s (At d) = before (At d) (kept_of e s).date
+wrong_day e s (Some d) = before (Some d) (kept_of e s).date
 
 -- A higher trade date, or any where none is kept, starts a new day with last 0; an equal one keeps last.
 unfoldable pub last_after : Receiver → ℕ → TradeDate → ℕ
@@ -113,22 +106,22 @@ confirm_with e s h date content =
     refused UnknownSeries when not (is_open e s) else
     refused OtherDay when wrong_day e s date else
     refused OutOfLine when not_zero h else
-    left (with_series e s date (last_after e s date) logged_in) (In (last_after e s date))
+    left (with_series e s date (last_after e s date) logged_in) (Ok (last_after e s date))
   where
     refused : Refusal → Left Receiver Confirmed
-    refused r = left e (NotIn r)
+    refused r = left e (Err r)
 
 -- What the reader refuses of the packet: 1, 2 and 4 to 7; its other answers are 12 before.
 abbrev pub confirm_read : Receiver → ℕ → List ℕ → TradeDate → Packet → Left Receiver Confirmed
-confirm_read e s p date (Short n) = left e (NotIn NotOnePacket)
-confirm_read e s p date (Link kind extension) = left e (NotIn NotOnePacket)
-confirm_read e s p date (Skipped kind extension body) = left e (NotIn NotOnePacket)
+confirm_read e s p date (Short n) = left e (Err NotOnePacket)
+confirm_read e s p date (Link kind extension) = left e (Err NotOnePacket)
+confirm_read e s p date (Skipped kind extension body) = left e (Err NotOnePacket)
 confirm_read e s p date (Message h extension c) = confirm_with e s h date (part p c.start c.len)
-confirm_read e s p date (Unread r) = left e (NotIn r)
+confirm_read e s p date (Unread r) = left e (Err r)
 
 unfoldable pub confirm_login_of : Receiver → ℕ → List ℕ → Left Receiver Confirmed
 confirm_login_of e s p =
-    left e (NotIn NotOnePacket) when not_one_packet p || no_message_packet p else
+    left e (Err NotOnePacket) when not_one_packet p || no_message_packet p else
     confirm_read e s p (dated_of p).date (dated_of p).packet
 
 -- ─── Receive: one packet; the reassembly buffer is written ───
@@ -143,8 +136,8 @@ abbrev pub broken_chain : LiveSeries → Header → Bool
 broken_chain live h = not (live.chain && eqb live.tid h.tid)
 
 abbrev pub misplaced : PacketPlace → ℕ → Bool
-misplaced NoPlace pieces = false
-misplaced (Nth j) pieces = not (eqb j pieces)
+misplaced None pieces = false
+misplaced (Some j) pieces = not (eqb j pieces)
 
 -- One piece more is held; the count stops at 65,536.
 abbrev pub one_more : ℕ → ℕ

@@ -7,23 +7,18 @@ use Rattle.ftd.specs.Resume.{resume_bytes}
 use Rattle.ftd.specs.declared.refusal.Refusal.TheVariants.{FieldLength, Item, Composition, OtherDay, OutOfLine}
 use Rattle.ftd.specs.declared.refusal.Refusal.TheVariants.{TooSmall}
 use Rattle.ftd.specs.declared.composition.Direction.TheVariants.{Down}
-use Rattle.ftd.specs.declared.items.Checked.{Checked}
-use Rattle.ftd.specs.declared.items.Checked.TheVariants.{Passed, Refused}
-use Rattle.ftd.specs.declared.tags.TradeDate.{TradeDate}
-use Rattle.ftd.specs.declared.tags.TradeDate.TheVariants.{None, At}
+use Rattle.ftd.specs.Types.{Checked}
+use Rattle.ftd.specs.Types.{TradeDate}
 use Rattle.ftd.specs.declared.packet.Header.{Header}
 use Rattle.flow.specs.declared.receiver.KeptSeries.{KeptSeries}
 use Rattle.flow.specs.declared.receiver.Receiver.{Receiver}
-use Rattle.flow.specs.declared.receiver.Requested.{Requested}
-use Rattle.flow.specs.declared.receiver.Requested.TheVariants.{Wrote as Asked}
-use Rattle.flow.specs.declared.receiver.Requested.TheVariants.{Refused as NotAsked}
-use Rattle.flow.specs.declared.receiver.Confirmed.{Confirmed}
-use Rattle.flow.specs.declared.receiver.Confirmed.TheVariants.{Last as In}
-use Rattle.flow.specs.declared.receiver.Confirmed.TheVariants.{Refused as NotIn}
+use Rattle.flow.specs.Types.{Requested}
+use Rattle.flow.specs.Types.{Confirmed}
 use Rattle.flow.specs.Ends.{◌when◌else◌, Left, left, Wrote, wrote, over, before, differs, new_kept, logged_in}
 use Rattle.flow.specs.Serving.{no_login, not_zero}
 use Rattle.flow.specs.Receiving.{next_wanted}
 use Rattle.flow.specs.Helpers.{series_at}
+use Rattle.std.specs.Prelude.{Some, None, Ok, Err}
 
 -- ─── Ask ───
 
@@ -35,23 +30,23 @@ request_for one s content = login_bytes one.date (content ++ resume_bytes s (nex
 unfoldable pub request_at : Receiver → ℕ → ℕ → List ℕ → List ℕ → Wrote Receiver Requested
 request_at e i s content out =
     let bytes = request_for (get_or e.kept.series i (new_kept 0)) s content in
-    wrote e (NotAsked TooSmall) out when ltb (length out) (length bytes) else
-    wrote e (Asked (length bytes)) (over bytes out)
+    wrote e (Err TooSmall) out when ltb (length out) (length bytes) else
+    wrote e (Ok (length bytes)) (over bytes out)
 
 -- ─── Answer ───
 
 -- Rows 8 to 10.
 unfoldable pub answer_content : Header → List ℕ → Checked
 answer_content h content =
-    Refused FieldLength when wrong_width content else
-    Refused Item when wrong_item content else
-    Refused Composition when no_login h || not (composed login_tid Down content) else
-    Passed
+    Err FieldLength when wrong_width content else
+    Err Item when wrong_item content else
+    Err Composition when no_login h || not (composed login_tid Down content) else
+    (Ok tt)
 
 -- 15, by the trade date kept: absent, or lower.
 abbrev pub wrong_date : TradeDate → TradeDate → Bool
 wrong_date own None = true
-wrong_date own (At d) = before (At d) own
+wrong_date own (Some d) = before (Some d) own
 
 -- The last number on a trade date, by what is kept.
 abbrev pub last_on : TradeDate → ℕ → TradeDate → ℕ
@@ -62,6 +57,6 @@ unfoldable pub confirm_at : Receiver → ℕ → ℕ → Header → TradeDate �
 confirm_at e i s h date =
     let one = get_or e.kept.series i (new_kept 0) in
     let last = last_on one.date one.last date in
-    left e (NotIn OtherDay) when wrong_date one.date date else
-    left e (NotIn OutOfLine) when not_zero h else
-    left (series_at e i (record { series = s; date = date; last = last }) logged_in) (In last)
+    left e (Err OtherDay) when wrong_date one.date date else
+    left e (Err OutOfLine) when not_zero h else
+    left (series_at e i (record { series = s; date = date; last = last }) logged_in) (Ok last)

@@ -8,13 +8,11 @@ use Rattle.std.proofs.Math.Option.{some}
 use Rattle.std.proofs.Math.ListN.{get_elem?}
 use Rattle.ftd.specs.Bench.{same}
 use Rattle.ftd.specs.declared.refusal.Refusal.TheVariants.{WrongName, FifthName, UnknownName}
-use Rattle.ftd.specs.declared.tags.TradeDate.{TradeDate}
+use Rattle.ftd.specs.Types.{TradeDate}
 use Rattle.flow.specs.declared.receiver.Receiver.{Receiver}
 use Rattle.flow.specs.declared.checkpoint.Checkpoints.{Checkpoints}
-use Rattle.flow.specs.declared.checkpoint.Saved.{Saved}
-use Rattle.flow.specs.declared.checkpoint.Saved.TheVariants.{Refused as NotSaved}
-use Rattle.flow.specs.declared.checkpoint.Restored.{Restored}
-use Rattle.flow.specs.declared.checkpoint.Restored.TheVariants.{Refused as NotRestored}
+use Rattle.flow.specs.Types.{Saved}
+use Rattle.flow.specs.Types.{Restored}
 use Rattle.flow.specs.Ends.{Left, most_series, no_live, kept_series, day_of, last_of}
 use Rattle.flow.specs.Answers.{Message, is_taken, saved_said, restored_said}
 use Rattle.flow.specs.Checkpoints.{fresh_checkpoints, keep_of, restore_of}
@@ -22,6 +20,7 @@ use Rattle.flow.specs.World.{InSeries, Dated, only, other, login, Event, whole, 
 use Rattle.flow.specs.World.{start, receives, step, run}
 use Rattle.flow.specs.Agreement.{Agreed, EachDated, CaughtUp, reported, published_on}
 use Rattle.flow.specs.CheckpointRows.{CheckpointRows}
+use Rattle.std.specs.Prelude.{Err}
 
 -- ─── The events: one call each ───
 
@@ -202,17 +201,17 @@ pub record RewindAgreement : Type 0 where
       × (v.live.series ≡ replicate most_series no_live)
   -- Which refusal is given, exactly if. 31 in both calls: the name is not allowed.
   pub wrong-kept : (c : Checkpoints) (e : Receiver) (name : List ℕ)
-      → ((keep_of c e name).answer ≡ NotSaved WrongName) ↔ (Allowed name → ⊥)
+      → ((keep_of c e name).answer ≡ Err WrongName) ↔ (Allowed name → ⊥)
   pub wrong-returned : (c : Checkpoints) (e : Receiver) (name : List ℕ)
-      → ((restore_of c e name).answer ≡ NotRestored WrongName) ↔ (Allowed name → ⊥)
+      → ((restore_of c e name).answer ≡ Err WrongName) ↔ (Allowed name → ⊥)
   -- 32: it is allowed, and four other names were kept.
   pub fifth : (log buffer : List ℕ) (es : List RewindEvent) (name : List ℕ) →
       let w = rewind_start log buffer in
-      ((keeping (rewind_run w es) name).answer ≡ NotSaved FifthName) ↔ (Allowed name × FourOthers w es name)
+      ((keeping (rewind_run w es) name).answer ≡ Err FifthName) ↔ (Allowed name × FourOthers w es name)
   -- 33: it is allowed, and was not kept before. A return is taken exactly if it is allowed and was.
   pub unknown : (log buffer : List ℕ) (es : List RewindEvent) (name : List ℕ) →
       let w = rewind_start log buffer in
-      ((returning (rewind_run w es) name).answer ≡ NotRestored UnknownName) ↔ (Allowed name × (WasKept w es name → ⊥))
+      ((returning (rewind_run w es) name).answer ≡ Err UnknownName) ↔ (Allowed name × (WasKept w es name → ⊥))
   pub known : (log buffer : List ℕ) (es : List RewindEvent) (name : List ℕ) →
       let w = rewind_start log buffer in
       (is_taken (restored_said (returning (rewind_run w es) name).answer) ≡ true) ↔ (Allowed name × WasKept w es name)

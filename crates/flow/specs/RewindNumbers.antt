@@ -4,14 +4,13 @@
 use Rattle.std.specs.Prelude.{ℕ, ◌≡◌, List, [], ◌∷◌, ◌++◌, map, true, cond}
 use Rattle.ftd.specs.Packet.{dated_of}
 use Rattle.ftd.specs.Follow.{counting}
-use Rattle.ftd.specs.declared.tags.TradeDate.{TradeDate}
-use Rattle.ftd.specs.declared.tags.TradeDate.TheVariants.{At}
+use Rattle.ftd.specs.Types.{TradeDate}
 use Rattle.ftd.specs.declared.packet.Packet.{Packet}
 use Rattle.ftd.specs.declared.packet.Packet.TheVariants.{Short, Link, Skipped, Message, Refused}
 use Rattle.flow.specs.declared.receiver.Receiver.{Receiver}
 use Rattle.flow.specs.declared.checkpoint.Checkpoints.{Checkpoints}
-use Rattle.flow.specs.declared.checkpoint.Saved.{Saved}
-use Rattle.flow.specs.declared.checkpoint.Restored.{Restored}
+use Rattle.flow.specs.Types.{Saved}
+use Rattle.flow.specs.Types.{Restored}
 use Rattle.flow.specs.Ends.{Left, is_open, day_of, last_of, fresh_receiver}
 use Rattle.flow.specs.Answers.{is_taken, saved_said, restored_said}
 use Rattle.flow.specs.Receiving.{receive_of}
@@ -22,6 +21,7 @@ use Rattle.flow.specs.Follows.{Lent, lent, Call, opening, connect, ask, answer, 
 use Rattle.flow.specs.Follows.{of_series, takes_on}
 use Rattle.ftd.specs.Return.{Returns}
 use Rattle.flow.specs.Rewind.{Memory, memory_of}
+use Rattle.std.specs.Prelude.{Some}
 
 -- ─── What a call takes, with its series and day ───
 
@@ -101,7 +101,7 @@ numbering_run w (c ∷ cs) = numbering_run (numbering_step w c) cs
 pub record CountsFromOne (s d : ℕ) (w : Numbering) : Type 0 where
   pub k : ℕ
   pub numbers : of s d w.taken ≡ counting 1 k
-  pub kept : day_of w.now.end s ≡ At d → last_of w.now.end s ≡ k
+  pub kept : day_of w.now.end s ≡ Some d → last_of w.now.end s ≡ k
 
 -- A return from u to what was kept at v, in any states in which no series was open at v that is not open at u.
 pub record ComesBack (v u b : Lent) : Type 0 where

@@ -5,27 +5,21 @@ use Rattle.ftd.specs.Bytes.{part}
 use Rattle.ftd.specs.Fields.{shaped, most_content}
 use Rattle.ftd.specs.declared.chain.Message.{Message}
 use Rattle.flow.specs.declared.sender.Sender.{Sender}
-use Rattle.flow.specs.declared.sender.Sent.{Sent}
-use Rattle.flow.specs.declared.sender.Sent.TheVariants.{Drained}
-use Rattle.flow.specs.declared.sender.Sent.TheVariants.{Refused as NotSent}
-use Rattle.flow.specs.declared.sender.SentPacket.{SentPacket}
-use Rattle.flow.specs.declared.sender.SentPacket.TheVariants.{Drained as NoPacket}
-use Rattle.flow.specs.declared.sender.SentPacket.TheVariants.{Refused as NotPacket}
-use Rattle.flow.specs.declared.sender.NextMessage.{NextMessage}
-use Rattle.flow.specs.declared.sender.NextMessage.TheVariants.{Entry}
-use Rattle.flow.specs.declared.sender.NextMessage.TheVariants.{Drained as NoneNext}
-use Rattle.flow.specs.declared.sender.NextMessage.TheVariants.{Refused as NotNext}
 use Rattle.flow.specs.Ends.{Wrote, wrote, index_of, day_series, place_of}
 use Rattle.flow.specs.Log.{entry_tid}
 use Rattle.flow.specs.Serving.{send_entry, send_of, send_packet_entry, send_packet_of}
 use Rattle.flow.specs.Helpers.{placed_at}
+use Rattle.std.specs.Prelude.{None, Ok, Err}
+use Rattle.flow.specs.Types.{SendAnswer, PacketSent}
+use Rattle.std.specs.Prelude.{Some}
+use Rattle.flow.specs.Types.{NextFound}
 
 -- The end, the answer and the output are those that are meant.
 abbrev pub Leaves : {A : Type 0} → Wrote Sender A → Sender → A → List ℕ → Type 0
 Leaves meant end answer after = (end ≡ meant.end) × (answer ≡ meant.answer) × (after ≡ meant.bytes)
 
 -- With any output the whole form comes to the one, the form of one packet to the other.
-abbrev pub BothAre : Sender → ℕ → List ℕ → (List ℕ → Wrote Sender Sent) → (List ℕ → Wrote Sender SentPacket) → Type 0
+abbrev pub BothAre : Sender → ℕ → List ℕ → (List ℕ → Wrote Sender SendAnswer) → (List ℕ → Wrote Sender PacketSent) → Type 0
 BothAre e s log all one = (out : List ℕ) → (send_of e s log out ≡ all out) × (send_packet_of e s log out ≡ one out)
 
 -- An entry of the message that is next in the series at place i: whole, with content that 7 lets pass.
@@ -35,13 +29,13 @@ EntryNext e s i number x =
     × (shaped (drop 16 x) most_content ≡ true)
 
 -- What both forms come to: none left, a refusal, or the entry of the message that is next.
-abbrev pub FindsNext : Sender → ℕ → List ℕ → NextMessage → Type 0
-FindsNext e s log NoneNext = BothAre e s log (wrote e Drained) (wrote e NoPacket)
-FindsNext e s log (NotNext r) = BothAre e s log (wrote e (NotSent r)) (wrote e (NotPacket r))
-FindsNext e s log (Entry i number start size) =
-    EntryNext e s i number (part log start size) × (start + size ≤ length log)
-    × BothAre e s log (λ out. send_entry e s out (some (part log start size)))
-    (λ out. send_packet_entry e s out (some (part log start size)))
+abbrev pub FindsNext : Sender → ℕ → List ℕ → NextFound → Type 0
+FindsNext e s log (Ok None) = BothAre e s log (wrote e (Ok None)) (wrote e (Ok None))
+FindsNext e s log (Err r) = BothAre e s log (wrote e (Err r)) (wrote e (Err r))
+FindsNext e s log (Ok (Some found)) =
+    EntryNext e s found.place found.number (part log found.start found.size) × (found.start + found.size ≤ length log)
+    × BothAre e s log (λ out. send_entry e s out (some (part log found.start found.size)))
+    (λ out. send_packet_entry e s out (some (part log found.start found.size)))
 
 -- What all packets of an entry bear.
 abbrev pub headed : Sender → ℕ → ℕ → List ℕ → Message

@@ -16,8 +16,7 @@ use Rattle.ftd.specs.declared.refusal.Refusal.TheVariants.{FieldRun, FieldLength
 use Rattle.ftd.specs.declared.refusal.Refusal.TheVariants.{NotOnePacket, UnknownSeries, NotLoggedIn, OtherDay}
 use Rattle.ftd.specs.declared.refusal.Refusal.TheVariants.{OutOfLine, TooSmall, WrongStart, DamagedLog, DayFull}
 use Rattle.ftd.specs.declared.composition.Direction.TheVariants.{Up, Down}
-use Rattle.ftd.specs.declared.tags.TradeDate.{TradeDate}
-use Rattle.ftd.specs.declared.tags.TradeDate.TheVariants.{At}
+use Rattle.ftd.specs.Types.{TradeDate}
 use Rattle.ftd.specs.declared.packet.Chain.{Chain}
 use Rattle.ftd.specs.declared.packet.Chain.TheVariants.{Single, First, Middle, Last}
 use Rattle.ftd.specs.declared.packet.Header.{Header}
@@ -27,26 +26,15 @@ use Rattle.ftd.specs.declared.packet.Packet.TheVariants.{Refused as Unread}
 use Rattle.ftd.specs.declared.resume.Resume.{Resume}
 use Rattle.ftd.specs.declared.resume.Resume.TheVariants.{Absent, Next, Misshapen, Several}
 use Rattle.flow.specs.declared.sender.Sender.{Sender}
-use Rattle.flow.specs.declared.sender.Opened.{Opened}
-use Rattle.flow.specs.declared.sender.Opened.TheVariants.{Done, Refused}
-use Rattle.flow.specs.declared.sender.Published.{Published}
-use Rattle.flow.specs.declared.sender.Published.TheVariants.{Number}
-use Rattle.flow.specs.declared.sender.Published.TheVariants.{Refused as NotPublished}
-use Rattle.flow.specs.declared.sender.LoggedIn.{LoggedIn}
-use Rattle.flow.specs.declared.sender.LoggedIn.TheVariants.{Wrote as Answered}
-use Rattle.flow.specs.declared.sender.LoggedIn.TheVariants.{Refused as NotIn}
-use Rattle.flow.specs.declared.sender.Sent.{Sent}
-use Rattle.flow.specs.declared.sender.Sent.TheVariants.{Drained}
-use Rattle.flow.specs.declared.sender.Sent.TheVariants.{Wrote as Message-sent}
-use Rattle.flow.specs.declared.sender.Sent.TheVariants.{Refused as NotSent}
-use Rattle.flow.specs.declared.sender.SentPacket.{SentPacket}
-use Rattle.flow.specs.declared.sender.SentPacket.TheVariants.{Drained as NoPacket}
-use Rattle.flow.specs.declared.sender.SentPacket.TheVariants.{Wrote as Packet-sent}
-use Rattle.flow.specs.declared.sender.SentPacket.TheVariants.{Refused as NotPacket}
+use Rattle.flow.specs.Types.{Opened}
+use Rattle.flow.specs.Types.{Published}
+use Rattle.flow.specs.Types.{LoggedIn}
 use Rattle.flow.specs.Ends.{◌when◌else◌, Left, Wrote, left, wrote, over, most_messages, most_series, wrong_series}
 use Rattle.flow.specs.Ends.{filled, before, up_to, no_series, opened_series, sum_of, shares_of, no_place, sender, is_served, published_of, place_of}
 use Rattle.flow.specs.Ends.{with_entry, with_place}
 use Rattle.flow.specs.Log.{entry_bytes, entry_tid, entry_content, log_short, entry_fits, entry_of}
+use Rattle.std.specs.Prelude.{Some, None, Ok, Err}
+use Rattle.flow.specs.Types.{SendAnswer, message_sent, PacketSent, packet_sent}
 
 -- ─── Opening: a trade date above the present one, if any, the series and their reserves; the log's length ───
 
@@ -61,8 +49,8 @@ wrong_day_opening e date ss rs log = wrong_series ss || up_to date e.day.date ||
 -- It empties log and logins.
 unfoldable pub open_day_of : Sender → ℕ → List ℕ → List ℕ → List ℕ → Left Sender Opened
 open_day_of e date ss rs log =
-    left e (Refused Opening) when wrong_day_opening e date ss rs log else
-    left (sender (At date) (length ss) (filled no_series (opened_series ss rs)) 0 (replicate most_series no_place)) Done
+    left e (Err Opening) when wrong_day_opening e date ss rs log else
+    left (sender (Some date) (length ss) (filled no_series (opened_series ss rs)) 0 (replicate most_series no_place)) (Ok tt)
 
 -- ─── Content that is given to a call, rows 7 to 10 ───
 
@@ -88,11 +76,11 @@ publish_of e s tid content log =
     refused DamagedLog when log_short e log else
     refused TooSmall when not (entry_fits e log content) || over_shares e s log content else
     refused DayFull when leb most_messages (published_of e s) else
-    wrote (with_entry e s (16 + length content)) (Number number)
+    wrote (with_entry e s (16 + length content)) (Ok number)
     (put log e.day.used (entry_bytes s tid number content))
   where
     refused : Refusal → Wrote Sender Published
-    refused r = wrote e (NotPublished r) log
+    refused r = wrote e (Err r) log
 
     number : ℕ
     number = published_of e s + 1
@@ -150,10 +138,10 @@ login_with e s h date asked content out =
     refused OutOfLine when not_zero h else
     refused TooSmall when ltb (length out) (length answer) else
     refused WrongStart when wrong_start e s next else
-    wrote (with_place e s next 0) (Answered (length answer)) (over answer out)
+    wrote (with_place e s next 0) (Ok (length answer)) (over answer out)
   where
     refused : Refusal → Wrote Sender LoggedIn
-    refused r = wrote e (NotIn r) out
+    refused r = wrote e (Err r) out
 
     start : Resume
     start = resume_of asked
@@ -166,15 +154,15 @@ login_with e s h date asked content out =
 
 -- What the reader refuses of the packet: 1, 2 and 4 to 7; its other answers are 12 before.
 abbrev pub login_read : Sender → ℕ → List ℕ → List ℕ → List ℕ → TradeDate → Packet → Wrote Sender LoggedIn
-login_read e s p content out date (Short n) = wrote e (NotIn NotOnePacket) out
-login_read e s p content out date (Link kind extension) = wrote e (NotIn NotOnePacket) out
-login_read e s p content out date (Skipped kind extension body) = wrote e (NotIn NotOnePacket) out
+login_read e s p content out date (Short n) = wrote e (Err NotOnePacket) out
+login_read e s p content out date (Link kind extension) = wrote e (Err NotOnePacket) out
+login_read e s p content out date (Skipped kind extension body) = wrote e (Err NotOnePacket) out
 login_read e s p content out date (Message h extension c) = login_with e s h date (part p c.start c.len) content out
-login_read e s p content out date (Unread r) = wrote e (NotIn r) out
+login_read e s p content out date (Unread r) = wrote e (Err r) out
 
 unfoldable pub login_of : Sender → ℕ → List ℕ → List ℕ → List ℕ → Wrote Sender LoggedIn
 login_of e s p content out =
-    wrote e (NotIn NotOnePacket) out when not_one_packet p || no_message_packet p else
+    wrote e (Err NotOnePacket) out when not_one_packet p || no_message_packet p else
     login_read e s p content out (dated_of p).date (dated_of p).packet
 
 -- ─── Send: series; the log is read, the output is written ───
@@ -193,18 +181,18 @@ send_packets e s x =
 unfoldable pub send_bytes : Sender → ℕ → List ℕ → List ℕ
 send_bytes e s x = joined (send_packets e s x)
 
-abbrev pub send_entry : Sender → ℕ → List ℕ → Option (List ℕ) → Wrote Sender Sent
-send_entry e s out none = wrote e (NotSent DamagedLog) out
+abbrev pub send_entry : Sender → ℕ → List ℕ → Option (List ℕ) → Wrote Sender SendAnswer
+send_entry e s out none = wrote e (Err DamagedLog) out
 send_entry e s out (some x) =
     let bytes = send_bytes e s x in
-    wrote e (NotSent TooSmall) out when ltb (length out) (length bytes) else
-    wrote (with_place e s (suc (place_of e s).next) 0) (Message-sent (place_of e s).next (length bytes)) (over bytes out)
+    wrote e (Err TooSmall) out when ltb (length out) (length bytes) else
+    wrote (with_place e s (suc (place_of e s).next) 0) (message_sent (place_of e s).next (length bytes)) (over bytes out)
 
-unfoldable pub send_of : Sender → ℕ → List ℕ → List ℕ → Wrote Sender Sent
+unfoldable pub send_of : Sender → ℕ → List ℕ → List ℕ → Wrote Sender SendAnswer
 send_of e s log out =
-    wrote e (NotSent UnknownSeries) out when not (is_served e s) else
-    wrote e (NotSent NotLoggedIn) out when not (place_of e s).login else
-    wrote e Drained out when is_none_left e s else
+    wrote e (Err UnknownSeries) out when not (is_served e s) else
+    wrote e (Err NotLoggedIn) out when not (place_of e s).login else
+    wrote e (Ok None) out when is_none_left e s else
     send_entry e s out (entry_of e log s (place_of e s).next)
 
 -- ─── Send of one packet (02, No. 4): series; the log is read, the output is written ───
@@ -226,18 +214,18 @@ unfoldable pub after_packet : Sender → ℕ → Bool → Sender
 after_packet e s last =
     cond last (with_place e s (suc (place_of e s).next) 0) (with_place e s (place_of e s).next ((place_of e s).piece + 1))
 
-abbrev pub send_packet_entry : Sender → ℕ → List ℕ → Option (List ℕ) → Wrote Sender SentPacket
-send_packet_entry e s out none = wrote e (NotPacket DamagedLog) out
+abbrev pub send_packet_entry : Sender → ℕ → List ℕ → Option (List ℕ) → Wrote Sender PacketSent
+send_packet_entry e s out none = wrote e (Err DamagedLog) out
 send_packet_entry e s out (some x) =
     let bytes = next_packet e s x in
     let last = last_packet e s x in
-    wrote e (NotPacket DamagedLog) out when no_packet e s x else
-    wrote e (NotPacket TooSmall) out when ltb (length out) (length bytes) else
-    wrote (after_packet e s last) (Packet-sent (place_of e s).next (length bytes) last) (over bytes out)
+    wrote e (Err DamagedLog) out when no_packet e s x else
+    wrote e (Err TooSmall) out when ltb (length out) (length bytes) else
+    wrote (after_packet e s last) (packet_sent (place_of e s).next (length bytes) last) (over bytes out)
 
-unfoldable pub send_packet_of : Sender → ℕ → List ℕ → List ℕ → Wrote Sender SentPacket
+unfoldable pub send_packet_of : Sender → ℕ → List ℕ → List ℕ → Wrote Sender PacketSent
 send_packet_of e s log out =
-    wrote e (NotPacket UnknownSeries) out when not (is_served e s) else
-    wrote e (NotPacket NotLoggedIn) out when not (place_of e s).login else
-    wrote e NoPacket out when is_none_left e s else
+    wrote e (Err UnknownSeries) out when not (is_served e s) else
+    wrote e (Err NotLoggedIn) out when not (place_of e s).login else
+    wrote e (Ok None) out when is_none_left e s else
     send_packet_entry e s out (entry_of e log s (place_of e s).next)

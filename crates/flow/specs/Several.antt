@@ -10,9 +10,7 @@ use Rattle.ftd.specs.Chain.Laws.{packet_form}
 use Rattle.ftd.specs.Refusal.{number_of}
 use Rattle.ftd.specs.declared.packet.Span.{Span}
 use Rattle.flow.specs.declared.sender.Sender.{Sender}
-use Rattle.flow.specs.declared.sender.Published.{Published}
-use Rattle.flow.specs.declared.sender.Published.TheVariants.{Number}
-use Rattle.flow.specs.declared.sender.Published.TheVariants.{Refused as NotPublished}
+use Rattle.flow.specs.Types.{Published}
 use Rattle.flow.specs.declared.receiver.Receiver.{Receiver}
 use Rattle.flow.specs.declared.receiver.Origin.{Origin}
 use Rattle.flow.specs.declared.receiver.Origin.TheVariants.{Packet, Buffer}
@@ -31,6 +29,7 @@ use Rattle.flow.specs.Ends.{Wrote}
 use Rattle.flow.specs.Answers.{Said, refused, handed_on, content_in, received_said, published_said}
 use Rattle.flow.specs.Serving.{publish_of}
 use Rattle.flow.specs.Receiving.{receive_of}
+use Rattle.std.specs.Prelude.{Ok, Err}
 
 -- ─── The paper's words for the answers: end, short with its number, or what the single call said where it stopped ───
 
@@ -145,8 +144,8 @@ publish_record e x log = publish_of e (be16_of x 0) (be32_of x 2) (drop 10 x) lo
 
 -- It stops at a refusal alone.
 abbrev pub published_stops : ℕ → Published → Option PublishedSeveral
-published_stops at (Number k) = none
-published_stops at (NotPublished r) = some (PublishedRefused r)
+published_stops at (Ok k) = none
+published_stops at (Err r) = some (PublishedRefused r)
 
 abbrev pub publishing : Repeated Sender Published PublishedSeveral
 publishing =

@@ -11,14 +11,14 @@ use Rattle.flow.specs.declared.receiver.Received.TheVariants.{Idle, Duplicate, P
 use Rattle.flow.specs.declared.receiver.Received.TheVariants.{Refused as NotTaken}
 use Rattle.ftd.specs.declared.packet.Span.{Span}
 use Rattle.flow.specs.declared.several.ReceivedSeveral.{ReceivedSeveral}
-use Rattle.flow.specs.declared.several.ReceiveTurn.{ReceiveTurn}
-use Rattle.flow.specs.declared.several.ReceiveTurn.TheVariants.{On, Stop}
+use Rattle.flow.specs.Types.{ReceiveTurn}
 use Rattle.flow.specs.Promises.{Publishes}
+use Rattle.std.specs.Prelude.{Some, None}
 
 -- A turn as an answer to stop at, if any.
 abbrev pub turn_stop : ReceiveTurn → Option ReceivedSeveral
-turn_stop On = none
-turn_stop (Stop a) = some a
+turn_stop None = none
+turn_stop (Some a) = some a
 
 -- A content that lies in the packet lies in its n bytes.
 abbrev pub LiesIn : ℕ → Origin → Span → Type 0

@@ -9,19 +9,16 @@ use Rattle.ftd.specs.Composition.{composed}
 use Rattle.ftd.specs.Bench.{BenchRow, bench_row, all_same}
 use Rattle.ftd.specs.declared.composition.Direction.TheVariants.{Down}
 use Rattle.ftd.specs.declared.refusal.Refusal.TheVariants.{Opening, TooSmall}
-use Rattle.ftd.specs.declared.tags.TradeDate.TheVariants.{At}
 use Rattle.flow.specs.declared.sender.DaySeries.{DaySeries}
 use Rattle.flow.specs.declared.sender.Sender.{Sender}
-use Rattle.flow.specs.declared.sender.Opened.{Opened}
-use Rattle.flow.specs.declared.sender.Opened.TheVariants.{Done}
-use Rattle.flow.specs.declared.sender.Opened.TheVariants.{Refused as NotOpened}
-use Rattle.flow.specs.declared.sender.Published.{Published}
-use Rattle.flow.specs.declared.sender.Published.TheVariants.{Number, Refused}
+use Rattle.flow.specs.Types.{Opened}
+use Rattle.flow.specs.Types.{Published}
 use Rattle.flow.specs.Ends.{wrong_series, fresh_sender, is_served, reserve_of, used_of, with_entry, sum_of, shares_of}
 use Rattle.flow.specs.Log.{log_short}
 use Rattle.flow.specs.Answers.{opened_said, published_said}
 use Rattle.flow.specs.Serving.{wrong_run, open_day_of, publish_of, login_of, send_of, send_packet_of}
 use Rattle.flow.specs.Bench.{numbers, note, space, tid}
+use Rattle.std.specs.Prelude.{Some, Ok, Err}
 
 -- ─── The calls of a serving end, each with the log that it is lent ───
 
@@ -80,7 +77,7 @@ refused_before e s t content log =
 -- by reserves above the log's length together.
 pub data Forbidden (e : Sender) (date : ℕ) (ss rs log : List ℕ) : Type 0 where
   by-series : wrong_series ss ≡ true → Forbidden e date ss rs log
-  by-date : (d : ℕ) → e.day.date ≡ At d → date ≤ d → Forbidden e date ss rs log
+  by-date : (d : ℕ) → e.day.date ≡ Some d → date ≤ d → Forbidden e date ss rs log
   by_count : (length rs ≡ length ss → ⊥) → Forbidden e date ss rs log
   by-sum : length log < sum_of rs → Forbidden e date ss rs log
 
@@ -94,12 +91,12 @@ is_opening (send_packet s log out) = false
 -- ─── The bytes of a series, counted along the calls by what they answer ───
 
 abbrev pub from_opening : Opened → ℕ → ℕ
-from_opening Done n = 0
-from_opening (NotOpened r) n = n
+from_opening (Ok tt) n = 0
+from_opening (Err r) n = n
 
 abbrev pub with_published : Published → ℕ → ℕ → ℕ
-with_published (Number k) size n = n + size
-with_published (Refused r) size n = n
+with_published (Ok k) size n = n + size
+with_published (Err r) size n = n
 
 -- Of series s, with n bytes before: an opening that is taken starts anew, and each message that is published in it takes
 -- 16 bytes and its content.
@@ -151,13 +148,13 @@ example_rows =
 pub record Shares : Type 0 where
   -- An opening is refused 11 exactly if it is forbidden, and then nothing is changed; otherwise it is taken.
   pub refused-11 : (e : Sender) (date : ℕ) (ss rs log : List ℕ)
-      → ((open_day_of e date ss rs log).answer ≡ NotOpened Opening) ↔ Forbidden e date ss rs log
+      → ((open_day_of e date ss rs log).answer ≡ Err Opening) ↔ Forbidden e date ss rs log
   pub unchanged : (e : Sender) (date : ℕ) (ss rs log : List ℕ)
-      → (open_day_of e date ss rs log).answer ≡ NotOpened Opening → (open_day_of e date ss rs log).end ≡ e
+      → (open_day_of e date ss rs log).answer ≡ Err Opening → (open_day_of e date ss rs log).end ≡ e
   pub taken : (e : Sender) (date : ℕ) (ss rs log : List ℕ) → (Forbidden e date ss rs log → ⊥)
-      → (open_day_of e date ss rs log).answer ≡ Done
+      → (open_day_of e date ss rs log).answer ≡ (Ok tt)
   -- Behind an opening that was taken each series has the reserve that was given for it, and no other call changes it.
-  pub given : (e : Sender) (date : ℕ) (ss rs log : List ℕ) → (open_day_of e date ss rs log).answer ≡ Done
+  pub given : (e : Sender) (date : ℕ) (ss rs log : List ℕ) → (open_day_of e date ss rs log).answer ≡ (Ok tt)
       → (i s r : ℕ) → get_elem? ss i ≡ some s → get_elem? rs i ≡ some r
       → reserve_of (open_day_of e date ss rs log).end s ≡ r
   pub kept : (e : Sender) (c : ServingCall) (s : ℕ) → is_opening c ≡ false → reserve_of (served e c) s ≡ reserve_of e s
@@ -174,7 +171,7 @@ pub record Shares : Type 0 where
   pub exactly : (cs : List ServingCall) (s t : ℕ) (content log : List ℕ) →
       let e = served_all fresh_sender cs in
       refused_before e s t content log ≡ false
-      → ((publish_of e s t content log).answer ≡ Refused TooSmall)
+      → ((publish_of e s t content log).answer ≡ Err TooSmall)
       ↔ (length log < shares_of (with_entry e s (16 + length content)))
   -- Without reserves that is the bytes used, and the entry: the rule as it was.
   pub unreserved : (cs : List ServingCall) (s size : ℕ) →
@@ -182,11 +179,11 @@ pub record Shares : Type 0 where
       is_served e s ≡ true → AllZero (reserves e) → shares_of (with_entry e s size) ≡ e.day.used + size
   -- "So, the log's length unchanged, an entry that keeps its series within its reserve is never refused 18, however much
   -- the others publish": from an opening of any end on, along any calls.
-  pub promise : (e : Sender) (date : ℕ) (ss rs log : List ℕ) → (open_day_of e date ss rs log).answer ≡ Done
+  pub promise : (e : Sender) (date : ℕ) (ss rs log : List ℕ) → (open_day_of e date ss rs log).answer ≡ (Ok tt)
       → (cs : List ServingCall) → AllOneLength (length log) cs →
       let f = served_all (open_day_of e date ss rs log).end cs in
       (s t : ℕ) (content l : List ℕ) → length l ≡ length log
       → used_of f s + (16 + length content) ≤ reserve_of f s
-      → (publish_of f s t content l).answer ≡ Refused TooSmall → ⊥
+      → (publish_of f s t content l).answer ≡ Err TooSmall → ⊥
   -- It is not empty: the example's numbers are these.
   pub example : T (all_same example_rows)

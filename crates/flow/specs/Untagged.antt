@@ -7,8 +7,7 @@ use Rattle.ftd.specs.Chain.{packets_of}
 use Rattle.ftd.specs.Login.{login_bytes}
 use Rattle.ftd.specs.Resume.{resume_bytes}
 use Rattle.ftd.specs.Bench.{BenchRow, bench_row, all_same}
-use Rattle.ftd.specs.declared.tags.TradeDate.{TradeDate}
-use Rattle.ftd.specs.declared.tags.TradeDate.TheVariants.{None, At}
+use Rattle.ftd.specs.Types.{TradeDate}
 use Rattle.ftd.specs.declared.packet.Span.{Span}
 use Rattle.ftd.specs.declared.packet.Header.{Header}
 use Rattle.ftd.specs.declared.packet.Packet.TheVariants.{Message}
@@ -22,6 +21,7 @@ use Rattle.flow.specs.Receiving.{confirm_login_of, receive_with, receive_of}
 use Rattle.flow.specs.Several.{receiving}
 use Rattle.flow.specs.Bufferful.{each}
 use Rattle.flow.specs.Bench.{numbers, says, req_login, rsp_login, tid, note, message, space, at_last, four}
+use Rattle.std.specs.Prelude.{Some, None}
 
 -- ─── Packets of one header, content and place in the message ───
 
@@ -63,18 +63,18 @@ untagged_rows =
     ∷ says 0 (receives_dated None 5) (again 5)
     ∷ says 0 (receives_dated None 7) (refused 16)
     -- with the kept trade date, a higher and a lower one
-    ∷ says 0 (receives_dated (At 7) 6) (handed_on 6 (message (note 1 3)))
-    ∷ says 0 (receives_dated (At 8) 6) (refused 15)
-    ∷ says 0 (receives_dated (At 6) 6) (refused 15)
+    ∷ says 0 (receives_dated (Some 7) 6) (handed_on 6 (message (note 1 3)))
+    ∷ says 0 (receives_dated (Some 8) 6) (refused 15)
+    ∷ says 0 (receives_dated (Some 6) 6) (refused 15)
     -- one after the other: handed on, another day's refused, handed on
-    ∷ bench_row 0 (receives_each (packet_dated None 6 ∷ packet_dated (At 8) 7 ∷ packet_dated None 7 ∷ []))
+    ∷ bench_row 0 (receives_each (packet_dated None 6 ∷ packet_dated (Some 8) 7 ∷ packet_dated None 7 ∷ []))
     (joined (map numbers (handed_on 6 (message (note 1 3)) ∷ refused 15 ∷ handed_on 7 (message (note 1 3)) ∷ [])))
     -- Login without the tag looks at the number, as with its own trade date; a lower one starts at 1, a higher is 15
     ∷ says 0 (logs_in_dated None 5) (answered 163)
     ∷ says 0 (logs_in_dated None 6) (refused 19)
-    ∷ says 0 (logs_in_dated (At 7) 6) (refused 19)
-    ∷ says 0 (logs_in_dated (At 6) 6) (answered 163)
-    ∷ says 0 (logs_in_dated (At 8) 5) (refused 15)
+    ∷ says 0 (logs_in_dated (Some 7) 6) (refused 19)
+    ∷ says 0 (logs_in_dated (Some 6) 6) (answered 163)
+    ∷ says 0 (logs_in_dated (Some 8) 5) (refused 15)
     ∷ []
 
 -- ─── The statement ───

@@ -7,20 +7,17 @@ use Rattle.std.proofs.Math.ListN.{get_elem?}
 use Rattle.ftd.specs.Runs.{run_of}
 use Rattle.ftd.specs.Packet.{dated_of}
 use Rattle.ftd.specs.Chain.Laws.{packet_form}
-use Rattle.ftd.specs.declared.tags.TradeDate.{TradeDate}
-use Rattle.ftd.specs.declared.tags.TradeDate.TheVariants.{None, At}
+use Rattle.ftd.specs.Types.{TradeDate}
 use Rattle.ftd.specs.declared.packet.Packet.{Packet}
 use Rattle.ftd.specs.declared.packet.Packet.TheVariants.{Short, Link, Skipped, Refused}
 use Rattle.ftd.specs.declared.packet.Packet.TheVariants.{Message as Accepted}
 use Rattle.flow.specs.declared.sender.Sender.{Sender}
-use Rattle.flow.specs.declared.sender.Opened.{Opened}
-use Rattle.flow.specs.declared.sender.Published.{Published}
-use Rattle.flow.specs.declared.sender.LoggedIn.{LoggedIn}
-use Rattle.flow.specs.declared.sender.Sent.{Sent}
-use Rattle.flow.specs.declared.sender.SentPacket.{SentPacket}
+use Rattle.flow.specs.Types.{Opened}
+use Rattle.flow.specs.Types.{Published}
+use Rattle.flow.specs.Types.{LoggedIn}
 use Rattle.flow.specs.declared.receiver.Receiver.{Receiver}
-use Rattle.flow.specs.declared.receiver.Requested.{Requested}
-use Rattle.flow.specs.declared.receiver.Confirmed.{Confirmed}
+use Rattle.flow.specs.Types.{Requested}
+use Rattle.flow.specs.Types.{Confirmed}
 use Rattle.flow.specs.declared.receiver.Received.{Received}
 use Rattle.flow.specs.Ends.{Left, Wrote, fresh_sender, fresh_receiver}
 use Rattle.flow.specs.Answers.{Message, is_taken, written, is_finished, report_in, message_in, opened_said}
@@ -28,6 +25,8 @@ use Rattle.flow.specs.Answers.{published_said, login_said, sent_said, sent_packe
 use Rattle.flow.specs.Answers.{received_said}
 use Rattle.flow.specs.Serving.{open_day_of, publish_of, login_of, send_of, send_packet_of}
 use Rattle.flow.specs.Receiving.{open_end_of, connect_of, request_login_of, confirm_login_of, receive_of}
+use Rattle.std.specs.Prelude.{Some, None}
+use Rattle.flow.specs.Types.{SendAnswer, PacketSent}
 
 -- ─── Things of a series, and of a series and a day ───
 
@@ -170,7 +169,7 @@ after_open v date r =
     record {
       end = r.end;
       log = v.log;
-      day = cond taken (At date) v.day;
+      day = cond taken (Some date) v.day;
       openings = cond taken (suc v.openings) v.openings;
       published = v.published;
       answers = v.answers;
@@ -211,7 +210,7 @@ after_login v s r =
 abbrev pub packets_in : List ℕ → List (List ℕ)
 packets_in bytes = (run_of packet_form bytes).entries
 
-abbrev pub after_send : SenderSide → ℕ → Wrote Sender Sent → SenderSide
+abbrev pub after_send : SenderSide → ℕ → Wrote Sender SendAnswer → SenderSide
 after_send v s r =
     let sent = map packets_in (written r.bytes (sent_said r.answer)) in
     record {
@@ -226,7 +225,7 @@ after_send v s r =
     }
 
 -- A packet that was written, and the message that it finishes, if it does.
-abbrev pub after_send_packet : SenderSide → ℕ → Wrote Sender SentPacket → SenderSide
+abbrev pub after_send_packet : SenderSide → ℕ → Wrote Sender PacketSent → SenderSide
 after_send_packet v s r =
     let said = sent_packet_said r.answer in
     let packet = written r.bytes said in
@@ -324,7 +323,7 @@ series_in (Refused r) = 0
 -- Without tag 0x05 the packet counts as of the kept trade date.
 abbrev pub borne : TradeDate → TradeDate → TradeDate
 borne None kept = kept
-borne (At d) kept = At d
+borne (Some d) kept = Some d
 
 -- A packet is a transmission's first, or it comes right behind the one before it, of the same transmission, among the
 -- receiving end's calls; calls of the serving end may stand between. So all before it came, in a run.

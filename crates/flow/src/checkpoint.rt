@@ -1,14 +1,15 @@
 // Named places to come back to (02, No. 13): what a receiving end keeps of its series, under a name. The checkpoints are
 // a value of their own beside the receiving end, and no other call reads or changes them.
-ghost use Rattle.std.specs.Prelude.{◌≡◌, ◌<◌, ◌≤◌, length, set};
+ghost use Rattle.std.specs.Prelude.{◌≡◌, ◌<◌, ◌≤◌, ◌==◌, length, set, take};
+ghost use Rattle.std.specs.List.{list_all, position};
+ghost use Rattle.std.specs.Char.{is_ascii_uppercase};
+ghost use Rattle.flow.specs.declared.checkpoint.Checkpoint.{Checkpoint};
 ghost use Rattle.flow.specs.CheckpointHelpers.{FindsName, kept_new, brought_from, placed_name};
 ghost use Rattle.flow.specs.Checkpoints.{wrong_name, name_code, fresh_checkpoints, restored};
 ghost use Rattle.flow.specs.Promises.{Keeps, Restores};
 
 use crate::receiver::{Kept, KeptSeries, Receiver, no_line};
-use crate::series::SeriesPlace;
 use ftd::refusal::Refusal;
-use ftd::tags::TradeDate;
 
 // Under a name, its letters as one number, the first in the lowest byte: the durable part of a receiving end as it was
 // when it was kept.
@@ -19,74 +20,38 @@ pub struct Checkpoint {
 }
 
 // Up to four, in the order in which their names came first.
+// Stays: an array with its count, no Vec: no heap (01), and the C interface hands the names over by value.
 #[derive(Clone, Copy)]
 pub struct Checkpoints {
     pub count: usize,
     pub places: [Checkpoint; 4],
 }
 
-// What keeping answers.
-#[derive(Clone, Copy)]
-pub enum Saved {
-    Done,
-    Refused(Refusal),
-}
-
-// What a return answers.
-#[derive(Clone, Copy)]
-pub enum Restored {
-    Done,
-    Refused(Refusal),
-}
-
 // What the calls leave: keeping the checkpoints, a return the receiving end; and the answer.
 #[derive(Clone, Copy)]
 pub struct KeepStep {
     pub checkpoints: Checkpoints,
-    pub answer: Saved,
+    pub answer: Result<(), Refusal>,
 }
 
 #[derive(Clone, Copy)]
 pub struct RestoreStep {
     pub end: Receiver,
-    pub answer: Restored,
+    pub answer: Result<(), Refusal>,
 }
 
-// Where a name stands among those in use.
-#[derive(Clone, Copy)]
-pub(crate) enum NamePlace {
-    Unused,
-    At(usize),
+// Letters A to Z alone.
+fn all_letters(name: &[u8]) -> bool
+    ensures { result ≡ list_all is_ascii_uppercase name.now }
+{
+    name.iter().all(u8::is_ascii_uppercase)
 }
 
 // 31: not 1 to 8 letters A to Z.
 fn wrong_name(name: &[u8]) -> bool
     ensures { result ≡ wrong_name name.now }
 {
-    if name.len() == 0 {
-        return true;
-    }
-    if name.len() > 8 {
-        return true;
-    }
-    let mut i: usize = 0;
-    while i < name.len() {
-        if name[i] < 65 {
-            return true;
-        }
-        if name[i] > 90 {
-            return true;
-        }
-        i += 1;
-    }
-    false
-}
-
-// A byte as a number of eight.
-fn wide(x: u8) -> u64
-    ensures { (result ≡ x) × (result < 256) }
-{
-    x as u64
+    name.is_empty() || name.len() > 8 || !all_letters(name)
 }
 
 // A name as one number, the first letter in the lowest byte.
@@ -94,65 +59,40 @@ fn name_code(name: &[u8]) -> u64
     requires { length name.now ≤ 8 }
     ensures { result ≡ name_code name.now }
 {
-    let mut code: u64 = 0;
-    let mut i: usize = name.len();
-    while i > 0 {
-        i -= 1;
-        code = wide(name[i]) + 256 * code;
-    }
-    code
+    let mut bytes = [0; 8];
+    bytes[..name.len()].copy_from_slice(name);
+    u64::from_le_bytes(bytes)
 }
 
 // A series with the trade date and last number that another end has of it: none and 0 where it is not open there.
 fn brought_back(from: Receiver, x: KeptSeries) -> KeptSeries
     ensures { result ≡ brought_from from x }
 {
-    let series = x.series;
-    match from.find(series) {
-        SeriesPlace::Unknown => KeptSeries {
-            series: series,
-            date: TradeDate::None,
-            last: 0,
-        },
-        SeriesPlace::At(i) => {
-            let all = from.kept;
-            let one = all.series[i];
-            let date = one.date;
-            KeptSeries {
-                series: series,
-                date: date,
-                last: one.last,
-            }
-        }
+    let Some(i) = from.find(x.series) else {
+        return KeptSeries::new(x.series);
+    };
+    KeptSeries {
+        series: x.series,
+        ..from.kept.series[i]
     }
 }
 
 // The end with what was kept of each of its series; login and chain of all are cleared.
+#[tactic(auto, unfolding(crate::specs::Checkpoints::restored))]
 fn bring_back(end: Receiver, kept: Kept) -> Receiver
     ensures { result ≡ restored end kept }
 {
     let from = Receiver {
-        kept: kept,
+        kept,
         live: no_line(),
     };
-    let own = end.kept;
-    let line = no_line();
-    let mut all = [KeptSeries {
-        series: 0,
-        date: TradeDate::None,
-        last: 0,
-    }; 8];
-    let mut i: usize = 0;
-    while i < 8 {
-        all[i] = brought_back(from, own.series[i]);
-        i += 1;
-    }
+    let brought = Kept {
+        count: end.kept.count,
+        series: end.kept.series.map(|one| brought_back(from, one)),
+    };
     Receiver {
-        kept: Kept {
-            count: own.count,
-            series: all,
-        },
-        live: line,
+        kept: brought,
+        live: from.live,
     }
 }
 
@@ -170,34 +110,27 @@ impl Checkpoints {
             count: 0,
             places: [Checkpoint {
                 name: 0,
-                kept: Kept {
-                    count: 0,
-                    series: [KeptSeries {
-                        series: 0,
-                        date: TradeDate::None,
-                        last: 0,
-                    }; 8],
-                },
+                kept: Receiver::fresh().kept,
             }; 4],
         }
     }
 
+    // The first place of a name, as its number, among those in use.
+    fn place(&self, name: u64) -> Option<usize>
+        ensures { result ≡ position (λ (x : Checkpoint). x.name == name)
+            (take self.now.count self.now.places) }
+    {
+        self.places
+            .iter()
+            .take(self.count)
+            .position(|one| one.name == name)
+    }
+
     // Where a name, as its number, stands among those in use: its first place.
-    fn find(self, name: u64) -> NamePlace
+    fn find(self, name: u64) -> Option<usize>
         ensures { FindsName self name result }
     {
-        let mut i: usize = 0;
-        while i < 4 {
-            if i >= self.count {
-                return NamePlace::Unused;
-            }
-            let one = self.places[i];
-            if one.name == name {
-                return NamePlace::At(i);
-            }
-            i += 1;
-        }
-        NamePlace::Unused
+        self.place(name)
     }
 
     // So many names, and what is kept under one at a place.
@@ -206,14 +139,8 @@ impl Checkpoints {
         ensures { result ≡ placed_name self count i name kept }
     {
         let mut places = self.places;
-        places[i] = Checkpoint {
-            name: name,
-            kept: kept,
-        };
-        Checkpoints {
-            count: count,
-            places: places,
-        }
+        places[i] = Checkpoint { name, kept };
+        Checkpoints { count, places }
     }
 
     // Under a name that is not in use: 32, or it stands behind the others.
@@ -224,12 +151,12 @@ impl Checkpoints {
         if n < 4 {
             return KeepStep {
                 checkpoints: self.with_at(n + 1, n, name, kept),
-                answer: Saved::Done,
+                answer: Ok(()),
             };
         }
         KeepStep {
             checkpoints: self,
-            answer: Saved::Refused(Refusal::FifthName),
+            answer: Err(Refusal::FifthName),
         }
     }
 
@@ -240,17 +167,16 @@ impl Checkpoints {
         if wrong_name(name) {
             return KeepStep {
                 checkpoints: self,
-                answer: Saved::Refused(Refusal::WrongName),
+                answer: Err(Refusal::WrongName),
             };
         }
         let code = name_code(name);
-        let kept = end.kept;
-        match self.find(code) {
-            NamePlace::Unused => self.keep_new(code, kept),
-            NamePlace::At(i) => KeepStep {
-                checkpoints: self.with_at(self.count, i, code, kept),
-                answer: Saved::Done,
-            },
+        let Some(i) = self.find(code) else {
+            return self.keep_new(code, end.kept);
+        };
+        KeepStep {
+            checkpoints: self.with_at(self.count, i, code, end.kept),
+            answer: Ok(()),
         }
     }
 
@@ -260,23 +186,19 @@ impl Checkpoints {
     {
         if wrong_name(name) {
             return RestoreStep {
-                end: end,
-                answer: Restored::Refused(Refusal::WrongName),
+                end,
+                answer: Err(Refusal::WrongName),
             };
         }
-        match self.find(name_code(name)) {
-            NamePlace::Unused => RestoreStep {
-                end: end,
-                answer: Restored::Refused(Refusal::UnknownName),
-            },
-            NamePlace::At(i) => {
-                let one = self.places[i];
-                let kept = one.kept;
-                RestoreStep {
-                    end: bring_back(end, kept),
-                    answer: Restored::Done,
-                }
-            }
+        let Some(i) = self.find(name_code(name)) else {
+            return RestoreStep {
+                end,
+                answer: Err(Refusal::UnknownName),
+            };
+        };
+        RestoreStep {
+            end: bring_back(end, self.places[i].kept),
+            answer: Ok(()),
         }
     }
 }

@@ -6,89 +6,66 @@ ghost use Rattle.flow.specs.RequestHelpers.{answer_content, wrong_date, last_on,
 
 use crate::days::{before, differs};
 use crate::header::{no_login, not_zero};
-use crate::receiver::{ConfirmStep, Confirmed, KeptSeries, LiveSeries, Receiver};
-use crate::series::SeriesPlace;
+use crate::receiver::{ConfirmStep, KeptSeries, LiveSeries, Receiver};
 use ftd::composition::{Direction, is_composed};
-use ftd::items::{Checked, wrong_item, wrong_width};
+use ftd::items::{wrong_item, wrong_width};
 use ftd::packet::Header;
 use ftd::refusal::Refusal;
-use ftd::tags::TradeDate;
 
 // Refusals 8 to 10, of the packet's header and content.
-fn check_answer(h: Header, content: &[u8]) -> Checked
+#[tactic(auto, unfolding(crate::specs::RequestHelpers::answer_content))]
+fn check_answer(h: Header, content: &[u8]) -> Result<(), Refusal>
     ensures { result ≡ answer_content h content.now }
 {
     if wrong_width(content) {
-        return Checked::Refused(Refusal::FieldLength);
+        return Err(Refusal::FieldLength);
     }
     if wrong_item(content) {
-        return Checked::Refused(Refusal::Item);
+        return Err(Refusal::Item);
     }
-    if no_login(h) {
-        return Checked::Refused(Refusal::Composition);
+    if no_login(h) || !is_composed(0x0016, Direction::Down, content) {
+        return Err(Refusal::Composition);
     }
-    if is_composed(0x0016, Direction::Down, content) {
-        return Checked::Passed;
-    }
-    Checked::Refused(Refusal::Composition)
+    Ok(())
 }
 
 // Refusal 15: no trade date, or one below the kept one.
-fn wrong_date(own: TradeDate, date: TradeDate) -> bool
+fn wrong_date(own: Option<u32>, date: Option<u32>) -> bool
     ensures { result ≡ wrong_date own date }
 {
-    match date {
-        TradeDate::None => true,
-        TradeDate::At(_) => before(date, own),
-    }
+    date.is_none() || before(date, own)
 }
 
 // The last number on a trade date: 0 where it starts a new day.
-fn last_on(own: TradeDate, last: u32, date: TradeDate) -> u32
+fn last_on(own: Option<u32>, last: u32, date: Option<u32>) -> u32
     ensures { result ≡ last_on own last date }
 {
-    if differs(date, own) {
-        return 0;
-    }
-    last
+    if differs(date, own) { 0 } else { last }
 }
 
 // Refusals 15 and 16; else the series at a place is logged in, with no chain, on the packet's trade date.
-fn confirm_at(e: Receiver, i: usize, series: u16, h: Header, date: TradeDate) -> ConfirmStep
+fn confirm_at(e: Receiver, i: usize, series: u16, h: Header, date: Option<u32>) -> ConfirmStep
     requires { i < 8 }
     ensures { left result.end result.answer ≡ confirm_at e i series h date }
 {
-    let kept = e.kept;
-    let one = kept.series[i];
-    let own = one.date;
-    if wrong_date(own, date) {
+    let own = e.kept.series[i];
+    if wrong_date(own.date, date) {
         return ConfirmStep {
             end: e,
-            answer: Confirmed::Refused(Refusal::OtherDay),
+            answer: Err(Refusal::OtherDay),
         };
     }
     if not_zero(h) {
         return ConfirmStep {
             end: e,
-            answer: Confirmed::Refused(Refusal::OutOfLine),
+            answer: Err(Refusal::OutOfLine),
         };
     }
-    let last = last_on(own, one.last, date);
-    let now = KeptSeries {
-        series: series,
-        date: date,
-        last: last,
-    };
-    let line = LiveSeries {
-        login: true,
-        chain: false,
-        tid: 0,
-        held: 0,
-        pieces: 0,
-    };
+    let last = last_on(own.date, own.last, date);
+    let now = KeptSeries { series, date, last };
     ConfirmStep {
-        end: e.with_at(i, now, line),
-        answer: Confirmed::Last(last),
+        end: e.with_at(i, now, LiveSeries::LOGGED_IN),
+        answer: Ok(last),
     }
 }
 
@@ -97,22 +74,22 @@ pub(crate) fn confirm_with(
     e: Receiver,
     series: u16,
     h: Header,
-    date: TradeDate,
+    date: Option<u32>,
     content: &[u8],
 ) -> ConfirmStep
     ensures { left result.end result.answer ≡ confirm_with e series h date content.now }
 {
-    match check_answer(h, content) {
-        Checked::Refused(r) => ConfirmStep {
+    if let Err(r) = check_answer(h, content) {
+        return ConfirmStep {
             end: e,
-            answer: Confirmed::Refused(r),
-        },
-        Checked::Passed => match e.find(series) {
-            SeriesPlace::Unknown => ConfirmStep {
-                end: e,
-                answer: Confirmed::Refused(Refusal::UnknownSeries),
-            },
-            SeriesPlace::At(i) => confirm_at(e, i, series, h, date),
-        },
+            answer: Err(r),
+        };
     }
+    let Some(i) = e.find(series) else {
+        return ConfirmStep {
+            end: e,
+            answer: Err(Refusal::UnknownSeries),
+        };
+    };
+    confirm_at(e, i, series, h, date)
 }

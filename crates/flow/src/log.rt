@@ -8,15 +8,14 @@ ghost use Rattle.flow.specs.Log.{entry_bytes, entry, walk, entry_of};
 ghost use Rattle.flow.specs.Helpers.{checked, PlaceInside, EntryIn};
 
 use crate::sender::Sender;
-use crate::series::SeriesPlace;
 use ftd::bytes::{be16, be32, copy_at, put16, put32, size32};
 use ftd::fields::is_shaped;
 
 // Where an entry lies in the log: where it starts, and how many bytes it takes, its head among them.
 #[derive(Clone, Copy)]
-pub(crate) enum EntryPlace {
-    Damaged,
-    At { start: usize, size: usize },
+pub(crate) struct EntryPlace {
+    pub(crate) start: usize,
+    pub(crate) size: usize,
 }
 
 // What the walk does with an entry: it is wrong; it is the one wanted; or it is passed, with its series' place and its
@@ -63,6 +62,7 @@ pub(crate) fn put_entry(
 }
 
 // How many bytes the entry at a place takes; 0 where none stands there whole.
+// Stays: 0, not None, since its contract gives `front` (ftd, specs/Runs), which is 0 there.
 pub(crate) fn entry_size(l: &[u8], at: usize) -> usize
     ensures { (result ≡ front entry (drop at l.now)) × (result ≤ length l.now - at) }
 {
@@ -84,45 +84,34 @@ pub(crate) fn entry_size(l: &[u8], at: usize) -> usize
 fn follows(number: u32, last: u32) -> bool
     ensures { result ≡ eqb number (suc last) }
 {
-    if number == 0 {
-        return false;
-    }
-    number - 1 == last
+    number != 0 && number - 1 == last
 }
 
 // An entry against row 20, with the last number of each place so far, and whether it is the one wanted.
+#[tactic(auto, unfolding(crate::specs::Helpers::checked, crate::specs::Ends::is_served))]
 fn check_entry(e: Sender, x: &[u8], last: &[u32; 8], s: u16, k: u32) -> EntryStep
     requires { 16 ≤ length x.now }
     ensures { (result ≡ checked e last.now s k x.now) × PlaceInside result }
 {
     let series = be16(x, 0);
     let number = be32(x, 8);
-    match e.find(series) {
-        SeriesPlace::Unknown => EntryStep::Wrong,
-        SeriesPlace::At(i) => {
-            if be16(x, 2) != 0 {
-                return EntryStep::Wrong;
-            }
-            if follows(number, last[i]) {
-                if is_shaped(&x[16..], Sender::MOST_CONTENT) {
-                    if series == s {
-                        if number == k {
-                            return EntryStep::Wanted;
-                        }
-                    }
-                    return EntryStep::Passed {
-                        place: i,
-                        number: number,
-                    };
-                }
-            }
-            EntryStep::Wrong
-        }
+    let Some(place) = e.find(series) else {
+        return EntryStep::Wrong;
+    };
+    if be16(x, 2) != 0
+        || !follows(number, last[place])
+        || !is_shaped(&x[16..], Sender::MOST_CONTENT)
+    {
+        return EntryStep::Wrong;
     }
+    if series == s && number == k {
+        return EntryStep::Wanted;
+    }
+    EntryStep::Passed { place, number }
 }
 
 // The walk over the entries of the used part, up to entry k of series s.
-fn walk_entries(e: Sender, l: &[u8], s: u16, k: u32) -> EntryPlace
+fn walk_entries(e: Sender, l: &[u8], s: u16, k: u32) -> Option<EntryPlace>
     ensures { EntryIn (walk e s k [] (run_of entry l.now).entries) l.now result }
 {
     let mut last: [u32; 8] = [0; 8];
@@ -130,14 +119,14 @@ fn walk_entries(e: Sender, l: &[u8], s: u16, k: u32) -> EntryPlace
     loop {
         let n = entry_size(l, at);
         if n == 0 {
-            return EntryPlace::Damaged;
+            return None;
         }
         match check_entry(e, &l[at..at + n], &last, s, k) {
             EntryStep::Wrong => {
-                return EntryPlace::Damaged;
+                return None;
             }
             EntryStep::Wanted => {
-                return EntryPlace::At { start: at, size: n };
+                return Some(EntryPlace { start: at, size: n });
             }
             EntryStep::Passed { place, number } => {
                 last[place] = number;
@@ -148,12 +137,12 @@ fn walk_entries(e: Sender, l: &[u8], s: u16, k: u32) -> EntryPlace
 }
 
 // Entry k of series s; damaged where the log is against row 20 before it, or has no such entry.
-pub(crate) fn find_entry(e: Sender, log: &[u8], s: u16, k: u32) -> EntryPlace
+pub(crate) fn find_entry(e: Sender, log: &[u8], s: u16, k: u32) -> Option<EntryPlace>
     ensures { EntryIn (entry_of e log.now s k) log.now result }
 {
     let used = e.day.used;
     if log.len() < used {
-        return EntryPlace::Damaged;
+        return None;
     }
-    walk_entries(e, &log[0..used], s, k)
+    walk_entries(e, &log[..used], s, k)
 }

@@ -8,89 +8,73 @@ ghost use Rattle.flow.specs.LoginHelpers.{wrong_login, login_contents, login_lin
 
 use crate::days::before;
 use crate::header::{no_login, not_zero};
-use crate::sender::{LoggedIn, LoginStep, Sender};
-use crate::series::SeriesPlace;
+use crate::sender::{LoginStep, Sender};
 use ftd::composition::{Direction, is_composed};
 use ftd::fields::{count_field, is_shaped};
-use ftd::items::{Checked, wrong_item, wrong_width};
-use ftd::login::{Ending, write_login};
+use ftd::items::{wrong_item, wrong_width};
+use ftd::login::write_login;
 use ftd::packet::Header;
 use ftd::refusal::Refusal;
 use ftd::resume::{Resume, find_resume};
-use ftd::tags::TradeDate;
 
 // Refusal 10: of the packet's header and content, and of the answer's content.
+#[tactic(auto, unfolding(crate::specs::LoginHelpers::wrong_login))]
 fn wrong_login(h: Header, asked: &[u8], content: &[u8]) -> bool
     ensures { result ≡ wrong_login h asked.now content.now }
 {
-    if no_login(h) {
-        return true;
-    }
-    if is_composed(0x0016, Direction::Up, asked) {
-        if 1 < count_field(asked, 0x0004) {
-            return true;
-        }
-        if is_composed(0x0016, Direction::Down, content) {
-            return false;
-        }
-    }
-    true
+    no_login(h)
+        || !is_composed(0x0016, Direction::Up, asked)
+        || 1 < count_field(asked, 0x0004)
+        || !is_composed(0x0016, Direction::Down, content)
 }
 
 // Refusals 7 to 10, each of the packet and of the answer's content.
-fn check_contents(h: Header, asked: &[u8], content: &[u8]) -> Checked
+#[tactic(auto, unfolding(crate::specs::LoginHelpers::login_contents))]
+fn check_contents(h: Header, asked: &[u8], content: &[u8]) -> Result<(), Refusal>
     ensures { result ≡ login_contents h asked.now content.now }
 {
-    if is_shaped(content, Sender::ANSWER_CONTENT) {
-        if wrong_width(asked) {
-            return Checked::Refused(Refusal::FieldLength);
-        }
-        if wrong_width(content) {
-            return Checked::Refused(Refusal::FieldLength);
-        }
-        if wrong_item(asked) {
-            return Checked::Refused(Refusal::Item);
-        }
-        if wrong_item(content) {
-            return Checked::Refused(Refusal::Item);
-        }
-        if wrong_login(h, asked, content) {
-            return Checked::Refused(Refusal::Composition);
-        }
-        return Checked::Passed;
+    if !is_shaped(content, Sender::ANSWER_CONTENT) {
+        return Err(Refusal::FieldRun);
     }
-    Checked::Refused(Refusal::FieldRun)
+    if wrong_width(asked) || wrong_width(content) {
+        return Err(Refusal::FieldLength);
+    }
+    if wrong_item(asked) || wrong_item(content) {
+        return Err(Refusal::Item);
+    }
+    if wrong_login(h, asked, content) {
+        return Err(Refusal::Composition);
+    }
+    Ok(())
 }
 
 // Refusal 13: the start field is of another series.
 fn starts_elsewhere(series: u16, start: Resume) -> bool
     ensures { result ≡ start_elsewhere series start }
 {
-    match start {
-        Resume::Absent => false,
-        Resume::Next {
-            series: other,
-            number: _,
-        } => other != series,
-        Resume::Misshapen => false,
-        Resume::Several => false,
-    }
+    matches!(start, Resume::Next { series: other, .. } if other != series)
 }
 
 // Refusals 13, of the start field, 15 and 16.
-fn check_line(day: TradeDate, series: u16, h: Header, date: TradeDate, start: Resume) -> Checked
+fn check_line(
+    day: Option<u32>,
+    series: u16,
+    h: Header,
+    date: Option<u32>,
+    start: Resume,
+) -> Result<(), Refusal>
     ensures { result ≡ login_line day series h date start }
 {
     if starts_elsewhere(series, start) {
-        return Checked::Refused(Refusal::UnknownSeries);
+        return Err(Refusal::UnknownSeries);
     }
     if before(day, date) {
-        return Checked::Refused(Refusal::OtherDay);
+        return Err(Refusal::OtherDay);
     }
     if not_zero(h) {
-        return Checked::Refused(Refusal::OutOfLine);
+        return Err(Refusal::OutOfLine);
     }
-    Checked::Passed
+    Ok(())
 }
 
 // The next number wanted: 1 where no start field is there.
@@ -98,41 +82,38 @@ fn number_wanted(start: Resume) -> u32
     ensures { result ≡ wanted start }
 {
     match start {
-        Resume::Absent => 1,
-        Resume::Next { series: _, number } => number,
-        Resume::Misshapen => 1,
-        Resume::Several => 1,
+        Resume::Next { number, .. } => number,
+        Resume::Absent | Resume::Misshapen | Resume::Several => 1,
     }
 }
 
 // The number to start with: 1 with a trade date below the end's own.
-fn start_number(day: TradeDate, date: TradeDate, start: Resume) -> u32
+fn start_number(day: Option<u32>, date: Option<u32>, start: Resume) -> u32
     ensures { result ≡ cond (before date day) 1 (wanted start) }
 {
     if before(date, day) {
-        return 1;
+        1
+    } else {
+        number_wanted(start)
     }
-    number_wanted(start)
 }
 
 // Refusal 19: the number is 0, or above the next one to be published.
 fn wrong_start(published: u32, next: u32) -> bool
     ensures { result ≡ start_outside published next }
 {
-    if next == 0 {
-        return true;
-    }
-    published < next - 1
+    next == 0 || published < next - 1
 }
 
 // The bytes that the answer takes.
-fn answer_size(date: TradeDate, content: &[u8]) -> usize
+fn answer_size(date: Option<u32>, content: &[u8]) -> usize
     requires { length content.now ≤ packet_content }
     ensures { result ≡ length (login_bytes date content.now) }
 {
-    match date {
-        TradeDate::None => 20 + content.len(),
-        TradeDate::At(_) => 26 + content.len(),
+    if date.is_some() {
+        26 + content.len()
+    } else {
+        20 + content.len()
     }
 }
 
@@ -142,26 +123,23 @@ fn answer_login(e: Sender, i: usize, next: u32, content: &[u8], out: &mut [u8]) 
     ensures { wrote result.end result.answer out.new ≡ login_answer e i next content.now
         out.old }
 {
-    let day = e.day;
-    let date = day.date;
-    let one = day.series[i];
-    let n = answer_size(date, content);
+    let n = answer_size(e.day.date, content);
     if out.len() < n {
         return LoginStep {
             end: e,
-            answer: LoggedIn::Refused(Refusal::TooSmall),
+            answer: Err(Refusal::TooSmall),
         };
     }
-    if wrong_start(one.published, next) {
+    if wrong_start(e.day.series[i].published, next) {
         return LoginStep {
             end: e,
-            answer: LoggedIn::Refused(Refusal::WrongStart),
+            answer: Err(Refusal::WrongStart),
         };
     }
-    write_login(date, content, Ending::Nothing, out);
+    let _ = write_login(e.day.date, content, None, out); // it has room, and whole fields
     LoginStep {
         end: e.with_place(i, next as u64, 0),
-        answer: LoggedIn::Wrote(n),
+        answer: Ok(n),
     }
 }
 
@@ -170,7 +148,7 @@ pub(crate) fn log_in(
     e: Sender,
     series: u16,
     h: Header,
-    date: TradeDate,
+    date: Option<u32>,
     asked: &[u8],
     content: &[u8],
     out: &mut [u8],
@@ -178,34 +156,25 @@ pub(crate) fn log_in(
     ensures { wrote result.end result.answer out.new ≡ login_with e series h date asked.now
         content.now out.old }
 {
-    match check_contents(h, asked, content) {
-        Checked::Refused(r) => LoginStep {
+    if let Err(r) = check_contents(h, asked, content) {
+        return LoginStep {
             end: e,
-            answer: LoggedIn::Refused(r),
-        },
-        Checked::Passed => match e.find(series) {
-            SeriesPlace::Unknown => LoginStep {
-                end: e,
-                answer: LoggedIn::Refused(Refusal::UnknownSeries),
-            },
-            SeriesPlace::At(i) => {
-                let day = e.day;
-                let own = day.date;
-                let start = find_resume(asked);
-                match check_line(own, series, h, date, start) {
-                    Checked::Refused(r) => LoginStep {
-                        end: e,
-                        answer: LoggedIn::Refused(r),
-                    },
-                    Checked::Passed => answer_login(
-                        e,
-                        i,
-                        start_number(own, date, start),
-                        content,
-                        out,
-                    ),
-                }
-            }
-        },
+            answer: Err(r),
+        };
     }
+    let Some(i) = e.find(series) else {
+        return LoginStep {
+            end: e,
+            answer: Err(Refusal::UnknownSeries),
+        };
+    };
+    let own = e.day.date;
+    let start = find_resume(asked);
+    if let Err(r) = check_line(own, series, h, date, start) {
+        return LoginStep {
+            end: e,
+            answer: Err(r),
+        };
+    }
+    answer_login(e, i, start_number(own, date, start), content, out)
 }

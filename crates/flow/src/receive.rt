@@ -7,12 +7,10 @@ ghost use Rattle.flow.specs.ReceiveHelpers.{parts_of, no_room, out_of_chain, wro
 ghost use Rattle.flow.specs.ReceiveHelpers.{one_completing, one_keeping, one_holds, one_piece, takes_one, decides_with};
 
 use crate::days::{before, differs};
-use crate::receiver::{Decision, KeptSeries, LiveSeries, Origin, Received, Receiver, Target};
-use crate::series::SeriesPlace;
+use crate::receiver::{Decision, KeptSeries, LiveSeries, Origin, Received, Receiver};
 use ftd::bytes::number16;
 use ftd::packet::{Chain, Header, Span};
 use ftd::refusal::Refusal;
-use ftd::tags::{PacketPlace, TradeDate};
 
 // What a packet leaves of its series, the answer, and where its content is copied.
 #[derive(Clone, Copy)]
@@ -20,62 +18,44 @@ pub(crate) struct OneStep {
     pub kept: KeptSeries,
     pub live: LiveSeries,
     pub answer: Received,
-    pub target: Target,
+    pub target: Option<usize>,
 }
 
 // Refusal 16: number 0, above last + 1 or above 1,000,000.
 fn out_of_line(last: u32, number: u32) -> bool
     ensures { result ≡ out_of_line last number }
 {
-    if number == 0 {
-        return true;
-    }
-    if last < number - 1 {
-        return true;
-    }
-    Receiver::MOST_MESSAGES < number
+    number == 0 || last < number - 1 || Receiver::MOST_MESSAGES < number
 }
 
 // Refusal 17: no open chain of the same TID.
 fn broken_chain(live: LiveSeries, h: Header) -> bool
     ensures { result ≡ broken_chain live h }
 {
-    if live.chain {
-        return live.tid != h.tid;
-    }
-    true
+    !live.chain || live.tid != h.tid
 }
 
 // Refusal 17: a place that is not the count of the pieces held (02, No. 10). Without a place nothing is compared.
-fn misplaced(place: PacketPlace, pieces: u32) -> bool
+fn misplaced(place: Option<u16>, pieces: u32) -> bool
     ensures { result ≡ misplaced place pieces }
 {
-    match place {
-        PacketPlace::NoPlace => false,
-        PacketPlace::Nth(j) => number16(j) != pieces,
-    }
+    place.is_some_and(|j| number16(j) != pieces)
 }
 
 // Refusal 17 of C and L: no open chain of the same TID, or the place is not the next.
-fn out_of_chain(live: LiveSeries, h: Header, place: PacketPlace) -> bool
+fn out_of_chain(live: LiveSeries, h: Header, place: Option<u16>) -> bool
     ensures { result ≡ out_of_chain live h place }
 {
-    if broken_chain(live, h) {
-        return true;
-    }
-    misplaced(place, live.pieces)
+    broken_chain(live, h) || misplaced(place, live.pieces)
 }
 
 // Refusal 17, by the chain letter: S and F are piece 0.
-fn wrong_piece(live: LiveSeries, h: Header, place: PacketPlace) -> bool
+fn wrong_piece(live: LiveSeries, h: Header, place: Option<u16>) -> bool
     ensures { result ≡ wrong_piece live h place h.chain }
 {
-    let chain = h.chain;
-    match chain {
-        Chain::Single => misplaced(place, 0),
-        Chain::First => misplaced(place, 0),
-        Chain::Middle => out_of_chain(live, h, place),
-        Chain::Last => out_of_chain(live, h, place),
+    match h.chain {
+        Chain::Single | Chain::First => misplaced(place, 0),
+        Chain::Middle | Chain::Last => out_of_chain(live, h, place),
     }
 }
 
@@ -84,49 +64,35 @@ fn one_more(pieces: u32) -> u32
     ensures { result ≡ one_more pieces }
 {
     if pieces < Receiver::MOST_PIECES {
-        return pieces + 1;
+        pieces + 1
+    } else {
+        Receiver::MOST_PIECES
     }
-    Receiver::MOST_PIECES
 }
 
 // The bytes that all parts of the buffer take, by the count of the open series.
 fn all_parts(count: usize) -> usize
     ensures { result ≡ parts_of count }
 {
-    if count < Receiver::MOST_SERIES {
-        return Receiver::PART * count;
-    }
-    Receiver::PART * Receiver::MOST_SERIES
+    Receiver::PART * count.min(Receiver::MOST_SERIES)
 }
 
 // Refusal 18: the buffer is shorter than all its parts, or the chain passes 32,768.
 fn no_room(count: usize, size: usize, held: usize, more: usize) -> bool
     ensures { result ≡ no_room count size held more }
 {
-    if size < all_parts(count) {
-        return true;
-    }
-    if Receiver::PART < more {
-        return true;
-    }
-    Receiver::PART - more < held
+    size < all_parts(count) || Receiver::PART < more || Receiver::PART - more < held
 }
 
 // A way out with no chain: logged in.
-fn leave(kept: KeptSeries, answer: Received, target: Target) -> OneStep
+fn leave(kept: KeptSeries, answer: Received, target: Option<usize>) -> OneStep
     ensures { result ≡ one_step kept logged_in answer target }
 {
     OneStep {
-        kept: kept,
-        live: LiveSeries {
-            login: true,
-            chain: false,
-            tid: 0,
-            held: 0,
-            pieces: 0,
-        },
-        answer: answer,
-        target: target,
+        kept,
+        live: LiveSeries::LOGGED_IN,
+        answer,
+        target,
     }
 }
 
@@ -134,45 +100,54 @@ fn leave(kept: KeptSeries, answer: Received, target: Target) -> OneStep
 fn drop_chain(kept: KeptSeries, answer: Received) -> OneStep
     ensures { result ≡ one_dropping kept answer }
 {
-    leave(kept, answer, Target::Nothing)
+    leave(kept, answer, None)
 }
 
 // A message is handed on: its number is the last one, and no chain is open.
-fn complete(kept: KeptSeries, h: Header, origin: Origin, content: Span, target: Target) -> OneStep
+fn complete(
+    kept: KeptSeries,
+    h: Header,
+    origin: Origin,
+    content: Span,
+    target: Option<usize>,
+) -> OneStep
     ensures { result ≡ one_completing kept h origin content target }
 {
-    let date = kept.date;
-    leave(
-        KeptSeries {
-            series: kept.series,
-            date: date,
-            last: h.number,
-        },
-        Received::Complete {
-            last: h.number,
-            tid: h.tid,
-            origin: origin,
-            content: content,
-        },
-        target,
-    )
+    let now = KeptSeries {
+        series: kept.series,
+        date: kept.date,
+        last: h.number,
+    };
+    let answer = Received::Complete {
+        last: h.number,
+        tid: h.tid,
+        origin,
+        content,
+    };
+    leave(now, answer, target)
 }
 
 // The next piece is held: its chain is open with so many bytes, and one piece more.
-fn keep_chain(kept: KeptSeries, tid: u32, held: usize, pieces: u32, target: Target) -> OneStep
+fn keep_chain(
+    kept: KeptSeries,
+    tid: u32,
+    held: usize,
+    pieces: u32,
+    target: Option<usize>,
+) -> OneStep
     ensures { result ≡ one_keeping kept tid held pieces target }
 {
     OneStep {
-        kept: kept,
+        kept,
         live: LiveSeries {
             login: true,
             chain: true,
-            tid: tid,
-            held: held,
+            tid,
+            held,
             pieces: one_more(pieces),
         },
         answer: Received::Partial(kept.last),
-        target: target,
+        target,
     }
 }
 
@@ -196,12 +171,9 @@ fn hold(
     }
     let start = Receiver::PART * i;
     let len = held + more;
-    let target = Target::At(start + held);
+    let target = Some(start + held);
     if whole {
-        let all = Span {
-            start: start,
-            len: len,
-        };
+        let all = Span { start, len };
         return complete(kept, h, Origin::Buffer, all, target);
     }
     keep_chain(kept, h.tid, len, pieces, target)
@@ -215,7 +187,7 @@ fn take_piece(
     i: usize,
     count: usize,
     h: Header,
-    place: PacketPlace,
+    place: Option<u16>,
     at: Span,
     size: usize,
 ) -> OneStep
@@ -228,9 +200,8 @@ fn take_piece(
     let held = live.held;
     let pieces = live.pieces;
     let more = at.len;
-    let chain = h.chain;
-    match chain {
-        Chain::Single => complete(kept, h, Origin::Packet, at, Target::Nothing),
+    match h.chain {
+        Chain::Single => complete(kept, h, Origin::Packet, at, None),
         Chain::First => hold(kept, i, count, h, 0, 0, false, more, size),
         Chain::Middle => hold(kept, i, count, h, held, pieces, false, more, size),
         Chain::Last => hold(kept, i, count, h, held, pieces, true, more, size),
@@ -239,15 +210,16 @@ fn take_piece(
 
 // A message packet of an open series, by what is kept of it, what it has on this connection, its place and the count of
 // the open ones: 14, 15, also of a day before some trade date, 16, again, and then its piece.
+#[tactic(auto, unfolding(crate::specs::ReceiveHelpers::takes_one))]
 fn take_one(
-    floor: TradeDate,
+    floor: Option<u32>,
     kept: KeptSeries,
     live: LiveSeries,
     i: usize,
     count: usize,
     h: Header,
-    date: TradeDate,
-    place: PacketPlace,
+    date: Option<u32>,
+    place: Option<u16>,
     at: Span,
     size: usize,
 ) -> OneStep
@@ -255,11 +227,7 @@ fn take_one(
     ensures { result ≡ takes_one floor kept live i count h date place at size }
 {
     if live.login {
-        let own = kept.date;
-        if differs(date, own) {
-            return drop_chain(kept, Received::Refused(Refusal::OtherDay));
-        }
-        if before(own, floor) {
+        if differs(date, kept.date) || before(kept.date, floor) {
             return drop_chain(kept, Received::Refused(Refusal::OtherDay));
         }
         if out_of_line(kept.last, h.number) {
@@ -271,10 +239,10 @@ fn take_one(
         return take_piece(kept, live, i, count, h, place, at, size);
     }
     OneStep {
-        kept: kept,
-        live: live,
+        kept,
+        live,
         answer: Received::Refused(Refusal::NotLoggedIn),
-        target: Target::Nothing,
+        target: None,
     }
 }
 
@@ -282,42 +250,33 @@ fn take_one(
 // bytes: 13 to 18, again, or a piece. Its series is taken out of the end and put back once.
 pub(crate) fn take_packet(
     e: Receiver,
-    floor: TradeDate,
+    floor: Option<u32>,
     h: Header,
-    date: TradeDate,
-    place: PacketPlace,
+    date: Option<u32>,
+    place: Option<u16>,
     at: Span,
     size: usize,
 ) -> Decision
     ensures { result ≡ decides_with floor e h date place at size }
 {
-    match e.find(h.series) {
-        SeriesPlace::Unknown => Decision {
+    let Some(i) = e.find(h.series) else {
+        return Decision {
             end: e,
             answer: Received::Refused(Refusal::UnknownSeries),
             series: h.series,
             content: at,
-            target: Target::Nothing,
-        },
-        SeriesPlace::At(i) => {
-            let all = e.kept;
-            let count = all.count;
-            let kept = all.series[i];
-            let line = e.live;
-            let live = line.series[i];
-            let step = take_one(floor, kept, live, i, count, h, date, place, at, size);
-            let left = step.kept;
-            let now = step.live;
-            let answer = step.answer;
-            let target = step.target;
-            Decision {
-                end: e.with_at(i, left, now),
-                answer: answer,
-                series: h.series,
-                content: at,
-                target: target,
-            }
-        }
+            target: None,
+        };
+    };
+    let kept = e.kept.series[i];
+    let live = e.live.series[i];
+    let step = take_one(floor, kept, live, i, e.kept.count, h, date, place, at, size);
+    Decision {
+        end: e.with_at(i, step.kept, step.live),
+        answer: step.answer,
+        series: h.series,
+        content: at,
+        target: step.target,
     }
 }
 
@@ -325,8 +284,5 @@ pub(crate) fn take_packet(
 pub(crate) fn fits_at(at: usize, more: usize, size: usize) -> bool
     ensures { result ≡ leb (at + more) size }
 {
-    if size < more {
-        return false;
-    }
-    at <= size - more
+    more <= size && at <= size - more
 }

@@ -1,5 +1,7 @@
 // The receiving end (01, "The receiving end"): its state by value, and what its calls answer.
-ghost use Rattle.std.specs.Prelude.{true, map, ◌≡◌, ◌<◌, ◌≤◌, length, replicate};
+ghost use Rattle.std.specs.Prelude.{true, map, ◌≡◌, ◌<◌, ◌≤◌, ◌==◌, length, take, replicate};
+ghost use Rattle.std.specs.List.{position};
+ghost use Rattle.flow.specs.declared.receiver.KeptSeries.{KeptSeries};
 ghost use Rattle.ftd.specs.Fields.{shaped};
 ghost use Rattle.ftd.specs.Packet.{span};
 ghost use Rattle.flow.specs.Deciding.{Decides, dropped_of, copied_to};
@@ -15,30 +17,40 @@ use crate::confirm::confirm_with;
 use crate::header::not_one_message;
 use crate::limits::Limits;
 use crate::receive::{fits_at, take_packet};
-use crate::sender::Opened;
-use crate::series::{SeriesPlace, wrong_series};
+use crate::series::wrong_series;
 use ftd::bytes::copy_at;
 use ftd::composition::Direction;
 use ftd::content::check_content;
 use ftd::fields::count_field;
-use ftd::items::Checked;
 use ftd::login::{Ending, write_login};
 use ftd::packet::{Packet, Span, not_one_packet, read_dated};
 use ftd::refusal::Refusal;
-use ftd::tags::TradeDate;
-use ftd::write::Written;
 
 // What is kept of a series, whatever happens to the line: its trade date (01: mark), none at first, and the last
 // number.
 #[derive(Clone, Copy)]
 pub struct KeptSeries {
     pub series: u16,
-    pub date: TradeDate,
+    pub date: Option<u32>,
     pub last: u32,
+}
+
+impl KeptSeries {
+    // With no trade date and last 0.
+    pub(crate) fn new(series: u16) -> KeptSeries
+        ensures { result ≡ new_kept series }
+    {
+        KeptSeries {
+            series,
+            date: None,
+            last: 0,
+        }
+    }
 }
 
 // The durable part: how many series are open, and what is kept of each, in the opening's order. No series: not opened
 // yet.
+// Stays: an array with its count, no Vec: no heap (01), and the C interface hands the end over by value.
 #[derive(Clone, Copy)]
 pub struct Kept {
     pub count: usize,
@@ -47,6 +59,7 @@ pub struct Kept {
 
 // What a series has on this connection: logged in, and an open chain with its TID, how many bytes of it are held, and
 // how many pieces, counted up to 65,536 (02, No. 10).
+// Stays: numbers with two flags, since the definitions (specs/Ends, specs/Receiving) and the C interface name them.
 #[derive(Clone, Copy)]
 pub struct LiveSeries {
     pub login: bool,
@@ -54,6 +67,25 @@ pub struct LiveSeries {
     pub tid: u32,
     pub held: usize,
     pub pieces: u32,
+}
+
+impl LiveSeries {
+    // Neither a login nor a chain.
+    pub(crate) const NONE: LiveSeries = LiveSeries {
+        login: false,
+        chain: false,
+        tid: 0,
+        held: 0,
+        pieces: 0,
+    };
+    // Logged in, with no chain.
+    pub(crate) const LOGGED_IN: LiveSeries = LiveSeries {
+        login: true,
+        chain: false,
+        tid: 0,
+        held: 0,
+        pieces: 0,
+    };
 }
 
 #[derive(Clone, Copy)]
@@ -66,20 +98,6 @@ pub struct Live {
 pub struct Receiver {
     pub kept: Kept,
     pub live: Live,
-}
-
-// What Ask answers: how many bytes were written.
-#[derive(Clone, Copy)]
-pub enum Requested {
-    Wrote(usize),
-    Refused(Refusal),
-}
-
-// What Answer answers: the series' last number.
-#[derive(Clone, Copy)]
-pub enum Confirmed {
-    Last(u32),
-    Refused(Refusal),
 }
 
 // Where the content of a message lies that is handed on: in the packet, or in the reassembly buffer (01: chain buffer).
@@ -105,14 +123,6 @@ pub enum Received {
     Refused(Refusal),
 }
 
-// Where the content of a packet is copied that Receive takes: nowhere, or to a place of the reassembly buffer, behind
-// the bytes that are held.
-#[derive(Clone, Copy)]
-pub enum Target {
-    Nothing,
-    At(usize),
-}
-
 // What Receive decides before a byte is written: the end and the answer that it leaves, the packet's series, where the
 // packet's content lies in it, and where that is copied.
 #[derive(Clone, Copy)]
@@ -121,20 +131,20 @@ pub struct Decision {
     pub answer: Received,
     pub series: u16,
     pub content: Span,
-    pub target: Target,
+    pub target: Option<usize>,
 }
 
 // What a call leaves: the end, and its answer. Ask leaves the end as it is, and Connect answers nothing.
 #[derive(Clone, Copy)]
 pub struct OpenStep {
     pub end: Receiver,
-    pub answer: Opened,
+    pub answer: Result<(), Refusal>,
 }
 
 #[derive(Clone, Copy)]
 pub struct ConfirmStep {
     pub end: Receiver,
-    pub answer: Confirmed,
+    pub answer: Result<u32, Refusal>,
 }
 
 #[derive(Clone, Copy)]
@@ -148,19 +158,9 @@ fn new_kept(series: &[u16]) -> [KeptSeries; 8]
     requires { length series.now ≤ 8 }
     ensures { result ≡ filled (new_kept 0) (map new_kept series.now) }
 {
-    let mut all = [KeptSeries {
-        series: 0,
-        date: TradeDate::None,
-        last: 0,
-    }; 8];
-    let mut i: usize = 0;
-    while i < series.len() {
-        all[i] = KeptSeries {
-            series: series[i],
-            date: TradeDate::None,
-            last: 0,
-        };
-        i += 1;
+    let mut all = [KeptSeries::new(0); 8];
+    for (i, one) in series.iter().enumerate() {
+        all[i] = KeptSeries::new(*one);
     }
     all
 }
@@ -170,13 +170,7 @@ pub(crate) fn no_line() -> Live
     ensures { result ≡ record { series = replicate most_series no_live } }
 {
     Live {
-        series: [LiveSeries {
-            login: false,
-            chain: false,
-            tid: 0,
-            held: 0,
-            pieces: 0,
-        }; 8],
+        series: [LiveSeries::NONE; 8],
     }
 }
 
@@ -184,10 +178,7 @@ pub(crate) fn no_line() -> Live
 fn next_wanted(last: u32) -> u32
     ensures { result ≡ next_wanted last }
 {
-    if last < 4294967295 {
-        return last + 1;
-    }
-    0
+    last.wrapping_add(1)
 }
 
 // The end stays as it is; nothing is copied.
@@ -196,38 +187,45 @@ fn stay(e: Receiver, answer: Received, series: u16) -> Decision
 {
     Decision {
         end: e,
-        answer: answer,
-        series: series,
+        answer,
+        series,
         content: Span { start: 0, len: 0 },
-        target: Target::Nothing,
+        target: None,
     }
 }
 
 // The series in the header of what was read; 0 where there is none.
+// Stays: 0, not None, since the definition series_in (specs/World) gives it.
 fn series_in(read: Packet) -> u16
     ensures { result ≡ series_in read }
 {
     match read {
-        Packet::Message {
-            header,
-            extension: _,
-            content: _,
-        } => header.series,
+        Packet::Message { header, .. } => header.series,
         _ => 0,
     }
 }
 
 // The piece that was decided on is copied.
-pub fn copy_piece(target: Target, content: &[u8], buffer: &mut [u8])
+pub fn copy_piece(target: Option<usize>, content: &[u8], buffer: &mut [u8])
     ensures { buffer.new ≡ copied_to target content.now buffer.old }
 {
-    match target {
-        Target::Nothing => {}
-        Target::At(n) => {
-            if fits_at(n, content.len(), buffer.len()) {
-                copy_at(buffer, n, content);
-            }
+    if let Some(n) = target {
+        if fits_at(n, content.len(), buffer.len()) {
+            copy_at(buffer, n, content);
         }
+    }
+}
+
+impl Kept {
+    // The first place of a series among the open ones.
+    fn place(&self, series: u16) -> Option<usize>
+        ensures { result ≡ position (λ (x : KeptSeries). x.series == series)
+            (take self.now.count self.now.series) }
+    {
+        self.series
+            .iter()
+            .take(self.count)
+            .position(|one| one.series == series)
     }
 }
 
@@ -262,33 +260,17 @@ impl Receiver {
         Receiver {
             kept: Kept {
                 count: 0,
-                series: [KeptSeries {
-                    series: 0,
-                    date: TradeDate::None,
-                    last: 0,
-                }; 8],
+                series: [KeptSeries::new(0); 8],
             },
             live: no_line(),
         }
     }
 
     // Where a series stands among the open ones: its first place.
-    pub(crate) fn find(self, series: u16) -> SeriesPlace
+    pub(crate) fn find(self, series: u16) -> Option<usize>
         ensures { FindsKept self series result }
     {
-        let kept = self.kept;
-        let mut i: usize = 0;
-        while i < 8 {
-            if i >= kept.count {
-                return SeriesPlace::Unknown;
-            }
-            let one = kept.series[i];
-            if one.series == series {
-                return SeriesPlace::At(i);
-            }
-            i += 1;
-        }
-        SeriesPlace::Unknown
+        self.kept.place(series)
     }
 
     // The series at a place, with what is now kept of it and what it now has on this connection.
@@ -300,27 +282,17 @@ impl Receiver {
         let mut live = self.live;
         kept.series[i] = series;
         live.series[i] = line;
-        Receiver {
-            kept: kept,
-            live: live,
-        }
+        Receiver { kept, live }
     }
 
     // Opening: the series, once; 11.
     pub fn open(self, series: &[u16]) -> OpenStep
         ensures { OpensEnd self series.now result }
     {
-        let kept = self.kept;
-        if kept.count > 0 {
+        if self.kept.count > 0 || wrong_series(series) {
             return OpenStep {
                 end: self,
-                answer: Opened::Refused(Refusal::Opening),
-            };
-        }
-        if wrong_series(series) {
-            return OpenStep {
-                end: self,
-                answer: Opened::Refused(Refusal::Opening),
+                answer: Err(Refusal::Opening),
             };
         }
         OpenStep {
@@ -331,7 +303,7 @@ impl Receiver {
                 },
                 live: no_line(),
             },
-            answer: Opened::Done,
+            answer: Ok(()),
         }
     }
 
@@ -339,50 +311,50 @@ impl Receiver {
     pub fn connect(self) -> Receiver
         ensures { Connects self result }
     {
-        let kept = self.kept;
         Receiver {
-            kept: kept,
+            kept: self.kept,
             live: no_line(),
         }
     }
 
     // 18, or the request is written: the content, and the start field for the series at a place.
-    fn write_request(self, i: usize, series: u16, content: &[u8], out: &mut [u8]) -> Requested
+    fn write_request(
+        self,
+        i: usize,
+        series: u16,
+        content: &[u8],
+        out: &mut [u8],
+    ) -> Result<usize, Refusal>
         requires { (i < 8) × (shaped content.now request_content ≡ true) }
         ensures { wrote self result out.new ≡ request_at self i series content.now
             out.old }
     {
-        let kept = self.kept;
-        let one = kept.series[i];
-        let date = one.date;
-        let start = Ending::Resume {
-            series: series,
+        let one = self.kept.series[i];
+        let start = Some(Ending {
+            series,
             number: next_wanted(one.last),
-        };
-        match write_login(date, content, start, out) {
-            Written::Bytes(n) => Requested::Wrote(n),
-            _ => Requested::Refused(Refusal::TooSmall),
-        }
+        });
+        write_login(one.date, content, start, out).or(Err(Refusal::TooSmall))
     }
 
     // Ask: series and the request's content; 7 to 10, 13 and 18. The request is written, and the end stays. 8 to 10 say
     // the same of the content as of the content with its start field, where it has none of its own.
-    pub fn request_login(self, series: u16, content: &[u8], out: &mut [u8]) -> Requested
+    pub fn request_login(
+        self,
+        series: u16,
+        content: &[u8],
+        out: &mut [u8],
+    ) -> Result<usize, Refusal>
         ensures { Asks self series content.now out.old result out.new }
     {
-        match check_content(0x0016, Direction::Up, content, Receiver::REQUEST_CONTENT) {
-            Checked::Refused(r) => {
-                return Requested::Refused(r);
-            }
-            Checked::Passed => {}
-        }
+        check_content(0x0016, Direction::Up, content, Receiver::REQUEST_CONTENT)?;
         if 0 < count_field(content, 0x0004) {
-            return Requested::Refused(Refusal::Composition);
+            return Err(Refusal::Composition);
         }
-        match self.find(series) {
-            SeriesPlace::Unknown => Requested::Refused(Refusal::UnknownSeries),
-            SeriesPlace::At(i) => self.write_request(i, series, content, out),
-        }
+        let Some(i) = self.find(series) else {
+            return Err(Refusal::UnknownSeries);
+        };
+        self.write_request(i, series, content, out)
     }
 
     // Answer: a login answer of a series; 12, the reader's refusals, 8 to 10, 13, 15 and 16. The series is logged in.
@@ -392,54 +364,48 @@ impl Receiver {
         if not_one_message(packet) {
             return ConfirmStep {
                 end: self,
-                answer: Confirmed::Refused(Refusal::NotOnePacket),
+                answer: Err(Refusal::NotOnePacket),
             };
         }
         let d = read_dated(packet);
-        let read = d.packet;
-        let date = d.date;
-        match read {
+        match d.packet {
             Packet::Message {
                 header,
-                extension: _,
                 content,
+                ..
             } => {
                 let at = content.start;
-                let n = content.len;
-                confirm_with(self, series, header, date, &packet[at..at + n])
+                confirm_with(self, series, header, d.date, &packet[at..at + content.len])
             }
             Packet::Refused(r) => ConfirmStep {
                 end: self,
-                answer: Confirmed::Refused(r),
+                answer: Err(r),
             },
             _ => ConfirmStep {
                 end: self,
-                answer: Confirmed::Refused(Refusal::NotOnePacket),
+                answer: Err(Refusal::NotOnePacket),
             },
         }
     }
 
     // What Receive decides, for an end that takes nothing of a day before a trade date; nothing is written (02, No. 3).
-    pub fn decide(self, floor: TradeDate, packet: &[u8], buffer: &[u8]) -> Decision
+    pub fn decide(self, floor: Option<u32>, packet: &[u8], buffer: &[u8]) -> Decision
         ensures { Decides self floor packet.now buffer.now result }
     {
         let d = read_dated(packet);
-        let read = d.packet;
-        let date = d.date;
-        let place = d.place;
         if not_one_packet(packet) {
             return stay(
                 self,
                 Received::Refused(Refusal::NotOnePacket),
-                series_in(read),
+                series_in(d.packet),
             );
         }
-        match read {
+        match d.packet {
             Packet::Message {
                 header,
-                extension: _,
-                content: span,
-            } => take_packet(self, floor, header, date, place, span, buffer.len()),
+                content,
+                ..
+            } => take_packet(self, floor, header, d.date, d.place, content, buffer.len()),
             Packet::Refused(r) => stay(self, Received::Refused(r), 0),
             Packet::Short(_) => stay(self, Received::Refused(Refusal::NotOnePacket), 0),
             _ => stay(self, Received::Idle, 0),
@@ -450,41 +416,22 @@ impl Receiver {
     pub fn drop_chain(self, series: u16) -> Receiver
         ensures { result ≡ dropped_of self series }
     {
-        match self.find(series) {
-            SeriesPlace::Unknown => self,
-            SeriesPlace::At(i) => {
-                let all = self.kept;
-                let kept = all.series[i];
-                self.with_at(
-                    i,
-                    kept,
-                    LiveSeries {
-                        login: true,
-                        chain: false,
-                        tid: 0,
-                        held: 0,
-                        pieces: 0,
-                    },
-                )
-            }
-        }
+        let Some(i) = self.find(series) else {
+            return self;
+        };
+        self.with_at(i, self.kept.series[i], LiveSeries::LOGGED_IN)
     }
 
     // Receive: a packet. A piece of a chain is copied into the series' part of the reassembly buffer.
     pub fn receive(self, packet: &[u8], buffer: &mut [u8]) -> ReceiveStep
         ensures { Receives self packet.now buffer.old result buffer.new }
     {
-        let d = self.decide(TradeDate::None, packet, buffer);
-        let end = d.end;
-        let answer = d.answer;
-        let target = d.target;
-        let span = d.content;
-        let at = span.start;
-        let n = span.len;
-        copy_piece(target, &packet[at..at + n], buffer);
+        let d = self.decide(None, packet, buffer);
+        let at = d.content.start;
+        copy_piece(d.target, &packet[at..at + d.content.len], buffer);
         ReceiveStep {
-            end: end,
-            answer: answer,
+            end: d.end,
+            answer: d.answer,
         }
     }
 }

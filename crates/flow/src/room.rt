@@ -13,15 +13,12 @@ pub(crate) fn wrong_reserves(series: &[u16], reserves: &[usize], log: &[u8]) -> 
     if reserves.len() != series.len() {
         return true;
     }
-    let mut left: usize = log.len();
-    let mut i: usize = 0;
-    while i < reserves.len() {
-        let one = reserves[i];
-        if left < one {
+    let mut left = log.len();
+    for one in reserves {
+        if left < *one {
             return true;
         }
-        left -= one;
-        i += 1;
+        left -= *one;
     }
     false
 }
@@ -30,23 +27,14 @@ pub(crate) fn wrong_reserves(series: &[u16], reserves: &[usize], log: &[u8]) -> 
 fn more_at(i: usize, at: usize, more: usize) -> usize
     ensures { result ≡ cond (eqb i at) more 0 }
 {
-    if i == at {
-        return more;
-    }
-    0
+    if i == at { more } else { 0 }
 }
 
 // The share of a series with so many bytes more is above what is left.
 fn is_over(one: DaySeries, more: usize, left: usize) -> bool
     ensures { result ≡ ltb left (share_with more one) }
 {
-    if left < one.reserve {
-        return true;
-    }
-    if left < one.used {
-        return true;
-    }
-    left - one.used < more
+    left < one.reserve || left < one.used || left - one.used < more
 }
 
 // The share of a series with so many bytes more: the larger of the bytes used and its reserve.
@@ -54,30 +42,23 @@ fn share(one: DaySeries, more: usize) -> usize
     requires { one.used + more < 18446744073709551616 }
     ensures { result ≡ share_with more one }
 {
-    let used = one.used + more;
-    if used < one.reserve {
-        return one.reserve;
-    }
-    used
+    (one.used + more).max(one.reserve)
 }
 
 // 18: the shares of all open series, that at a place with so many bytes more, are above the log's length together.
 pub(crate) fn over_shares(day: Day, at: usize, more: usize, room: usize) -> bool
     ensures { result ≡ ltb room (shares_in day at more) }
 {
-    let mut left: usize = room;
-    let mut i: usize = 0;
-    while i < 8 {
+    let mut left = room;
+    for (i, one) in day.series.iter().enumerate() {
         if i >= day.count {
             return false;
         }
-        let one = day.series[i];
         let extra = more_at(i, at, more);
-        if is_over(one, extra, left) {
+        if is_over(*one, extra, left) {
             return true;
         }
-        left -= share(one, extra);
-        i += 1;
+        left -= share(*one, extra);
     }
     false
 }

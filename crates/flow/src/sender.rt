@@ -1,12 +1,12 @@
 // The serving end (01, "The serving end"): its state by value, and what its calls answer.
-ghost use Rattle.std.specs.Prelude.{◌++◌, ◌≡◌, ◌≤◌, ◌<◌, length};
+ghost use Rattle.std.specs.Prelude.{◌++◌, ◌≡◌, ◌≤◌, ◌<◌, ◌==◌, length, take};
+ghost use Rattle.std.specs.List.{position};
+ghost use Rattle.flow.specs.declared.sender.DaySeries.{DaySeries};
 ghost use Rattle.std.proofs.Math.Option.{some};
 ghost use Rattle.ftd.specs.Content.{content_check};
 ghost use Rattle.ftd.specs.declared.composition.Direction.TheVariants.{Down};
-ghost use Rattle.ftd.specs.declared.items.Checked.TheVariants.{Passed};
 ghost use Rattle.ftd.specs.Fields.{most_content};
-ghost use Rattle.flow.specs.declared.series.SeriesPlace.TheVariants.{At};
-ghost use Rattle.flow.specs.Ends.{fresh_sender, sender_limits, filled, no_series, opened_series};
+ghost use Rattle.flow.specs.Ends.{fresh_sender, sender_limits, filled, new_series, no_series, opened_series};
 ghost use Rattle.flow.specs.Biggest.{sender_most};
 ghost use Rattle.flow.specs.Helpers.{Finds, unopened, unpublished, placed_at};
 ghost use Rattle.flow.specs.SendHelpers.{Leaves, FindsNext, EntryNext, headed, stepped_at};
@@ -19,17 +19,14 @@ use crate::limits::{Limits, Most};
 use crate::log::{EntryPlace, entry_length, find_entry, put_entry};
 use crate::login::log_in;
 use crate::room::{over_shares, wrong_reserves};
-use crate::series::{SeriesPlace, wrong_series};
+use crate::series::wrong_series;
 use ftd::bytes::be32;
 use ftd::chain::{Message, PacketWritten, write_chain, write_packet};
 use ftd::composition::Direction;
 use ftd::content::check_content;
-use ftd::items::Checked;
 use ftd::packet::{Packet, read_dated};
 use ftd::parts::check_parts;
 use ftd::refusal::Refusal;
-use ftd::tags::TradeDate;
-use ftd::write::Written;
 
 // A series of the day, how many messages were published in it, its reserve of the log in bytes, and how many bytes its
 // entries take (02, No. 11).
@@ -41,11 +38,26 @@ pub struct DaySeries {
     pub used: usize,
 }
 
+impl DaySeries {
+    // With its reserve, and no message published.
+    pub fn new(series: u16, reserve: usize) -> DaySeries
+        ensures { result ≡ new_series series reserve }
+    {
+        DaySeries {
+            series,
+            published: 0,
+            reserve,
+            used: 0,
+        }
+    }
+}
+
 // The day: its trade date (01: mark), how many series are open, these in the opening's order, and how many bytes of the
 // log are used.
+// Stays: an array with its count, no Vec: no heap (01), and the C interface hands the day over by value.
 #[derive(Clone, Copy)]
 pub struct Day {
-    pub date: TradeDate,
+    pub date: Option<u32>,
     pub count: usize,
     pub series: [DaySeries; 8],
     pub used: usize,
@@ -53,6 +65,7 @@ pub struct Day {
 
 // A seat's place in a series: logged in, the number that is sent next, and how many packets of that message were written
 // one by one: 0 where none is unfinished.
+// Stays: numbers with a flag, since the definitions (specs/Ends, specs/Serving) and the C interface name them.
 #[derive(Clone, Copy)]
 pub struct Place {
     pub login: bool,
@@ -66,6 +79,17 @@ pub struct Seat {
     pub places: [Place; 8],
 }
 
+impl Seat {
+    // A seat that has nothing.
+    pub const NONE: Seat = Seat {
+        places: [Place {
+            login: false,
+            next: 0,
+            piece: 0,
+        }; 8],
+    };
+}
+
 // The serving end: the day, and the one seat that it serves.
 #[derive(Clone, Copy)]
 pub struct Sender {
@@ -73,87 +97,61 @@ pub struct Sender {
     pub seat: Seat,
 }
 
-// What an opening answers, of either end.
-#[derive(Clone, Copy)]
-pub enum Opened {
-    Done,
-    Refused(Refusal),
-}
-
-// What Publish answers: the message's number.
-#[derive(Clone, Copy)]
-pub enum Published {
-    Number(u32),
-    Refused(Refusal),
-}
-
-// What Login answers: how many bytes were written.
-#[derive(Clone, Copy)]
-pub enum LoggedIn {
-    Wrote(usize),
-    Refused(Refusal),
-}
-
 // What Send answers: none left (01: "none"), or the message's number and how many bytes were written.
 #[derive(Clone, Copy)]
-pub enum Sent {
-    Drained,
-    Wrote { number: u32, len: usize },
-    Refused(Refusal),
+pub struct Sent {
+    pub number: u32,
+    pub len: usize,
 }
 
 // What Send answers for one packet: none left, or the message's number, how many bytes were written, and whether the
 // packet was the message's last.
 #[derive(Clone, Copy)]
-pub enum SentPacket {
-    Drained,
-    Wrote { number: u32, len: usize, last: bool },
-    Refused(Refusal),
+pub struct SentPacket {
+    pub number: u32,
+    pub len: usize,
+    pub last: bool,
 }
 
 // What a call leaves: the end, and its answer.
 #[derive(Clone, Copy)]
 pub struct OpenStep {
     pub end: Sender,
-    pub answer: Opened,
+    pub answer: Result<(), Refusal>,
 }
 
 #[derive(Clone, Copy)]
 pub struct PublishStep {
     pub end: Sender,
-    pub answer: Published,
+    pub answer: Result<u32, Refusal>,
 }
 
 #[derive(Clone, Copy)]
 pub struct LoginStep {
     pub end: Sender,
-    pub answer: LoggedIn,
+    pub answer: Result<usize, Refusal>,
 }
 
 #[derive(Clone, Copy)]
 pub struct SendStep {
     pub end: Sender,
-    pub answer: Sent,
+    pub answer: Result<Option<Sent>, Refusal>,
 }
 
 #[derive(Clone, Copy)]
 pub struct SendPacketStep {
     pub end: Sender,
-    pub answer: SentPacket,
+    pub answer: Result<Option<SentPacket>, Refusal>,
 }
 
 // What both forms of Send find out before they write: none left, a refusal, or the message that is next: its series'
 // place, its number, and where its entry lies in the log.
 #[derive(Clone, Copy)]
-pub(crate) enum NextMessage {
-    Drained,
-    Refused(Refusal),
-    Entry {
-        place: usize,
-        number: u32,
-        start: usize,
-        size: usize,
-    },
+pub(crate) struct NextMessage {
+    pub(crate) place: usize,
+    pub(crate) number: u32,
+    pub(crate) start: usize,
+    pub(crate) size: usize,
 }
 
 // The day's places: the series of an opening, each with its reserve and no message published; the others empty.
@@ -161,23 +159,24 @@ fn new_places(series: &[u16], reserves: &[usize]) -> [DaySeries; 8]
     requires { (length series.now ≤ 8) × (length reserves.now ≡ length series.now) }
     ensures { result ≡ filled no_series (opened_series series.now reserves.now) }
 {
-    let mut all = [DaySeries {
-        series: 0,
-        published: 0,
-        reserve: 0,
-        used: 0,
-    }; 8];
-    let mut i: usize = 0;
-    while i < series.len() {
-        all[i] = DaySeries {
-            series: series[i],
-            published: 0,
-            reserve: reserves[i],
-            used: 0,
-        };
-        i += 1;
+    let mut all = [DaySeries::new(0, 0); 8];
+    for (i, one) in series.iter().enumerate() {
+        all[i] = DaySeries::new(*one, reserves[i]);
     }
     all
+}
+
+impl Day {
+    // The first place of a series among the open ones.
+    fn place(&self, series: u16) -> Option<usize>
+        ensures { result ≡ position (λ (x : DaySeries). x.series == series)
+            (take self.now.count self.now.series) }
+    {
+        self.series
+            .iter()
+            .take(self.count)
+            .position(|one| one.series == series)
+    }
 }
 
 impl Sender {
@@ -227,43 +226,20 @@ impl Sender {
     {
         Sender {
             day: Day {
-                date: TradeDate::None,
+                date: None,
                 count: 0,
-                series: [DaySeries {
-                    series: 0,
-                    published: 0,
-                    reserve: 0,
-                    used: 0,
-                }; 8],
+                series: [DaySeries::new(0, 0); 8],
                 used: 0,
             },
-            seat: Seat {
-                places: [Place {
-                    login: false,
-                    next: 0,
-                    piece: 0,
-                }; 8],
-            },
+            seat: Seat::NONE,
         }
     }
 
     // Where a series stands among the open ones: its first place.
-    pub fn find(self, series: u16) -> SeriesPlace
+    pub fn find(self, series: u16) -> Option<usize>
         ensures { Finds self series result }
     {
-        let day = self.day;
-        let mut i: usize = 0;
-        while i < 8 {
-            if i >= day.count {
-                return SeriesPlace::Unknown;
-            }
-            let one = day.series[i];
-            if one.series == series {
-                return SeriesPlace::At(i);
-            }
-            i += 1;
-        }
-        SeriesPlace::Unknown
+        self.day.place(series)
     }
 
     // A refused Opening leaves the end.
@@ -272,7 +248,7 @@ impl Sender {
     {
         OpenStep {
             end: self,
-            answer: Opened::Refused(Refusal::Opening),
+            answer: Err(Refusal::Opening),
         }
     }
 
@@ -281,34 +257,23 @@ impl Sender {
     pub fn open(self, date: u32, series: &[u16], reserves: &[usize], log: &[u8]) -> OpenStep
         ensures { OpensDay self date series.now reserves.now log.now result }
     {
-        let day = self.day;
-        if wrong_series(series) {
-            return self.not_opened();
-        }
-        let present = day.date;
-        if is_up_to(date, present) {
-            return self.not_opened();
-        }
-        if wrong_reserves(series, reserves, log) {
+        if wrong_series(series)
+            || is_up_to(date, self.day.date)
+            || wrong_reserves(series, reserves, log)
+        {
             return self.not_opened();
         }
         OpenStep {
             end: Sender {
                 day: Day {
-                    date: TradeDate::At(date),
+                    date: Some(date),
                     count: series.len(),
                     series: new_places(series, reserves),
                     used: 0,
                 },
-                seat: Seat {
-                    places: [Place {
-                        login: false,
-                        next: 0,
-                        piece: 0,
-                    }; 8],
-                },
+                seat: Seat::NONE,
             },
-            answer: Opened::Done,
+            answer: Ok(()),
         }
     }
 
@@ -318,7 +283,7 @@ impl Sender {
     {
         PublishStep {
             end: self,
-            answer: Published::Refused(refusal),
+            answer: Err(refusal),
         }
     }
 
@@ -333,12 +298,11 @@ impl Sender {
         tail: &[u8],
         log: &mut [u8],
     ) -> PublishStep
-        requires { (content_check tid Down (head.now ++ tail.now) most_content ≡ Passed) × Finds self series (At at) }
+        requires { (content_check tid Down (head.now ++ tail.now) most_content ≡ (Ok tt)) × Finds self series (Some at) }
         ensures { Publishes self series tid (head.now ++ tail.now) log.old result
             log.new }
     {
         let mut day = self.day;
-        let seat = self.seat;
         let one = day.series[at];
         let size = entry_length(head, tail);
         if log.len() < day.used {
@@ -356,18 +320,18 @@ impl Sender {
         let number = one.published + 1;
         put_entry(log, day.used, series, tid, number, head, tail);
         day.series[at] = DaySeries {
-            series: series,
+            series,
             published: number,
             reserve: one.reserve,
             used: one.used + size,
         };
-        day.used = day.used + size;
+        day.used += size;
         PublishStep {
             end: Sender {
-                day: day,
-                seat: seat,
+                day,
+                seat: self.seat,
             },
-            answer: Published::Number(number),
+            answer: Ok(number),
         }
     }
 
@@ -380,24 +344,24 @@ impl Sender {
         tail: &[u8],
         log: &mut [u8],
     ) -> PublishStep
-        requires { content_check tid Down (head.now ++ tail.now) most_content ≡ Passed }
+        requires { content_check tid Down (head.now ++ tail.now) most_content ≡ (Ok tt) }
         ensures { Publishes self series tid (head.now ++ tail.now) log.old result
             log.new }
     {
-        match self.find(series) {
-            SeriesPlace::Unknown => self.not_published(Refusal::UnknownSeries),
-            SeriesPlace::At(at) => self.publish_at(at, series, tid, head, tail, log),
-        }
+        let Some(at) = self.find(series) else {
+            return self.not_published(Refusal::UnknownSeries);
+        };
+        self.publish_at(at, series, tid, head, tail, log)
     }
 
     // Publish: series, TID and content; 7 to 10, 13, 20, 18 and 21. It writes the message's entry into the log.
     pub fn publish(self, series: u16, tid: u32, content: &[u8], log: &mut [u8]) -> PublishStep
         ensures { Publishes self series tid content.now log.old result log.new }
     {
-        match check_content(tid, Direction::Down, content, Sender::MOST_CONTENT) {
-            Checked::Refused(r) => self.not_published(r),
-            Checked::Passed => self.publish_passed(series, tid, &content[..0], content, log),
+        if let Err(r) = check_content(tid, Direction::Down, content, Sender::MOST_CONTENT) {
+            return self.not_published(r);
         }
+        self.publish_passed(series, tid, &content[..0], content, log)
     }
 
     // Publish of a content that lies in two parts, one behind the other.
@@ -412,10 +376,10 @@ impl Sender {
         ensures { Publishes self series tid (head.now ++ tail.now) log.old result
             log.new }
     {
-        match check_parts(tid, Direction::Down, head, tail, Sender::MOST_CONTENT) {
-            Checked::Refused(r) => self.not_published(r),
-            Checked::Passed => self.publish_passed(series, tid, head, tail, log),
+        if let Err(r) = check_parts(tid, Direction::Down, head, tail, Sender::MOST_CONTENT) {
+            return self.not_published(r);
         }
+        self.publish_passed(series, tid, head, tail, log)
     }
 
     // The series at a place, logged in with a number next, of which so many packets were written one by one.
@@ -423,16 +387,15 @@ impl Sender {
         requires { i < 8 }
         ensures { result ≡ placed_at self i next piece }
     {
-        let day = self.day;
         let mut seat = self.seat;
         seat.places[i] = Place {
             login: true,
-            next: next,
-            piece: piece,
+            next,
+            piece,
         };
         Sender {
-            day: day,
-            seat: seat,
+            day: self.day,
+            seat,
         }
     }
 
@@ -444,81 +407,64 @@ impl Sender {
         if not_one_message(packet) {
             return LoginStep {
                 end: self,
-                answer: LoggedIn::Refused(Refusal::NotOnePacket),
+                answer: Err(Refusal::NotOnePacket),
             };
         }
         let d = read_dated(packet);
-        let read = d.packet;
-        let date = d.date;
-        match read {
+        match d.packet {
             Packet::Message {
                 header,
-                extension: _,
                 content: asked,
+                ..
             } => {
                 let at = asked.start;
-                let n = asked.len;
-                log_in(
-                    self,
-                    series,
-                    header,
-                    date,
-                    &packet[at..at + n],
-                    content,
-                    out,
-                )
+                let asked = &packet[at..at + asked.len];
+                log_in(self, series, header, d.date, asked, content, out)
             }
             Packet::Refused(r) => LoginStep {
                 end: self,
-                answer: LoggedIn::Refused(r),
+                answer: Err(r),
             },
             _ => LoginStep {
                 end: self,
-                answer: LoggedIn::Refused(Refusal::NotOnePacket),
+                answer: Err(Refusal::NotOnePacket),
             },
         }
     }
 
     // What both forms of Send find out in an open series before they write: 14, none left, 20, or the entry of the message
     // that is next.
-    fn next_at(self, i: usize, series: u16, log: &[u8]) -> NextMessage
-        requires { Finds self series (At i) }
+    fn next_at(self, i: usize, series: u16, log: &[u8]) -> Result<Option<NextMessage>, Refusal>
+        requires { Finds self series (Some i) }
         ensures { FindsNext self series log.now result }
     {
-        let day = self.day;
-        let seat = self.seat;
-        let place = seat.places[i];
-        let one = day.series[i];
-        if place.login {
-            if (one.published as u64) < place.next {
-                return NextMessage::Drained;
-            }
-            let number = (place.next % 4294967296) as u32;
-            match find_entry(self, log, series, number) {
-                EntryPlace::Damaged => {
-                    return NextMessage::Refused(Refusal::DamagedLog);
-                }
-                EntryPlace::At { start, size } => {
-                    return NextMessage::Entry {
-                        place: i,
-                        number: number,
-                        start: start,
-                        size: size,
-                    };
-                }
-            }
+        let place = self.seat.places[i];
+        if !place.login {
+            return Err(Refusal::NotLoggedIn);
         }
-        NextMessage::Refused(Refusal::NotLoggedIn)
+        if (self.day.series[i].published as u64) < place.next {
+            return Ok(None);
+        }
+        let number = (place.next % 4294967296) as u32;
+        match find_entry(self, log, series, number) {
+            None => Err(Refusal::DamagedLog),
+            Some(EntryPlace { start, size }) => Ok(Some(NextMessage {
+                place: i,
+                number,
+                start,
+                size,
+            })),
+        }
     }
 
     // The same in any series: 13 first.
-    fn find_next(self, series: u16, log: &[u8]) -> NextMessage
+    fn find_next(self, series: u16, log: &[u8]) -> Result<Option<NextMessage>, Refusal>
         ensures { FindsNext self series log.now result }
     {
-        match self.find(series) {
-            SeriesPlace::Unknown => NextMessage::Refused(Refusal::UnknownSeries),
-            SeriesPlace::At(i) => self.next_at(i, series, log),
-        }
+        let Some(i) = self.find(series) else {
+            return Err(Refusal::UnknownSeries);
+        };
+        self.next_at(i, series, log)
     }
 
     // What all packets of an entry bear; each bears its place too (02, No. 10).
@@ -526,13 +472,11 @@ impl Sender {
         requires { 16 ≤ length x.now }
         ensures { result ≡ headed self series number x.now }
     {
-        let day = self.day;
-        let date = day.date;
         Message {
-            date: date,
+            date: self.day.date,
             tid: be32(x, 4),
-            series: series,
-            number: number,
+            series,
+            number,
             counted: true,
         }
     }
@@ -544,21 +488,15 @@ impl Sender {
             out.new }
     {
         let m = self.message_of(series, number, x);
-        match write_chain(m, &x[16..], out) {
-            Written::Bytes(n) => {
-                let next = (number as u64) + 1;
-                SendStep {
-                    end: self.with_place(i, next, 0),
-                    answer: Sent::Wrote {
-                        number: number,
-                        len: n,
-                    },
-                }
-            }
-            _ => SendStep {
+        let Ok(len) = write_chain(m, &x[16..], out) else {
+            return SendStep {
                 end: self,
-                answer: Sent::Refused(Refusal::TooSmall),
-            },
+                answer: Err(Refusal::TooSmall),
+            };
+        };
+        SendStep {
+            end: self.with_place(i, (number as u64) + 1, 0),
+            answer: Ok(Some(Sent { number, len })),
         }
     }
 
@@ -567,20 +505,18 @@ impl Sender {
         ensures { Sends self series log.now out.old result out.new }
     {
         match self.find_next(series, log) {
-            NextMessage::Drained => SendStep {
+            Ok(None) => SendStep {
                 end: self,
-                answer: Sent::Drained,
+                answer: Ok(None),
             },
-            NextMessage::Refused(r) => SendStep {
+            Err(r) => SendStep {
                 end: self,
-                answer: Sent::Refused(r),
+                answer: Err(r),
             },
-            NextMessage::Entry {
-                place,
-                number,
-                start,
-                size,
-            } => self.send_entry(place, series, number, &log[start..start + size], out),
+            Ok(Some(next)) => {
+                let end = next.start + next.size;
+                self.send_entry(next.place, series, next.number, &log[next.start..end], out)
+            }
         }
     }
 
@@ -609,26 +545,20 @@ impl Sender {
         ensures { Leaves (send_packet_entry self series out.old (some x.now)) result.end
             result.answer out.new }
     {
-        let seat = self.seat;
-        let place = seat.places[i];
-        let piece = place.piece;
+        let piece = self.seat.places[i].piece;
         let m = self.message_of(series, number, x);
         match write_packet(m, &x[16..], piece, out) {
-            PacketWritten::Bytes { len, last } => SendPacketStep {
+            Ok(Some(PacketWritten { len, last })) => SendPacketStep {
                 end: self.after_packet(i, number, piece, last),
-                answer: SentPacket::Wrote {
-                    number: number,
-                    len: len,
-                    last: last,
-                },
+                answer: Ok(Some(SentPacket { number, len, last })),
             },
-            PacketWritten::NoPacket => SendPacketStep {
+            Ok(None) => SendPacketStep {
                 end: self,
-                answer: SentPacket::Refused(Refusal::DamagedLog),
+                answer: Err(Refusal::DamagedLog),
             },
-            PacketWritten::Refused(_) => SendPacketStep {
+            Err(_) => SendPacketStep {
                 end: self,
-                answer: SentPacket::Refused(Refusal::TooSmall),
+                answer: Err(Refusal::TooSmall),
             },
         }
     }
@@ -638,20 +568,18 @@ impl Sender {
         ensures { SendsPacket self series log.now out.old result out.new }
     {
         match self.find_next(series, log) {
-            NextMessage::Drained => SendPacketStep {
+            Ok(None) => SendPacketStep {
                 end: self,
-                answer: SentPacket::Drained,
+                answer: Ok(None),
             },
-            NextMessage::Refused(r) => SendPacketStep {
+            Err(r) => SendPacketStep {
                 end: self,
-                answer: SentPacket::Refused(r),
+                answer: Err(r),
             },
-            NextMessage::Entry {
-                place,
-                number,
-                start,
-                size,
-            } => self.send_piece(place, series, number, &log[start..start + size], out),
+            Ok(Some(next)) => {
+                let end = next.start + next.size;
+                self.send_piece(next.place, series, next.number, &log[next.start..end], out)
+            }
         }
     }
 }

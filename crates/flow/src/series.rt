@@ -1,24 +1,15 @@
 // Series in a list: where one stands, and the opening's rule (01, row 11).
-ghost use Rattle.std.specs.Prelude.{◌≡◌, drop};
-ghost use Rattle.flow.specs.Ends.{member, wrong_series};
+ghost use Rattle.std.specs.Prelude.{◌≡◌, not};
+ghost use Rattle.flow.specs.Ends.{differing, wrong_series};
 
-// Where a series stands among the open ones.
-#[derive(Clone, Copy)]
-pub enum SeriesPlace {
-    Unknown,
-    At(usize),
-}
-
-// A series stands in a list, from a place on.
-fn stands_from(series: &[u16], from: usize, one: u16) -> bool
-    ensures { result ≡ member one (drop from series.now) }
+// A series stands twice in a list.
+fn stands_twice(series: &[u16]) -> bool
+    ensures { result ≡ not (differing series.now) }
 {
-    let mut i: usize = from;
-    while i < series.len() {
-        if series[i] == one {
+    for (i, one) in series.iter().enumerate() {
+        if series[i + 1..].contains(one) {
             return true;
         }
-        i += 1;
     }
     false
 }
@@ -27,21 +18,5 @@ fn stands_from(series: &[u16], from: usize, one: u16) -> bool
 pub(crate) fn wrong_series(series: &[u16]) -> bool
     ensures { result ≡ wrong_series series.now }
 {
-    if series.len() == 0 {
-        return true;
-    }
-    if series.len() > 8 {
-        return true;
-    }
-    let mut i: usize = 0;
-    while i < series.len() {
-        if series[i] == 0 {
-            return true;
-        }
-        if stands_from(series, i + 1, series[i]) {
-            return true;
-        }
-        i += 1;
-    }
-    false
+    series.is_empty() || series.len() > 8 || series.contains(&0) || stands_twice(series)
 }

@@ -9,13 +9,14 @@ ghost use Rattle.flow.specs.Several.{record_missing, publishing, rest_of};
 ghost use Rattle.flow.specs.SeveralHelpers.{turn_stop, LiesIn, AnswerIn, PublishesRecord};
 
 use crate::receiver::{Origin, Received, Receiver};
-use crate::sender::{PublishStep, Published, Sender};
+use crate::sender::{PublishStep, Sender};
 use ftd::bytes::{be16, be32, size32};
 use ftd::packet::{Span, missing, said_length};
 use ftd::refusal::Refusal;
 
 // What a bufferful of packets comes to: all taken; so many bytes are missing of the rest; a message is handed on, whose
 // content lies in the bytes of this call or in the reassembly buffer; or a packet is refused.
+// Stays: four outcomes that callers tell apart, as specs/Several.antt names them; no nested Result is plainer.
 #[derive(Clone, Copy)]
 pub enum ReceivedSeveral {
     End,
@@ -31,6 +32,7 @@ pub enum ReceivedSeveral {
 
 // What a bufferful of records comes to: all are in; so many bytes are missing of the rest; or a record is refused, and
 // those before it are in.
+// Stays: as above.
 #[derive(Clone, Copy)]
 pub enum PublishedSeveral {
     End,
@@ -54,14 +56,8 @@ pub struct PublishSeveralStep {
     pub taken: usize,
 }
 
-// Behind a packet the call goes on, or stops with its answer.
-#[derive(Clone, Copy)]
-pub enum ReceiveTurn {
-    On,
-    Stop(ReceivedSeveral),
-}
-
 // How many bytes the packet at a place takes; 0 where none stands there whole.
+// Stays: 0, not None, as with an entry of the log.
 pub fn packet_size(s: &[u8], at: usize) -> usize
     requires { at ≤ length s.now }
     ensures { (result ≡ front packet_form (drop at s.now)) × (result ≤ length s.now - at) }
@@ -77,11 +73,10 @@ pub fn packet_size(s: &[u8], at: usize) -> usize
 pub fn packets_rest(p: &[u8]) -> ReceivedSeveral
     ensures { result ≡ rest_of receiving p.now }
 {
-    if p.len() == 0 {
+    if p.is_empty() {
         return ReceivedSeveral::End;
     }
-    let m = missing(p);
-    ReceivedSeveral::Short(m)
+    ReceivedSeveral::Short(missing(p))
 }
 
 // A message's content, which lies in the packet of n bytes at a place or in the reassembly buffer, as a place in the
@@ -100,30 +95,29 @@ fn placed(at: usize, n: usize, origin: Origin, content: Span) -> Span
 }
 
 // What Receive answered to the packet of n bytes at a place: the call stops at a message or a refusal.
-pub fn receive_turn(at: usize, n: usize, answer: Received) -> ReceiveTurn
+pub fn receive_turn(at: usize, n: usize, answer: Received) -> Option<ReceivedSeveral>
     requires { AnswerIn n answer × (at + n ≤ 18446744073709551615) }
     ensures { turn_stop result ≡ received_stops at answer }
 {
     match answer {
-        Received::Idle => ReceiveTurn::On,
-        Received::Duplicate(_) => ReceiveTurn::On,
-        Received::Partial(_) => ReceiveTurn::On,
+        Received::Idle | Received::Duplicate(_) | Received::Partial(_) => None,
         Received::Complete {
             last,
             tid,
             origin,
             content,
-        } => ReceiveTurn::Stop(ReceivedSeveral::Complete {
-            last: last,
-            tid: tid,
-            origin: origin,
+        } => Some(ReceivedSeveral::Complete {
+            last,
+            tid,
+            origin,
             content: placed(at, n, origin, content),
         }),
-        Received::Refused(r) => ReceiveTurn::Stop(ReceivedSeveral::Refused(r)),
+        Received::Refused(r) => Some(ReceivedSeveral::Refused(r)),
     }
 }
 
 // How many bytes the record at a place takes; 0 where none stands there whole.
+// Stays: 0, not None, as with an entry of the log.
 pub fn record_size(s: &[u8], at: usize) -> usize
     requires { at ≤ length s.now }
     ensures { (result ≡ front record_form (drop at s.now)) × (result ≤ length s.now - at) }
@@ -155,7 +149,7 @@ pub fn records_rest(x: &[u8]) -> PublishedSeveral
     requires { front record_form x.now ≡ 0 }
     ensures { result ≡ rest_of publishing x.now }
 {
-    if x.len() == 0 {
+    if x.is_empty() {
         return PublishedSeveral::End;
     }
     PublishedSeveral::Short(record_missing(x))
@@ -180,26 +174,20 @@ impl Receiver {
             let n = packet_size(packets, at);
             if n == 0 {
                 return ReceiveSeveralStep {
-                    end: end,
+                    end,
                     answer: packets_rest(&packets[at..]),
                     taken: at,
                 };
             }
             let past = at + n;
             let step = end.receive(&packets[at..past], buffer);
-            let next = step.end;
-            let answer = step.answer;
-            end = next;
-            let turn = receive_turn(at, n, answer);
-            match turn {
-                ReceiveTurn::Stop(a) => {
-                    return ReceiveSeveralStep {
-                        end: end,
-                        answer: a,
-                        taken: past,
-                    };
-                }
-                ReceiveTurn::On => {}
+            end = step.end;
+            if let Some(answer) = receive_turn(at, n, step.answer) {
+                return ReceiveSeveralStep {
+                    end,
+                    answer,
+                    taken: past,
+                };
             }
             at = past;
         }
@@ -217,25 +205,20 @@ impl Sender {
             let n = record_size(records, at);
             if n == 0 {
                 return PublishSeveralStep {
-                    end: end,
+                    end,
                     answer: records_rest(&records[at..]),
                     taken: at,
                 };
             }
             let behind = at + n;
             let step = publish_record(end, &records[at..behind], log);
-            let next = step.end;
-            let answer = step.answer;
-            end = next;
-            match answer {
-                Published::Refused(r) => {
-                    return PublishSeveralStep {
-                        end: end,
-                        answer: PublishedSeveral::Refused(r),
-                        taken: behind,
-                    };
-                }
-                Published::Number(_) => {}
+            end = step.end;
+            if let Err(r) = step.answer {
+                return PublishSeveralStep {
+                    end,
+                    answer: PublishedSeveral::Refused(r),
+                    taken: behind,
+                };
             }
             at = behind;
         }

@@ -2,6 +2,7 @@ pub mod Tests
 pub mod runs
 pub mod Lists
 pub mod Opened
+pub mod Options
 pub mod Bench
 pub mod Follow
 pub mod Return

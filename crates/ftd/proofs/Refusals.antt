@@ -11,10 +11,9 @@ use Rattle.ftd.specs.Chain.{packets_of, packet_answer, packet_output, output_lef
 use Rattle.ftd.specs.Refusals.{is_written, is_packet_written, Leaves, RefusalsLeave}
 use Rattle.ftd.specs.declared.refusal.Refusal.TheVariants.{TooSmall}
 use Rattle.ftd.specs.declared.chain.Message.{Message}
-use Rattle.ftd.specs.declared.chain.PacketWritten.{PacketWritten}
-use Rattle.ftd.specs.declared.chain.PacketWritten.TheVariants.{NoPacket}
-use Rattle.ftd.specs.declared.chain.PacketWritten.TheVariants.{Bytes as PacketBytes, Refused as NotWritten}
-use Rattle.ftd.specs.declared.write.Written.TheVariants.{Bytes, Refused}
+use Rattle.std.specs.Prelude.{Some, None, Ok, Err}
+use Rattle.ftd.specs.Types.{PacketAnswer}
+use Rattle.ftd.specs.declared.write.WriteError.TheVariants.{Refused}
 
 not-true : {A : Type 0} → true ≡ false → A
 not-true q = let z : ◌≡◌ {A = ℕ} 0 1 = cc in absurd (omega arith)
@@ -23,7 +22,7 @@ leaves : (v : Verdict) (bytes : List ℕ) → Leaves v bytes
 unfolding written_answer written_output
 leaves fine bytes out q = go (ltb (length out) (length bytes)) q
   where
-    go : (b : Bool) → is_written (cond b (Refused TooSmall) (Bytes (length bytes))) ≡ false
+    go : (b : Bool) → is_written (cond b (Err (Refused TooSmall)) (Ok (length bytes))) ≡ false
         → cond b out (bytes ++ drop (length bytes) out) ≡ out
     go true q = refl
     go false q = not-true q
@@ -35,10 +34,10 @@ leaves-packet : (m : Message) (content : List ℕ) (i : ℕ) (out : List ℕ)
 unfolding packet_output
 leaves-packet m content i out = go (packet_answer m content i out)
   where
-    go : (a : PacketWritten) → is_packet_written a ≡ false → output_left a (get_or (packets_of m content) i []) out ≡ out
-    go (PacketBytes n last) q = not-true q
-    go NoPacket q = refl
-    go (NotWritten r) q = refl
+    go : (a : PacketAnswer) → is_packet_written a ≡ false → output_left a (get_or (packets_of m content) i []) out ≡ out
+    go (Ok (Some found)) q = not-true q
+    go (Ok None) q = refl
+    go (Err r) q = refl
 
 pub refusals-leave : RefusalsLeave
 refusals-leave =

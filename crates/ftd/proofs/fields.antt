@@ -2,3 +2,4 @@
 pub mod Laws
 pub mod Shape
 pub mod Turns
+pub mod Listed

@@ -5,17 +5,15 @@ use Rattle.ftd.specs.Bytes.{bytes16, bytes32}
 use Rattle.ftd.specs.Refusal.{number_of}
 use Rattle.ftd.specs.Packet.{letter_of, chain_letter, read_of}
 use Rattle.ftd.specs.Chain.{packets_of}
-use Rattle.ftd.specs.declared.tags.TradeDate.TheVariants.{None}
 use Rattle.ftd.specs.Items.{check_of}
 use Rattle.ftd.specs.Places.{item_bytes}
 use Rattle.ftd.specs.Signed.{float_value}
-use Rattle.ftd.specs.declared.items.Checked.{Checked}
-use Rattle.ftd.specs.declared.items.Checked.TheVariants.{Passed, Refused}
-use Rattle.ftd.specs.declared.signed.Signed.{Signed}
-use Rattle.ftd.specs.declared.signed.Signed.TheVariants.{NoValue, Value}
+use Rattle.ftd.specs.Types.{Checked}
 use Rattle.ftd.specs.declared.packet.Packet.{Packet}
 use Rattle.ftd.specs.declared.packet.Packet.TheVariants.{Short, Link, Skipped, Message}
 use Rattle.ftd.specs.declared.packet.Packet.TheVariants.{Refused as RefusedPacket}
+use Rattle.std.specs.Prelude.{Some, None, Ok, Err}
+use Rattle.ftd.specs.Types.{MaybeSigned}
 
 -- ─── Answers in numbers ───
 
@@ -36,14 +34,14 @@ abbrev pub refused_answer : ℕ → List ℕ
 refused_answer n = 4 ∷ n ∷ []
 
 -- Each value of a Number or a Float: its sign, 1 for minus, and its units.
-abbrev pub value_answer : Signed → List ℕ
-value_answer NoValue = []
-value_answer (Value negative units) = cond negative 1 0 ∷ units ∷ []
+abbrev pub value_answer : MaybeSigned → List ℕ
+value_answer None = []
+value_answer (Some found) = cond found.negative 1 0 ∷ found.units ∷ []
 
 -- Each answer of a check of items: refused, or what is read then.
 abbrev pub check_answer : Checked → List ℕ → List ℕ
-check_answer Passed value = value
-check_answer (Refused r) value = refused_answer (number_of r)
+check_answer (Ok tt) value = value
+check_answer (Err r) value = refused_answer (number_of r)
 
 -- ─── The table ───
 

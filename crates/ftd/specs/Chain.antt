@@ -7,17 +7,14 @@ use Rattle.ftd.specs.Bytes.{joined}
 use Rattle.ftd.specs.Fields.{fields_of, shaped, most_content, packet_content}
 use Rattle.ftd.specs.Write.{message_bytes, Verdict, fine, refuse}
 use Rattle.ftd.specs.Tags.{Tag, extension_bytes, tags_for, place_tag}
-use Rattle.ftd.specs.declared.tags.TradeDate.TheVariants.{At}
 use Rattle.ftd.specs.declared.refusal.Refusal.TheVariants.{FieldRun, TooSmall}
 use Rattle.ftd.specs.declared.packet.Chain.{Chain}
 use Rattle.ftd.specs.declared.packet.Chain.TheVariants.{Single, First, Middle, Last}
 use Rattle.ftd.specs.declared.packet.Header.{Header}
 use Rattle.ftd.specs.declared.chain.Message.{Message}
-use Rattle.ftd.specs.declared.chain.ChainSize.{ChainSize}
-use Rattle.ftd.specs.declared.chain.ChainSize.TheVariants.{Takes, Refused}
-use Rattle.ftd.specs.declared.chain.PacketWritten.{PacketWritten}
-use Rattle.ftd.specs.declared.chain.PacketWritten.TheVariants.{Bytes, NoPacket}
-use Rattle.ftd.specs.declared.chain.PacketWritten.TheVariants.{Refused as NotWritten}
+use Rattle.ftd.specs.Types.{ChainSize}
+use Rattle.std.specs.Prelude.{Some, None, Ok, Err}
+use Rattle.ftd.specs.Types.{PacketAnswer, some_packet}
 
 -- ─── The cut ───
 
@@ -86,21 +83,21 @@ chain_verdict content = cond (shaped content most_content) fine (refuse FieldRun
 -- ─── One packet of a message, by its place ───
 
 -- The message has one at that place; 18 counts that packet alone. Whether it is the last.
-unfoldable pub packet_answer : Message → List ℕ → ℕ → List ℕ → PacketWritten
+unfoldable pub packet_answer : Message → List ℕ → ℕ → List ℕ → PacketAnswer
 packet_answer m content i out =
     let packets = packets_of m content in
     let size = length (get_or packets i []) in
     cond (shaped content most_content)
     (cond (ltb i (length packets))
-    (cond (ltb (length out) size) (NotWritten TooSmall) (Bytes size (eqb (i + 1) (length packets))))
-    NoPacket)
-    (NotWritten FieldRun)
+    (cond (ltb (length out) size) (Err TooSmall) (some_packet size (eqb (i + 1) (length packets))))
+    (Ok None))
+    (Err FieldRun)
 
 -- Written, the packet stands at the output's start, and what was behind it stays; otherwise the output is as it was.
-abbrev pub output_left : PacketWritten → List ℕ → List ℕ → List ℕ
-output_left (Bytes size last) packet out = packet ++ drop size out
-output_left NoPacket packet out = out
-output_left (NotWritten r) packet out = out
+abbrev pub output_left : PacketAnswer → List ℕ → List ℕ → List ℕ
+output_left (Ok (Some found)) packet out = packet ++ drop found.len out
+output_left (Ok None) packet out = out
+output_left (Err r) packet out = out
 
 unfoldable pub packet_output : Message → List ℕ → ℕ → List ℕ → List ℕ
 packet_output m content i out = output_left (packet_answer m content i out) (get_or (packets_of m content) i []) out
@@ -111,8 +108,8 @@ packet_output m content i out = output_left (packet_answer m content i out) (get
 unfoldable pub size_answer : Message → List ℕ → ChainSize
 size_answer m content =
     cond (shaped content most_content)
-    (Takes (record { packets = length (packets_of m content); bytes = length (joined (packets_of m content)) }))
-    (Refused FieldRun)
+    (Ok (record { packets = length (packets_of m content); bytes = length (joined (packets_of m content)) }))
+    (Err FieldRun)
 
 -- ─── The most that a message takes (02, No. 5) ───
 
@@ -123,7 +120,7 @@ overhead_of m = 4 + length (extension_bytes (tags_at m 0)) + 16
 
 -- With a trade date, and counted; every trade date takes as many.
 unfoldable pub overhead : ℕ
-overhead = overhead_of (record { date = At 0; tid = 0; series = 0; number = 0; counted = true })
+overhead = overhead_of (record { date = Some 0; tid = 0; series = 0; number = 0; counted = true })
 
 -- Packets of a message (`ChainLaws.few`); bytes of one of them, and of all.
 abbrev pub most_packets : ℕ

@@ -1,11 +1,12 @@
 -- The content of a message (4.2; 01, "Message packet"): a run of data fields, each FID 4 bytes, length 2, that many
 -- bytes.
+pub mod Helpers
 pub mod Laws
 use Rattle.std.specs.Prelude.{ℕ, zero, suc, ◌+◌, ◌-◌, ◌≤◌, List, [], ◌∷◌, ◌++◌, map, Bool, ◌&&◌, true, cond, length, drop, eqb, leb}
 use Rattle.ftd.specs.Bytes.{be16_of, be32_of, joined, bytes16, bytes32}
 use Rattle.ftd.specs.Runs.{Form, Run, run_of, ended}
-use Rattle.ftd.specs.declared.fields.FieldPlace.{FieldPlace}
-use Rattle.ftd.specs.declared.fields.FieldPlace.TheVariants.{NoField, Field}
+use Rattle.std.specs.Prelude.{Some, None}
+use Rattle.ftd.specs.Types.{MaybeField, some_field}
 
 -- ─── Limits (01, "Message packet") ───
 
@@ -45,21 +46,21 @@ exactly r count = ended r && eqb (length r.entries) count
 unfoldable pub exact_run : List ℕ → ℕ → Bool
 exact_run content count = exactly (run_of field content) count
 
--- ─── Field i, counted from 0 ───
+-- ─── some_field i, counted from 0 ───
 
 -- In a list of fields that starts at `at`: FID, and place and length of the bytes without FID and length.
-abbrev pub field_in : ℕ → List (List ℕ) → ℕ → FieldPlace
-field_in at [] i = NoField
-field_in at (f ∷ fs) zero = Field (fid_of f) (at + 6) (length f - 6)
+abbrev pub field_in : ℕ → List (List ℕ) → ℕ → MaybeField
+field_in at [] i = None
+field_in at (f ∷ fs) zero = some_field (fid_of f) (at + 6) (length f - 6)
 field_in at (f ∷ fs) (suc i) = field_in (at + length f) fs i
 
-unfoldable pub field_place_of : List ℕ → ℕ → FieldPlace
+unfoldable pub field_place_of : List ℕ → ℕ → MaybeField
 field_place_of content i = field_in 0 (fields_of content) i
 
 -- The bytes lie inside the content.
-abbrev pub FieldInside : List ℕ → FieldPlace → Type 0
-FieldInside content NoField = Unit
-FieldInside content (Field fid start len) = start + len ≤ length content
+abbrev pub FieldInside : List ℕ → MaybeField → Type 0
+FieldInside content None = Unit
+FieldInside content (Some found) = found.start + found.len ≤ length content
 
 -- ─── Written ───
 
@@ -109,10 +110,10 @@ unfoldable pub count_of : ℕ → List ℕ → ℕ
 count_of fid content = counted fid (fields_of content) 0
 
 -- The first field with a FID, in a list of fields that starts at `at`.
-abbrev pub first_in : ℕ → List (List ℕ) → ℕ → FieldPlace
-first_in at [] fid = NoField
+abbrev pub first_in : ℕ → List (List ℕ) → ℕ → MaybeField
+first_in at [] fid = None
 first_in at (f ∷ fs) fid =
-    cond (eqb (fid_of f) fid) (Field (fid_of f) (at + 6) (length f - 6)) (first_in (at + length f) fs fid)
+    cond (eqb (fid_of f) fid) (some_field (fid_of f) (at + 6) (length f - 6)) (first_in (at + length f) fs fid)
 
-unfoldable pub first_of : List ℕ → ℕ → FieldPlace
+unfoldable pub first_of : List ℕ → ℕ → MaybeField
 first_of content fid = first_in 0 (fields_of content) fid

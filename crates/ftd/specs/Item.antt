@@ -14,19 +14,15 @@ use Rattle.ftd.specs.Texts.{text_value, text_bytes, text_fits}
 use Rattle.ftd.specs.Dates.{date_value, date_bytes, date_fits}
 use Rattle.ftd.specs.Signed.Write.{number_bytes, number_fits, float_bytes, float_fits}
 use Rattle.ftd.specs.Places.{item_of}
-use Rattle.ftd.specs.declared.places.ItemPlace.{ItemPlace}
-use Rattle.ftd.specs.declared.places.ItemPlace.TheVariants.{NoItem as NoPlace, Item as Place}
 use Rattle.ftd.specs.declared.item.FieldItem.{FieldItem}
 use Rattle.ftd.specs.declared.item.FieldItem.TheVariants.{NoItem, NoValue, Char, Word, Int, Text, Number, Float}
 use Rattle.ftd.specs.declared.item.FieldItem.TheVariants.{Date}
-use Rattle.ftd.specs.declared.whole.Whole.{Whole}
-use Rattle.ftd.specs.declared.whole.Whole.TheVariants.{NoValue as NoWhole, Value as WholeValue}
-use Rattle.ftd.specs.declared.signed.Signed.{Signed}
-use Rattle.ftd.specs.declared.signed.Signed.TheVariants.{NoValue as NoSigned, Value as SignedValue}
-use Rattle.ftd.specs.declared.texts.Text.{Text as StringValue}
-use Rattle.ftd.specs.declared.texts.Text.TheVariants.{NoValue as NoText, Value as TextValue}
+use Rattle.ftd.specs.Types.{Whole}
+use Rattle.ftd.specs.Types.{Text as StringValue}
 use Rattle.ftd.specs.declared.dates.Date.{Date as DateValue}
 use Rattle.ftd.specs.declared.dates.Date.TheVariants.{NoDate, Unused, Day}
+use Rattle.std.specs.Prelude.{Some, None}
+use Rattle.ftd.specs.Types.{MaybeItem, some_item, MaybeSigned}
 
 -- What an item's bytes say, by its type. A text is without trailing spaces; of a Number or Float, minus and units.
 pub data ItemValue : Type 0 where
@@ -41,12 +37,12 @@ pub data ItemValue : Type 0 where
 -- ─── Read ───
 
 abbrev pub whole_as : (ℕ → ItemValue) → Whole → Option ItemValue
-whole_as make NoWhole = none
-whole_as make (WholeValue x) = some (make x)
+whole_as make None = none
+whole_as make (Some x) = some (make x)
 
-abbrev pub signed_as : (Bool → ℕ → ItemValue) → Signed → Option ItemValue
-signed_as make NoSigned = none
-signed_as make (SignedValue negative units) = some (make negative units)
+abbrev pub signed_as : (Bool → ℕ → ItemValue) → MaybeSigned → Option ItemValue
+signed_as make None = none
+signed_as make (Some found) = some (make found.negative found.units)
 
 abbrev pub date_as : DateValue → Option ItemValue
 date_as NoDate = none
@@ -54,8 +50,8 @@ date_as Unused = some (date Unused)
 date_as (Day year month day) = some (date (Day year month day))
 
 abbrev pub text_as : List ℕ → StringValue → Option ItemValue
-text_as l NoText = none
-text_as l (TextValue len) = some (text (take len l))
+text_as l None = none
+text_as l (Some len) = some (text (take len l))
 
 -- By kind and decimals.
 unfoldable pub typed_value : ℕ → ℕ → List ℕ → Option ItemValue
@@ -108,11 +104,11 @@ given_at start (some (float negative units)) = Float negative units
 given_at start (some (date d)) = Date d
 
 -- The item at a place; none where there is no such item, or it is not there whole.
-abbrev pub value_at : ℕ → List ℕ → ItemPlace → FieldItem
-value_at fid bytes NoPlace = NoItem
-value_at fid bytes (Place kind scale start width) =
-    cond (leb (start + width) (length bytes))
-    (given_at start (value_of (row fid kind width scale) (part bytes start width))) NoItem
+abbrev pub value_at : ℕ → List ℕ → MaybeItem → FieldItem
+value_at fid bytes None = NoItem
+value_at fid bytes (Some found) =
+    cond (leb (found.start + found.width) (length bytes))
+    (given_at found.start (value_of (row fid found.kind found.width found.scale) (part bytes found.start found.width))) NoItem
 
 -- Item i of a field, counted from 0, in the field's bytes (without FID and length).
 unfoldable pub item_value_of : ℕ → ℕ → List ℕ → FieldItem
@@ -131,15 +127,15 @@ taken_as (Float negative units) t = some (float negative units)
 taken_as (Date d) t = some (date d)
 
 -- Whether it fits an item's place, and its bytes there. Nothing fits where there is no such item, or no value.
-abbrev pub fits_at : ℕ → ItemPlace → Option ItemValue → Bool
-fits_at fid NoPlace o = false
-fits_at fid (Place kind scale start width) none = false
-fits_at fid (Place kind scale start width) (some v) = fits (row fid kind width scale) v
+abbrev pub fits_at : ℕ → MaybeItem → Option ItemValue → Bool
+fits_at fid None o = false
+fits_at fid (Some found) none = false
+fits_at fid (Some found) (some v) = fits (row fid found.kind found.width found.scale) v
 
-abbrev pub bytes_at : ℕ → ItemPlace → Option ItemValue → List ℕ
-bytes_at fid NoPlace o = []
-bytes_at fid (Place kind scale start width) none = []
-bytes_at fid (Place kind scale start width) (some v) = value_bytes (row fid kind width scale) v
+abbrev pub bytes_at : ℕ → MaybeItem → Option ItemValue → List ℕ
+bytes_at fid None o = []
+bytes_at fid (Some found) none = []
+bytes_at fid (Some found) (some v) = value_bytes (row fid found.kind found.width found.scale) v
 
 unfoldable pub item_fits : ℕ → ℕ → FieldItem → List ℕ → Bool
 item_fits fid i v t = fits_at fid (item_of fid i) (taken_as v t)
@@ -164,9 +160,9 @@ pub record RowLaws (r : Row) : Type 0 where
 pub record ItemLaws : Type 0 where
   pub each : (i : ℕ) → i < length table → RowLaws (row_at i)
   -- So it is at the place of each item of a field.
-  pub placed : (fid i kind scale start width : ℕ) → item_of fid i ≡ Place kind scale start width
+  pub placed : (fid i kind scale start width : ℕ) → item_of fid i ≡ some_item kind scale start width
       → RowLaws (row fid kind width scale)
   -- The bytes at the place of a text are its value.
-  pub texts : (fid i kind scale start width : ℕ) → item_of fid i ≡ Place kind scale start width
+  pub texts : (fid i kind scale start width : ℕ) → item_of fid i ≡ some_item kind scale start width
       → (bytes : List ℕ) (at len : ℕ) → item_value_of fid i bytes ≡ Text at len
       → value_of (row fid kind width scale) (part bytes start width) ≡ some (text (part bytes at len))

@@ -4,8 +4,8 @@ use Rattle.ftd.specs.Fields.{fields_of, fid_of, bytes_of}
 use Rattle.ftd.specs.Table.{Row, rows_of, width_of, known}
 use Rattle.ftd.specs.Values.{is_value}
 use Rattle.ftd.specs.declared.refusal.Refusal.TheVariants.{FieldLength, Item}
-use Rattle.ftd.specs.declared.items.Checked.{Checked}
-use Rattle.ftd.specs.declared.items.Checked.TheVariants.{Passed, Refused}
+use Rattle.ftd.specs.Types.{Checked}
+use Rattle.std.specs.Prelude.{Ok, Err}
 
 -- ─── Refusal 8: a known FID, other width ───
 
@@ -32,16 +32,16 @@ items_good (r ∷ rs) l = item_good r l && items_good rs (drop r.width l)
 
 -- Fields in order, items in each, up to the first item that is wrong. An unknown FID has no items, and passes.
 abbrev pub walk_fields : List (List ℕ) → Checked
-walk_fields [] = Passed
-walk_fields (f ∷ fs) = cond (items_good (rows_of (fid_of f)) (bytes_of f)) (walk_fields fs) (Refused Item)
+walk_fields [] = (Ok tt)
+walk_fields (f ∷ fs) = cond (items_good (rows_of (fid_of f)) (bytes_of f)) (walk_fields fs) (Err Item)
 
 unfoldable pub walk_of : List ℕ → Checked
 walk_of content = walk_fields (fields_of content)
 
 -- The same as a test: some item is not a value of its type.
 abbrev pub is_refused : Checked → Bool
-is_refused Passed = false
-is_refused (Refused r) = true
+is_refused (Ok tt) = false
+is_refused (Err r) = true
 
 unfoldable pub wrong_item : List ℕ → Bool
 wrong_item content = is_refused (walk_of content)
@@ -49,4 +49,4 @@ wrong_item content = is_refused (walk_of content)
 -- ─── Both, 8 over all fields first ───
 
 unfoldable pub check_of : List ℕ → Checked
-check_of content = cond (wrong_width content) (Refused FieldLength) (walk_of content)
+check_of content = cond (wrong_width content) (Err FieldLength) (walk_of content)

@@ -9,13 +9,12 @@ use Rattle.ftd.specs.Write.{message_bytes, Verdict, fine, refuse}
 use Rattle.ftd.specs.Tags.{tags_for, extension_bytes}
 use Rattle.ftd.specs.Resume.{resume_bytes}
 use Rattle.ftd.specs.declared.refusal.Refusal.TheVariants.{FieldRun}
-use Rattle.ftd.specs.declared.tags.TradeDate.{TradeDate}
-use Rattle.ftd.specs.declared.tags.PacketPlace.TheVariants.{NoPlace}
+use Rattle.ftd.specs.Types.{TradeDate}
 use Rattle.ftd.specs.declared.packet.Chain.TheVariants.{Single}
 use Rattle.ftd.specs.declared.packet.Header.{Header}
 use Rattle.ftd.specs.declared.packet.Packet.TheVariants.{Message}
-use Rattle.ftd.specs.declared.login.Ending.{Ending}
-use Rattle.ftd.specs.declared.login.Ending.TheVariants.{Nothing, Resume}
+use Rattle.std.specs.Prelude.{Some, None}
+use Rattle.ftd.specs.Types.{MaybeEnding}
 
 -- TID 0x0016.
 abbrev pub login_tid : ℕ
@@ -31,13 +30,13 @@ login_bytes date content = message_bytes (login_header content) (extension_bytes
 -- ─── Written ───
 
 -- What stands behind the content that is given.
-abbrev pub ending_bytes : Ending → List ℕ
-ending_bytes Nothing = []
-ending_bytes (Resume series number) = resume_bytes series number
+abbrev pub ending_bytes : MaybeEnding → List ℕ
+ending_bytes None = []
+ending_bytes (Some found) = resume_bytes found.series found.number
 
 -- 7: the content that is given is not whole fields of at most 4,074, or more than one packet holds with what stands
 -- behind it.
-unfoldable pub login_verdict : List ℕ → Ending → Verdict
+unfoldable pub login_verdict : List ℕ → MaybeEnding → Verdict
 login_verdict content ending = cond (shaped content (packet_content - length (ending_bytes ending))) fine (refuse FieldRun)
 
 -- ─── What holds of it ───
@@ -49,7 +48,7 @@ pub record LoginLaws : Type 0 where
         Message (login_header c) (span 4 (length (extension_bytes (tags_for d))))
         (span (4 + length (extension_bytes (tags_for d)) + 16) (length c));
     date = d;
-    place = NoPlace;
+    place = None;
   }
   pub content-back : (d : TradeDate) (c : List ℕ)
       → part (login_bytes d c) (4 + length (extension_bytes (tags_for d)) + 16) (length c) ≡ c
@@ -57,5 +56,5 @@ pub record LoginLaws : Type 0 where
   pub one-packet : (d : TradeDate) (c : List ℕ) → shaped c packet_content ≡ true
       → (not_one_packet (login_bytes d c) ≡ false) × (no_message_packet (login_bytes d c) ≡ false)
   -- What is written without refusal has shape.
-  pub fine-shaped : (c : List ℕ) (ending : Ending) → login_verdict c ending ≡ fine
+  pub fine-shaped : (c : List ℕ) (ending : MaybeEnding) → login_verdict c ending ≡ fine
       → shaped (c ++ ending_bytes ending) packet_content ≡ true

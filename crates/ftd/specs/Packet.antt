@@ -5,18 +5,14 @@ use Rattle.std.specs.Prelude.{ℕ, ◌+◌, ◌-◌, List, [], Bool, true, false
 use Rattle.ftd.specs.Bytes.{be16_of, be32_of, part}
 use Rattle.ftd.specs.Tags.{good_tags, trade_date_of, packet_place_of}
 use Rattle.ftd.specs.Fields.{exact_run, fields_of, field_place_of}
-use Rattle.ftd.specs.declared.fields.FieldPlace.{FieldPlace}
-use Rattle.ftd.specs.declared.fields.FieldPlace.TheVariants.{NoField, Field}
 use Rattle.ftd.specs.declared.refusal.Refusal.TheVariants.{LongExtension, BrokenTag, BodyLength, Version}
 use Rattle.ftd.specs.declared.refusal.Refusal.TheVariants.{ChainLetter, ContentLength, FieldRun}
 use Rattle.ftd.specs.declared.packet.Span.{Span}
 use Rattle.ftd.specs.declared.packet.Chain.{Chain}
 use Rattle.ftd.specs.declared.packet.Chain.TheVariants.{Single, First, Middle, Last}
 use Rattle.ftd.specs.declared.packet.Header.{Header}
-use Rattle.ftd.specs.declared.tags.TradeDate.{TradeDate}
-use Rattle.ftd.specs.declared.tags.TradeDate.TheVariants.{None}
-use Rattle.ftd.specs.declared.tags.PacketPlace.{PacketPlace}
-use Rattle.ftd.specs.declared.tags.PacketPlace.TheVariants.{NoPlace}
+use Rattle.ftd.specs.Types.{TradeDate}
+use Rattle.ftd.specs.Types.{PacketPlace}
 use Rattle.ftd.specs.declared.packet.Dated.{Dated}
 use Rattle.ftd.specs.declared.packet.Packet.{Packet}
 use Rattle.ftd.specs.declared.packet.Packet.TheVariants.{Short, Link, Skipped, Message, Refused}
@@ -24,6 +20,8 @@ use Rattle.ftd.specs.declared.packet.Verdict.{Verdict}
 use Rattle.ftd.specs.declared.packet.Verdict.TheVariants.{TooFew, LinkPacket, SkippedPacket}
 use Rattle.ftd.specs.declared.packet.Verdict.TheVariants.{MessagePacket, Against}
 use Rattle.ftd.specs.declared.packet.Judged.{Judged}
+use Rattle.std.specs.Prelude.{Some, None}
+use Rattle.ftd.specs.Types.{MaybeField, some_field}
 
 -- ─── Limits (4.1; 01, "Packet") ───
 
@@ -233,7 +231,7 @@ with_tags packet d j =
     record {
       packet = packet;
       date = cond (bears_tags packet) d None;
-      place = cond (bears_tags packet) j NoPlace;
+      place = cond (bears_tags packet) j None;
     }
 
 unfoldable pub dated_of : List ℕ → Dated
@@ -271,7 +269,7 @@ is_short (Skipped kind extension body) = false
 is_short (Message h extension content) = false
 is_short (Refused r) = false
 
--- ─── Field i of a packet ───
+-- ─── some_field i of a packet ───
 
 -- The fields of a message packet, each with FID and length; bytes that are no message packet have none.
 abbrev pub fields_within : List ℕ → Packet → List (List ℕ)
@@ -285,26 +283,26 @@ unfoldable pub message_fields : List ℕ → List (List ℕ)
 message_fields p = fields_within p (read_of p)
 
 -- A place in a part that starts at `base`, as a place in the whole.
-abbrev pub moved_by : ℕ → FieldPlace → FieldPlace
-moved_by base NoField = NoField
-moved_by base (Field fid start len) = Field fid (base + start) len
+abbrev pub moved_by : ℕ → MaybeField → MaybeField
+moved_by base None = None
+moved_by base (Some found) = some_field found.fid (base + found.start) found.len
 
--- Field i, counted from 0: FID, place in the packet and length of its bytes without FID and length; else no field.
-abbrev pub field_within : List ℕ → Packet → ℕ → FieldPlace
-field_within p (Short n) i = NoField
-field_within p (Link kind extension) i = NoField
-field_within p (Skipped kind extension body) i = NoField
+-- some_field i, counted from 0: FID, place in the packet and length of its bytes without FID and length; else no field.
+abbrev pub field_within : List ℕ → Packet → ℕ → MaybeField
+field_within p (Short n) i = None
+field_within p (Link kind extension) i = None
+field_within p (Skipped kind extension body) i = None
 field_within p (Message h extension content) i =
     moved_by content.start (field_place_of (part p content.start content.len) i)
-field_within p (Refused r) i = NoField
+field_within p (Refused r) i = None
 
-unfoldable pub field_of : List ℕ → ℕ → FieldPlace
+unfoldable pub field_of : List ℕ → ℕ → MaybeField
 field_of p i = field_within p (read_of p) i
 
 -- The bytes of field i: that part of the packet.
-abbrev pub part_at : List ℕ → FieldPlace → List ℕ
-part_at p NoField = []
-part_at p (Field fid start len) = part p start len
+abbrev pub part_at : List ℕ → MaybeField → List ℕ
+part_at p None = []
+part_at p (Some found) = part p found.start found.len
 
 unfoldable pub field_bytes : List ℕ → ℕ → List ℕ
 field_bytes p i = part_at p (field_of p i)

@@ -7,10 +7,10 @@ use Rattle.ftd.specs.Fields.{field, fields_of, shaped, one_if, count_of, first_o
 use Rattle.ftd.specs.Composition.{composed}
 use Rattle.ftd.specs.Items.{wrong_width, wrong_item}
 use Rattle.ftd.specs.declared.composition.Direction.{Direction}
-use Rattle.ftd.specs.declared.fields.FieldPlace.{FieldPlace}
-use Rattle.ftd.specs.declared.fields.FieldPlace.TheVariants.{NoField, Field}
 use Rattle.ftd.specs.declared.resume.Resume.{Resume}
 use Rattle.ftd.specs.declared.resume.Resume.TheVariants.{Absent, Next, Misshapen, Several}
+use Rattle.std.specs.Prelude.{Some, None}
+use Rattle.ftd.specs.Types.{MaybeField}
 
 abbrev pub resume_fid : ℕ
 resume_fid = 0x0004
@@ -18,10 +18,10 @@ resume_fid = 0x0004
 -- ─── Found ───
 
 -- Series 2 bytes, number 4.
-abbrev pub resume_at : List ℕ → FieldPlace → Resume
-resume_at content NoField = Absent
-resume_at content (Field fid start len) =
-    cond (eqb len 6) (Next (be16_of content start) (be32_of content (start + 2))) Misshapen
+abbrev pub resume_at : List ℕ → MaybeField → Resume
+resume_at content None = Absent
+resume_at content (Some found) =
+    cond (eqb found.len 6) (Next (be16_of content found.start) (be32_of content (found.start + 2))) Misshapen
 
 unfoldable pub resume_of : List ℕ → Resume
 resume_of content = cond (ltb 1 (count_of resume_fid content)) Several (resume_at content (first_of content resume_fid))

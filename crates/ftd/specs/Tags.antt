@@ -4,14 +4,10 @@ pub mod Helpers
 use Rattle.std.specs.Prelude.{ℕ, ◌+◌, ◌-◌, ◌≤◌, List, [], ◌∷◌, map, Bool, true, false, cond, ◌&&◌, length, get_or, leb, eqb}
 use Rattle.ftd.specs.Bytes.{be16_of, be32_of, bytes16, bytes32, joined}
 use Rattle.ftd.specs.Runs.{Form, Run, run_of, ended}
-use Rattle.ftd.specs.declared.tags.TagPlace.{TagPlace}
-use Rattle.ftd.specs.declared.tags.TagPlace.TheVariants.{NoTag, Data}
-use Rattle.ftd.specs.declared.tags.TagRun.{TagRun}
-use Rattle.ftd.specs.declared.tags.TagRun.TheVariants.{Broken, Good}
-use Rattle.ftd.specs.declared.tags.TradeDate.{TradeDate}
-use Rattle.ftd.specs.declared.tags.TradeDate.TheVariants.{None, At}
-use Rattle.ftd.specs.declared.tags.PacketPlace.{PacketPlace}
-use Rattle.ftd.specs.declared.tags.PacketPlace.TheVariants.{NoPlace, Nth}
+use Rattle.ftd.specs.Types.{TradeDate}
+use Rattle.ftd.specs.Types.{PacketPlace}
+use Rattle.std.specs.Prelude.{Some, None}
+use Rattle.ftd.specs.Types.{MaybeData, some_data, MaybeTags, some_tags}
 
 -- ─── The form of a tag ───
 
@@ -85,42 +81,42 @@ good_tags extension = good_run (run_of tag extension) 0 0
 -- ─── The tags that have a meaning here ───
 
 -- The place of the data of the first tag of a kind, in a list of tags that starts at `at`.
-abbrev pub tag_in : ℕ → List (List ℕ) → ℕ → TagPlace
-tag_in at [] kind = NoTag
-tag_in at (t ∷ ts) kind = cond (eqb (tag_kind t) kind) (Data (at + 2) (length t - 2)) (tag_in (at + length t) ts kind)
+abbrev pub tag_in : ℕ → List (List ℕ) → ℕ → MaybeData
+tag_in at [] kind = None
+tag_in at (t ∷ ts) kind = cond (eqb (tag_kind t) kind) (some_data (at + 2) (length t - 2)) (tag_in (at + length t) ts kind)
 
-unfoldable pub tag_place : List ℕ → ℕ → TagPlace
+unfoldable pub tag_place : List ℕ → ℕ → MaybeData
 tag_place extension kind = tag_in 0 (tags_of extension) kind
 
 -- The data lies inside the extension.
-abbrev pub TagInside : List ℕ → TagPlace → Type 0
-TagInside extension NoTag = Unit
-TagInside extension (Data start len) = start + len ≤ length extension
+abbrev pub TagInside : List ℕ → MaybeData → Type 0
+TagInside extension None = Unit
+TagInside extension (Some found) = found.start + found.len ≤ length extension
 
 -- The trade date (01: mark): tag 0x05, as a number of four bytes; none where the extension has no such tag.
-abbrev pub date_at : List ℕ → TagPlace → TradeDate
-date_at extension NoTag = None
-date_at extension (Data start len) = cond (eqb len 4) (At (be32_of extension start)) None
+abbrev pub date_at : List ℕ → MaybeData → TradeDate
+date_at extension None = None
+date_at extension (Some found) = cond (eqb found.len 4) (Some (be32_of extension found.start)) None
 
 unfoldable pub trade_date_of : List ℕ → TradeDate
 trade_date_of extension = date_at extension (tag_place extension 0x05)
 
 -- The packet's place in its message: tag 0x70, as a number of two bytes; none where the extension has no such tag.
-abbrev pub place_at : List ℕ → TagPlace → PacketPlace
-place_at extension NoTag = NoPlace
-place_at extension (Data start len) = cond (eqb len 2) (Nth (be16_of extension start)) NoPlace
+abbrev pub place_at : List ℕ → MaybeData → PacketPlace
+place_at extension None = None
+place_at extension (Some found) = cond (eqb found.len 2) (Some (be16_of extension found.start)) None
 
 unfoldable pub packet_place_of : List ℕ → PacketPlace
 packet_place_of extension = place_at extension (tag_place extension 0x70)
 
 -- The extension check, the trade date and the packet's place as one answer.
-unfoldable pub tag_run_of : List ℕ → TagRun
-tag_run_of extension = cond (good_tags extension) (Good (trade_date_of extension) (packet_place_of extension)) Broken
+unfoldable pub tag_run_of : List ℕ → MaybeTags
+tag_run_of extension = cond (good_tags extension) (some_tags (trade_date_of extension) (packet_place_of extension)) None
 
 -- The keep-alive tag 0x04 is there.
-abbrev pub is_there : TagPlace → Bool
-is_there NoTag = false
-is_there (Data start len) = true
+abbrev pub is_there : MaybeData → Bool
+is_there None = false
+is_there (Some found) = true
 
 unfoldable pub keep_alive_of : List ℕ → Bool
 keep_alive_of extension = is_there (tag_place extension 0x04)
@@ -140,7 +136,7 @@ extension_bytes ts = joined (map tag_bytes ts)
 -- The trade date as the only tag, or none.
 abbrev pub tags_for : TradeDate → List Tag
 tags_for None = []
-tags_for (At d) = record { kind = 0x05; value = bytes32 d } ∷ []
+tags_for (Some d) = record { kind = 0x05; value = bytes32 d } ∷ []
 
 -- The packet's place.
 abbrev pub place_tag : ℕ → Tag

@@ -2,8 +2,8 @@
 -- spaces.
 use Rattle.std.specs.Prelude.{ℕ, ◌-◌, List, [], ◌∷◌, ◌++◌, Bool, cond, ◌&&◌, length, replicate, leb, eqb}
 use Rattle.ftd.specs.Values.{every, is_text, is_space}
-use Rattle.ftd.specs.declared.texts.Text.{Text}
-use Rattle.ftd.specs.declared.texts.Text.TheVariants.{NoValue, Value}
+use Rattle.ftd.specs.Types.{Text}
+use Rattle.std.specs.Prelude.{Some, None}
 
 abbrev pub trimmed : List ℕ → List ℕ
 trimmed [] = []
@@ -11,7 +11,7 @@ trimmed (x ∷ xs) = cond (every is_space (x ∷ xs)) [] (x ∷ trimmed xs)
 
 -- The value is the first of the bytes, as many as stand before trailing spaces; none where a byte is none of a String.
 unfoldable pub text_value : List ℕ → Text
-text_value l = cond (every is_text l) (Value (length (trimmed l))) NoValue
+text_value l = cond (every is_text l) (Some (length (trimmed l))) None
 
 unfoldable pub text_bytes : ℕ → List ℕ → List ℕ
 text_bytes width value = value ++ replicate (width - length value) 0x20

@@ -9,8 +9,10 @@ use Rattle.ftd.specs.declared.refusal.Refusal.{Refusal}
 use Rattle.ftd.specs.declared.refusal.Refusal.TheVariants.{LongExtension, BrokenTag, BodyLength, FieldRun}
 use Rattle.ftd.specs.declared.refusal.Refusal.TheVariants.{TooSmall, Item}
 use Rattle.ftd.specs.declared.packet.Header.{Header}
-use Rattle.ftd.specs.declared.write.Written.{Written}
-use Rattle.ftd.specs.declared.write.Written.TheVariants.{Bytes, Refused, NotPlain}
+use Rattle.ftd.specs.Types.{Written}
+use Rattle.std.specs.Prelude.{Ok, Err}
+use Rattle.ftd.specs.declared.write.WriteError.TheVariants.{Refused, NotPlain}
+use Rattle.ftd.specs.declared.write.WriteError.TheVariants.{NotPlain}
 
 -- ─── The bytes of a packet ───
 
@@ -51,7 +53,7 @@ plain_verdict kind extension body =
     (cond (is_plain kind (length body))
     (cond (is_skipped kind (length body) || good_tags extension) fine (refuse BrokenTag))
     (cond (wrong_body kind (length body)) (refuse BodyLength)
-    (other NotPlain)))
+    (other (Err NotPlain))))
 
 unfoldable pub message_verdict : Header → List ℕ → List ℕ → Verdict
 message_verdict h extension content =
@@ -69,8 +71,8 @@ field_verdict bytes = cond (ltb field_content (length bytes)) (refuse FieldRun) 
 
 -- 18: the output lacks the bytes needed.
 unfoldable pub written_answer : Verdict → List ℕ → List ℕ → Written
-written_answer fine bytes out = cond (ltb (length out) (length bytes)) (Refused TooSmall) (Bytes (length bytes))
-written_answer (refuse r) bytes out = Refused r
+written_answer fine bytes out = cond (ltb (length out) (length bytes)) (Err (Refused TooSmall)) (Ok (length bytes))
+written_answer (refuse r) bytes out = Err (Refused r)
 written_answer (other w) bytes out = w
 
 -- Refused, the output is as it was; otherwise the bytes stand at its start, and what was behind them stays.

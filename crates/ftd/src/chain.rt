@@ -14,8 +14,8 @@ use crate::bytes::copy_at;
 use crate::fields::{MOST_CONTENT, PACKET_CONTENT, field_size, is_shaped};
 use crate::packet::{Chain, Header};
 use crate::refusal::Refusal;
-use crate::tags::{TradeDate, put_place, put_tags, tags_len};
-use crate::write::{Written, put_head};
+use crate::tags::{put_place, put_tags, tags_len};
+use crate::write::{WriteError, put_head, room};
 
 // A packet's bytes besides its content, with a trade date and its place: the first four, tags 0x05 and 0x70 with their
 // data, the message's header.
@@ -27,7 +27,7 @@ pub const MOST_PACKETS: usize = 17;
 // (02, No. 10).
 #[derive(Clone, Copy)]
 pub struct Message {
-    pub date: TradeDate,
+    pub date: Option<u32>,
     pub tid: u32,
     pub series: u16,
     pub number: u32,
@@ -41,27 +41,18 @@ pub struct Size {
     pub bytes: usize,
 }
 
-#[derive(Clone, Copy)]
-pub enum ChainSize {
-    Takes(Size),
-    Refused(Refusal),
-}
-
 // What is answered for one packet of a message.
 #[derive(Clone, Copy)]
-pub enum PacketWritten {
-    // So many bytes stand at the start of the output; and whether it is the message's last packet.
-    Bytes { len: usize, last: bool },
-    // The message has no packet at that place; the refusal table has no number for it.
-    NoPacket,
-    Refused(Refusal),
+pub struct PacketWritten {
+    pub len: usize,
+    pub last: bool,
 }
 
 // A piece of a content by its place among the pieces: where it starts, and its cut.
 #[derive(Clone, Copy)]
-pub enum PiecePlace {
-    NoPiece,
-    At { at: usize, cut: Cut },
+pub struct PiecePlace {
+    pub at: usize,
+    pub cut: Cut,
 }
 
 // Where a piece of a content ends, and how many fields it has.
@@ -75,8 +66,7 @@ pub struct Cut {
 fn message_tags(m: Message) -> usize
     ensures { (result ≡ length (extension_bytes (tags_at m 0))) × (result ≤ 10) }
 {
-    let date = m.date;
-    let n = tags_len(date);
+    let n = tags_len(m.date);
     if m.counted {
         return n + 4;
     }
@@ -88,10 +78,9 @@ fn put_message_tags(out: &mut [u8], to: usize, m: Message, j: u16)
     requires { to + length (extension_bytes (tags_at m j)) ≤ length out.old }
     ensures { out.new ≡ put out.old to (extension_bytes (tags_at m j)) }
 {
-    let date = m.date;
-    put_tags(out, to, date);
+    put_tags(out, to, m.date);
     if m.counted {
-        put_place(out, to + tags_len(date), j);
+        put_place(out, to + tags_len(m.date), j);
     }
 }
 
@@ -112,16 +101,12 @@ fn put_tagged(out: &mut [u8], to: usize, m: Message, j: u16, h: Header, content:
 fn chain_at(first: bool, last: bool) -> Chain
     ensures { result ≡ chain_at first last }
 {
-    if first {
-        if last {
-            return Chain::Single;
-        }
-        return Chain::First;
+    match (first, last) {
+        (true, true) => Chain::Single,
+        (true, false) => Chain::First,
+        (false, false) => Chain::Middle,
+        (false, true) => Chain::Last,
     }
-    if last {
-        return Chain::Last;
-    }
-    Chain::Middle
 }
 
 // The next piece from a place in the content: as many whole fields as 4,080 bytes hold.
@@ -134,16 +119,10 @@ pub(crate) fn next_piece(content: &[u8], at: usize) -> Cut
     loop {
         let n = field_size(content, end);
         if n == 0 {
-            return Cut {
-                end: end,
-                count: count,
-            };
+            return Cut { end, count };
         }
         if PACKET_CONTENT < end + n - at {
-            return Cut {
-                end: end,
-                count: count,
-            };
+            return Cut { end, count };
         }
         end += n;
         count += 1;
@@ -166,7 +145,6 @@ fn put_piece(
     ensures { out.new ≡ put out.old to
         (packet_for m j (chain_at (eqb j 0) last) (piece_at content.now at c)) }
 {
-    let end = c.end;
     let h = Header {
         tid: m.tid,
         chain: chain_at(j == 0, last),
@@ -174,12 +152,12 @@ fn put_piece(
         number: m.number,
         fields: (c.count % 65536) as u16,
     };
-    put_tagged(out, to, m, (j % 65536) as u16, h, &content[at..end]);
+    put_tagged(out, to, m, (j % 65536) as u16, h, &content[at..c.end]);
 }
 
 // How many packets a message takes, and how many bytes in all, with tags of so many bytes; refused where its content is
 // not whole fields. One walk: where no field is taken though bytes are left, one is broken or too long.
-fn measure(content: &[u8], tags: usize) -> ChainSize
+fn measure(content: &[u8], tags: usize) -> Result<Size, Refusal>
     requires { (length content.now ≤ most_content) × (tags ≤ 10) }
     ensures { result ≡ measure_of tags content.now }
 {
@@ -188,19 +166,15 @@ fn measure(content: &[u8], tags: usize) -> ChainSize
     let mut bytes: usize = 0;
     loop {
         let c = next_piece(content, at);
-        let end = c.end;
         packets += 1;
-        bytes = bytes + (4 + tags + (16 + (end - at)));
-        if end == content.len() {
-            return ChainSize::Takes(Size {
-                packets: packets,
-                bytes: bytes,
-            });
+        bytes += 4 + tags + (16 + (c.end - at));
+        if c.end == content.len() {
+            return Ok(Size { packets, bytes });
         }
-        if end == at {
-            return ChainSize::Refused(Refusal::FieldRun);
+        if c.end == at {
+            return Err(Refusal::FieldRun);
         }
-        at = end;
+        at = c.end;
     }
 }
 
@@ -221,19 +195,18 @@ fn put_rest(
     ensures { PutRest m j content.now at to out.old out.new result }
 {
     let c = next_piece(content, at);
-    let end = c.end;
-    let next = to + (4 + tags + (16 + (end - at)));
-    if end == content.len() {
+    let next = to + (4 + tags + (16 + (c.end - at)));
+    if c.end == content.len() {
         if out.len() < next {
             return next;
         }
         put_piece(out, to, m, j, true, content, at, c);
         return next;
     }
-    if end == at {
+    if c.end == at {
         return 0;
     }
-    let reach = put_rest(out, next, m, j + 1, content, end, tags);
+    let reach = put_rest(out, next, m, j + 1, content, c.end, tags);
     if reach == 0 {
         return 0;
     }
@@ -245,37 +218,35 @@ fn put_rest(
 }
 
 // What a whole message takes; refused with 7 where its content is not whole fields that fit.
-pub fn chain_size(m: Message, content: &[u8]) -> ChainSize
+pub fn chain_size(m: Message, content: &[u8]) -> Result<Size, Refusal>
     ensures { result ≡ size_answer m content.now }
 {
     if MOST_CONTENT < content.len() {
-        return ChainSize::Refused(Refusal::FieldRun);
+        return Err(Refusal::FieldRun);
     }
     measure(content, message_tags(m))
 }
 
 // All packets of a message, one behind the other.
-pub fn write_chain(m: Message, content: &[u8], out: &mut [u8]) -> Written
+pub fn write_chain(m: Message, content: &[u8], out: &mut [u8]) -> Result<usize, WriteError>
     ensures answer { result ≡ written_answer (chain_verdict content.now)
         (joined (packets_of m content.now)) out.old }
     ensures output { out.new ≡ written_output (chain_verdict content.now)
         (joined (packets_of m content.now)) out.old }
 {
     if MOST_CONTENT < content.len() {
-        return Written::Refused(Refusal::FieldRun);
+        return Err(WriteError::Refused(Refusal::FieldRun));
     }
     let n = put_rest(out, 0, m, 0, content, 0, message_tags(m));
     if n == 0 {
-        return Written::Refused(Refusal::FieldRun);
+        return Err(WriteError::Refused(Refusal::FieldRun));
     }
-    if out.len() < n {
-        return Written::Refused(Refusal::TooSmall);
-    }
-    Written::Bytes(n)
+    room(out, n)?;
+    Ok(n)
 }
 
 // Piece i of a content, counted from 0.
-fn find_piece(content: &[u8], i: usize) -> PiecePlace
+fn find_piece(content: &[u8], i: usize) -> Option<PiecePlace>
     requires { shapely (run_of field content.now) ≡ true }
     ensures { FoundPiece content.now i result }
 {
@@ -284,40 +255,37 @@ fn find_piece(content: &[u8], i: usize) -> PiecePlace
     loop {
         let c = next_piece(content, at);
         if left == 0 {
-            return PiecePlace::At { at: at, cut: c };
+            return Some(PiecePlace { at, cut: c });
         }
-        let end = c.end;
-        if end == content.len() {
-            return PiecePlace::NoPiece;
+        if c.end == content.len() {
+            return None;
         }
-        at = end;
+        at = c.end;
         left -= 1;
     }
 }
 
 // Packet i of a message, counted from 0.
-pub fn write_packet(m: Message, content: &[u8], i: usize, out: &mut [u8]) -> PacketWritten
+pub fn write_packet(
+    m: Message,
+    content: &[u8],
+    i: usize,
+    out: &mut [u8],
+) -> Result<Option<PacketWritten>, Refusal>
     ensures answer { result ≡ packet_answer m content.now i out.old }
     ensures output { out.new ≡ packet_output m content.now i out.old }
 {
-    if is_shaped(content, MOST_CONTENT) {
-        match find_piece(content, i) {
-            PiecePlace::NoPiece => {
-                return PacketWritten::NoPacket;
-            }
-            PiecePlace::At { at, cut } => {
-                let end = cut.end;
-                let n = 4 + message_tags(m) + (16 + (end - at));
-                if out.len() < n {
-                    return PacketWritten::Refused(Refusal::TooSmall);
-                }
-                let last = end == content.len();
-                put_piece(out, 0, m, i, last, content, at, cut);
-                return PacketWritten::Bytes { len: n, last: last };
-            }
-        }
+    if !is_shaped(content, MOST_CONTENT) {
+        return Err(Refusal::FieldRun);
     }
-    PacketWritten::Refused(Refusal::FieldRun)
+    let Some(PiecePlace { at, cut }) = find_piece(content, i) else {
+        return Ok(None);
+    };
+    let len = 4 + message_tags(m) + (16 + (cut.end - at));
+    room(out, len)?;
+    let last = cut.end == content.len();
+    put_piece(out, 0, m, i, last, content, at, cut);
+    Ok(Some(PacketWritten { len, last }))
 }
 
 // The laws of a message's packets, as a promise.

@@ -1,5 +1,6 @@
 // Make-up: how often each field occurs in a message, by Appendix E of the standard.
-ghost use Rattle.std.specs.Prelude.{◌≡◌, ◌+◌, ◌<◌};
+ghost use Rattle.std.specs.Prelude.{ℕ, List, ◌≡◌, ◌+◌, ◌<◌};
+ghost use Rattle.ftd.specs.Fields.{count_of};
 ghost use Rattle.ftd.specs.Composition.Rule.{CompositionRule};
 ghost use Rattle.ftd.specs.Composition.Helpers.{line_of};
 ghost use Rattle.ftd.specs.Composition.{direction_of, in_range, appendix_e, line_at, line_holds, all_hold, composed};
@@ -9,7 +10,7 @@ use crate::fields::count_field;
 
 // The lines of Appendix E in columns, in the paper's order: TID, direction (0 up, 1 down), FID, least and most count
 // (0: unlimited).
-const TID: [u16; 82] = [
+static TID: [u16; 82] = [
     0x0001, // Error down
     0x0001, // Error down
     0x0001, // Error down
@@ -94,13 +95,13 @@ const TID: [u16; 82] = [
     0x1001, // TradeInsertSingle down
 ];
 
-const DIRECTION: [u8; 82] = [
+static DIRECTION: [u8; 82] = [
     1, 1, 1, 1, 1, 1, 1, 1, 1, 1, 1, 1, 1, 1, 1, 1, 1, 1, 1, 1, 0, 0, 0, 0, 0, 0, 0, 0, 0, 0, 0, 0,
     0, 0, 0, 0, 0, 0, 0, 0, 0, 1, 1, 1, 1, 1, 1, 1, 1, 1, 1, 1, 1, 1, 1, 1, 1, 1, 1, 1, 1, 1, 1, 1,
     1, 1, 1, 1, 1, 1, 1, 1, 1, 1, 1, 1, 1, 1, 1, 1, 1, 1,
 ];
 
-const FID: [u16; 82] = [
+static FID: [u16; 82] = [
     0x0005, // ErrorField
     0x002E, // ErrorTargetSequenceField
     0x002D, // ErrorTargetOrderField
@@ -185,13 +186,13 @@ const FID: [u16; 82] = [
     0x002A, // TradeInsertSingleField
 ];
 
-const LEAST: [u8; 82] = [
+static LEAST: [u8; 82] = [
     1, 0, 0, 1, 1, 0, 1, 0, 1, 0, 0, 1, 0, 1, 0, 1, 0, 1, 0, 1, 1, 1, 1, 1, 1, 1, 1, 1, 1, 1, 1, 1,
     1, 1, 1, 1, 1, 1, 0, 1, 1, 1, 0, 1, 0, 1, 0, 1, 0, 1, 0, 1, 0, 1, 0, 1, 0, 1, 0, 1, 0, 1, 0, 1,
     0, 1, 0, 1, 0, 1, 0, 1, 0, 1, 0, 1, 0, 1, 0, 1, 0, 1,
 ];
 
-const MOST: [u8; 82] = [
+static MOST: [u8; 82] = [
     1, 1, 1, 1, 1, 1, 1, 1, 1, 0, 0, 0, 1, 0, 1, 1, 1, 1, 1, 1, 1, 1, 1, 1, 1, 1, 1, 1, 1, 1, 1, 1,
     1, 1, 1, 1, 1, 1, 1, 1, 1, 1, 1, 1, 1, 0, 1, 0, 1, 0, 1, 0, 1, 0, 1, 0, 1, 0, 1, 0, 1, 0, 1, 0,
     1, 0, 1, 0, 1, 0, 1, 0, 1, 0, 1, 1, 1, 1, 1, 1, 1, 1,
@@ -200,46 +201,34 @@ const MOST: [u8; 82] = [
 // Up: sent by the member. Down: sent by the exchange.
 #[derive(Clone, Copy)]
 pub enum Direction {
-    Up,
-    Down,
+    Up = 0,
+    Down = 1,
 }
 
 // The direction's number in the table.
 pub(crate) fn direction_number(d: Direction) -> u8
     ensures { result ≡ direction_of d }
 {
-    match d {
-        Direction::Up => 0,
-        Direction::Down => 1,
-    }
+    d as u8
 }
 
 // A count is at least the least and at most the most; 0 as the most is no bound.
 fn in_range(least: usize, most: usize, n: usize) -> bool
     ensures { result ≡ in_range least most n }
 {
-    if n < least {
-        return false;
-    }
-    if most == 0 {
-        return true;
-    }
-    n <= most
+    least <= n && (most == 0 || n <= most)
 }
 
 // Line i of Appendix E is of the message.
-pub(crate) fn line_of(i: usize, tid: u32, direction: u8) -> bool
+fn line_of(i: usize, tid: u32, direction: u8) -> bool
     requires { i < 82 }
     ensures { result ≡ line_of (line_at i) tid direction }
 {
-    if number16(TID[i]) == tid {
-        return DIRECTION[i] == direction;
-    }
-    false
+    number16(TID[i]) == tid && DIRECTION[i] == direction
 }
 
 // The field of line i.
-pub(crate) fn line_field(i: usize) -> u32
+fn line_field(i: usize) -> u32
     requires { i < 82 }
     ensures { result ≡ (line_at i).fid }
 {
@@ -247,37 +236,30 @@ pub(crate) fn line_field(i: usize) -> u32
 }
 
 // Line i allows a count of its field.
-pub(crate) fn line_allows(i: usize, n: usize) -> bool
+fn line_allows(i: usize, n: usize) -> bool
     requires { i < 82 }
     ensures { result ≡ in_range (line_at i).least (line_at i).most n }
 {
     in_range(size8(LEAST[i]), size8(MOST[i]), n)
 }
 
-// Line i of Appendix E, if it is of the message, has its field as often as it says.
-fn line_holds(i: usize, tid: u32, direction: u8, content: &[u8]) -> bool
-    requires { i < 82 }
-    ensures { result ≡ line_holds (line_at i) tid direction content.now }
+// Line i of Appendix E, if it is of the message, has its field as often as it says. `count` says how often a field
+// occurs in the content.
+fn line_holds<F: Fn(u32) -> usize>(i: usize, tid: u32, direction: u8, count: &F) -> bool
+    requires { (i < 82) × F.IsAlwaysCallable count.now }
+    ensures { (content : List ℕ) → ((fid n : ℕ) → F.post count.now fid n → n ≡ count_of fid content)
+        → result ≡ line_holds (line_at i) tid direction content }
 {
-    if line_of(i, tid, direction) {
-        return line_allows(i, count_field(content, line_field(i)));
-    }
-    true
+    !line_of(i, tid, direction) || line_allows(i, count(line_field(i)))
 }
 
 // All lines of Appendix E hold.
-fn all_hold(tid: u32, direction: u8, content: &[u8]) -> bool
-    ensures { result ≡ all_hold appendix_e tid direction content.now }
+pub(crate) fn all_hold<F: Fn(u32) -> usize>(tid: u32, direction: u8, count: F) -> bool
+    requires { F.IsAlwaysCallable count }
+    ensures { (content : List ℕ) → ((fid n : ℕ) → F.post count fid n → n ≡ count_of fid content)
+        → result ≡ all_hold appendix_e tid direction content }
 {
-    let mut i: usize = 0;
-    while i < 82 {
-        if line_holds(i, tid, direction, content) {
-            i += 1;
-        } else {
-            return false;
-        }
-    }
-    true
+    (0..82).all(|i| line_holds(i, tid, direction, &count))
 }
 
 // Row 10: each field that Appendix E lists for the message occurs as often as listed. The content is walked once for
@@ -285,7 +267,11 @@ fn all_hold(tid: u32, direction: u8, content: &[u8]) -> bool
 pub fn is_composed(tid: u32, direction: Direction, content: &[u8]) -> bool
     ensures { result ≡ composed tid direction content.now }
 {
-    all_hold(tid, direction_number(direction), content)
+    all_hold(
+        tid,
+        direction_number(direction),
+        |fid| count_field(content, fid),
+    )
 }
 
 // The rule of the table, as a promise: each line's field is in Appendix D, its TID in Appendix A, no field twice for a

@@ -5,25 +5,25 @@ ghost use Rattle.ftd.specs.Content.{content_check};
 
 use crate::composition::{Direction, is_composed};
 use crate::fields::is_shaped;
-use crate::items::{Checked, check_items};
+use crate::items::check_items;
 use crate::refusal::Refusal;
 
 // The first refusal of content that is given for a message, or none.
-pub fn check_content(tid: u32, direction: Direction, content: &[u8], limit: usize) -> Checked
+#[tactic(auto, unfolding(crate::specs::Content::content_check))]
+pub fn check_content(
+    tid: u32,
+    direction: Direction,
+    content: &[u8],
+    limit: usize,
+) -> Result<(), Refusal>
     ensures { result ≡ content_check tid direction content.now limit }
 {
-    if is_shaped(content, limit) {
-        match check_items(content) {
-            Checked::Refused(r) => {
-                return Checked::Refused(r);
-            }
-            Checked::Passed => {
-                if is_composed(tid, direction, content) {
-                    return Checked::Passed;
-                }
-                return Checked::Refused(Refusal::Composition);
-            }
-        }
+    if !is_shaped(content, limit) {
+        return Err(Refusal::FieldRun);
     }
-    Checked::Refused(Refusal::FieldRun)
+    check_items(content)?;
+    if !is_composed(tid, direction, content) {
+        return Err(Refusal::Composition);
+    }
+    Ok(())
 }

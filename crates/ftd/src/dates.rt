@@ -12,7 +12,7 @@ use crate::refusal::Refusal;
 use crate::signed::put_digits;
 use crate::texts::put_spaces;
 use crate::values::{Class, all_in, is_date, two_digits, year};
-use crate::write::Written;
+use crate::write::{WriteError, room};
 
 // A value: all spaces for unused, or a day; or none where the bytes are not one.
 #[derive(Clone, Copy)]
@@ -54,9 +54,7 @@ fn date_fits(v: Date) -> bool
     match v {
         Date::NoDate => false,
         Date::Unused => true,
-        Date::Day { year, month, day } => {
-            return is_real(number16(year), wide32(month), wide32(day));
-        }
+        Date::Day { year, month, day } => is_real(number16(year), wide32(month), wide32(day)),
     }
 }
 
@@ -83,18 +81,16 @@ fn put_date(out: &mut [u8], v: Date)
 }
 
 // A value as a Date.
-pub fn write_date(out: &mut [u8], v: Date) -> Written
+pub fn write_date(out: &mut [u8], v: Date) -> Result<usize, WriteError>
     ensures answer { result ≡ written_answer (fit_verdict (date_fits v)) (date_bytes v) out.old }
     ensures output { out.new ≡ written_output (fit_verdict (date_fits v)) (date_bytes v) out.old }
 {
-    if date_fits(v) {
-        if out.len() < 8 {
-            return Written::Refused(Refusal::TooSmall);
-        }
-        put_date(out, v);
-        return Written::Bytes(8);
+    if !date_fits(v) {
+        return Err(WriteError::Refused(Refusal::Item));
     }
-    Written::Refused(Refusal::Item)
+    room(out, 8)?;
+    put_date(out, v);
+    Ok(8)
 }
 
 // The worked examples of the date item, as a promise.

@@ -3,14 +3,16 @@
 ghost use Rattle.std.specs.Prelude.{◌≡◌, ◌+◌, ◌-◌, ◌<◌, ◌≤◌, length, drop};
 ghost use Rattle.ftd.specs.Bytes.{put};
 ghost use Rattle.ftd.specs.Runs.{front};
-ghost use Rattle.ftd.specs.Fields.{field, exact_run, field_place_of, FieldInside, field_with, shaped, count_of, one_if};
+ghost use Rattle.ftd.specs.Fields.{field, exact_run, field_place_of, FieldInside, field_with, shaped, count_of};
 ghost use Rattle.ftd.specs.Fields.{first_of};
+ghost use Rattle.ftd.specs.Fields.Helpers.{fields_from};
+ghost use Rattle.std.specs.Iterator.{YieldsFirst, item_count};
 ghost use Rattle.ftd.specs.Fields.Laws.{FieldLaws};
 ghost use Rattle.ftd.specs.Write.{field_verdict, written_answer, written_output};
 
 use crate::bytes::{be16, be32, copy_at, put16, put32, size16};
 use crate::refusal::Refusal;
-use crate::write::Written;
+use crate::write::{WriteError, room};
 
 // The content of a packet: a body of at most 4,096 bytes less its header's 16.
 pub const PACKET_CONTENT: usize = 4080;
@@ -21,9 +23,10 @@ pub const MOST_CONTENT: usize = 32768;
 
 // A field of a content: its FID, and where its bytes lie, without FID and length.
 #[derive(Clone, Copy)]
-pub enum FieldPlace {
-    NoField,
-    Field { fid: u32, start: usize, len: usize },
+pub struct FieldPlace {
+    pub fid: u32,
+    pub start: usize,
+    pub len: usize,
 }
 
 // How many bytes the field at a place takes, its FID and length among them; 0 where none stands there whole.
@@ -44,6 +47,43 @@ pub fn field_size(content: &[u8], at: usize) -> usize
     n
 }
 
+// The fields of a content, in order, up to the first place where none stands whole.
+#[derive(Drop)]
+pub(crate) struct Fields<'a> {
+    content: &'a [u8],
+    at: usize,
+}
+
+impl<'a> Iterator for Fields<'a> {
+    type Item = FieldPlace;
+
+    ghost next_gives = { YieldsFirst (λ s. fields_from s.content.now s.at) };
+
+    ghost remaining = { item_count (λ s. fields_from s.content.now s.at) };
+
+    fn next(&mut self) -> Option<FieldPlace> {
+        let n = field_size(self.content, self.at);
+        if n == 0 {
+            return None;
+        }
+        let found = FieldPlace {
+            fid: be32(self.content, self.at),
+            start: self.at + 6,
+            len: n - 6,
+        };
+        self.at += n;
+        Some(found)
+    }
+}
+
+// Those of the whole content.
+pub(crate) fn walk(content: &[u8]) -> Fields<'_>
+    ensures { (result.content.now ≡ content.now) × (result.at ≡ 0) }
+{
+    Fields { content, at: 0 }
+}
+
+// Stays: it asks where the fields end too, which `Fields` does not yield; so does the next.
 // The content is exactly that many whole fields.
 pub fn exact_run(content: &[u8], count: u16) -> bool
     ensures { result ≡ exact_run content.now count }
@@ -85,74 +125,24 @@ pub fn is_shaped(content: &[u8], limit: usize) -> bool
 }
 
 // Field i of a content, counted from 0.
-pub fn field_place(content: &[u8], i: usize) -> FieldPlace
+pub fn field_place(content: &[u8], i: usize) -> Option<FieldPlace>
     ensures { (result ≡ field_place_of content.now i) × FieldInside content.now result }
 {
-    let mut at: usize = 0;
-    let mut left = i;
-    loop {
-        let n = field_size(content, at);
-        if n == 0 {
-            return FieldPlace::NoField;
-        }
-        if left == 0 {
-            return FieldPlace::Field {
-                fid: be32(content, at),
-                start: at + 6,
-                len: n - 6,
-            };
-        }
-        at += n;
-        left -= 1;
-    }
-}
-
-// 1 where the field is the one counted.
-fn one_if(found: u32, fid: u32) -> usize
-    ensures { (result ≡ one_if found fid) × (result ≤ 1) }
-{
-    if found == fid {
-        return 1;
-    }
-    0
+    walk(content).nth(i)
 }
 
 // How often a field occurs in a content.
 pub fn count_field(content: &[u8], fid: u32) -> usize
     ensures { result ≡ count_of fid content.now }
 {
-    let mut at: usize = 0;
-    let mut seen: usize = 0;
-    loop {
-        let n = field_size(content, at);
-        if n == 0 {
-            return seen;
-        }
-        seen += one_if(be32(content, at), fid);
-        at += n;
-    }
+    walk(content).filter(|f| f.fid == fid).count()
 }
 
 // The first field of a content with a FID.
-pub fn first_field(content: &[u8], fid: u32) -> FieldPlace
+pub fn first_field(content: &[u8], fid: u32) -> Option<FieldPlace>
     ensures { (result ≡ first_of content.now fid) × FieldInside content.now result }
 {
-    let mut at: usize = 0;
-    loop {
-        let n = field_size(content, at);
-        if n == 0 {
-            return FieldPlace::NoField;
-        }
-        let found = be32(content, at);
-        if found == fid {
-            return FieldPlace::Field {
-                fid: found,
-                start: at + 6,
-                len: n - 6,
-            };
-        }
-        at += n;
-    }
+    walk(content).find(|f| f.fid == fid)
 }
 
 // A field at a place of the output.
@@ -166,21 +156,19 @@ fn put_field(out: &mut [u8], to: usize, fid: u32, bytes: &[u8])
 }
 
 // A field with a FID and bytes, at the start of the output.
-pub fn write_field(fid: u32, bytes: &[u8], out: &mut [u8]) -> Written
+pub fn write_field(fid: u32, bytes: &[u8], out: &mut [u8]) -> Result<usize, WriteError>
     ensures answer { result ≡ written_answer (field_verdict bytes.now) (field_with fid bytes.now)
         out.old }
     ensures output { out.new ≡ written_output (field_verdict bytes.now)
         (field_with fid bytes.now) out.old }
 {
     if FIELD_CONTENT < bytes.len() {
-        return Written::Refused(Refusal::FieldRun);
+        return Err(WriteError::Refused(Refusal::FieldRun));
     }
     let n = 6 + bytes.len();
-    if out.len() < n {
-        return Written::Refused(Refusal::TooSmall);
-    }
+    room(out, n)?;
     put_field(out, 0, fid, bytes);
-    Written::Bytes(n)
+    Ok(n)
 }
 
 // The laws of fields written, as a promise: both round trips, and row 7.

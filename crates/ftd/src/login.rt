@@ -12,58 +12,48 @@ use crate::fields::PACKET_CONTENT;
 use crate::packet::{Chain, Header};
 use crate::refusal::Refusal;
 use crate::resume::put_resume;
-use crate::tags::{TradeDate, put_tags, tags_len};
-use crate::write::{Written, put_head};
+use crate::tags::{put_tags, tags_len};
+use crate::write::{WriteError, put_head, room};
 
 // What stands behind the content of a login packet that is written.
 #[derive(Clone, Copy)]
-pub enum Ending {
-    Nothing,
-    // The start field: a series, and the next number wanted.
-    Resume { series: u16, number: u32 },
+pub struct Ending {
+    pub series: u16,
+    pub number: u32,
 }
 
 // The bytes that it takes.
-fn ending_len(ending: Ending) -> usize
+fn ending_len(ending: Option<Ending>) -> usize
     ensures { (result ≡ length (ending_bytes ending)) × (result ≤ 12) }
 {
-    match ending {
-        Ending::Nothing => 0,
-        Ending::Resume {
-            series: _,
-            number: _,
-        } => 12,
-    }
+    if ending.is_some() { 12 } else { 0 }
 }
 
 // How many fields it is.
-fn ending_fields(ending: Ending) -> usize
+fn ending_fields(ending: Option<Ending>) -> usize
     ensures { (result ≡ length (fields_of (ending_bytes ending))) × (result ≤ 1) }
 {
-    match ending {
-        Ending::Nothing => 0,
-        Ending::Resume {
-            series: _,
-            number: _,
-        } => 1,
-    }
+    if ending.is_some() { 1 } else { 0 }
 }
 
 // It is put at a place of the output.
-fn put_ending(out: &mut [u8], to: usize, ending: Ending)
+fn put_ending(out: &mut [u8], to: usize, ending: Option<Ending>)
     requires { to + length (ending_bytes ending) ≤ length out.old }
     ensures { out.new ≡ put out.old to (ending_bytes ending) }
 {
-    match ending {
-        Ending::Nothing => {}
-        Ending::Resume { series, number } => {
-            put_resume(out, to, series, number);
-        }
+    if let Some(Ending { series, number }) = ending {
+        put_resume(out, to, series, number);
     }
 }
 
 // A login packet of so many fields at the start of the output.
-fn put_login(out: &mut [u8], date: TradeDate, content: &[u8], ending: Ending, fields: usize)
+fn put_login(
+    out: &mut [u8],
+    date: Option<u32>,
+    content: &[u8],
+    ending: Option<Ending>,
+    fields: usize,
+)
     requires { (4 + length
         (extension_bytes (tags_for date)) + (16 + (length content.now + length (ending_bytes ending))) ≤ length
         out.old) × (length content.now + length (ending_bytes ending) ≤ packet_content)
@@ -88,7 +78,12 @@ fn put_login(out: &mut [u8], date: TradeDate, content: &[u8], ending: Ending, fi
 
 // A login packet or its answer; refused with 7 where the content is not whole fields, or more than one packet holds
 // with what stands behind it. One walk: the first piece is all of the content, or something is wrong with it.
-pub fn write_login(date: TradeDate, content: &[u8], ending: Ending, out: &mut [u8]) -> Written
+pub fn write_login(
+    date: Option<u32>,
+    content: &[u8],
+    ending: Option<Ending>,
+    out: &mut [u8],
+) -> Result<usize, WriteError>
     ensures answer { result ≡ written_answer (login_verdict content.now ending)
         (login_bytes date (content.now ++ ending_bytes ending)) out.old }
     ensures output { out.new ≡ written_output (login_verdict content.now ending)
@@ -96,19 +91,16 @@ pub fn write_login(date: TradeDate, content: &[u8], ending: Ending, out: &mut [u
 {
     let tail = ending_len(ending);
     if PACKET_CONTENT - tail < content.len() {
-        return Written::Refused(Refusal::FieldRun);
+        return Err(WriteError::Refused(Refusal::FieldRun));
     }
     let c = next_piece(content, 0);
-    let end = c.end;
-    if end < content.len() {
-        return Written::Refused(Refusal::FieldRun);
+    if c.end < content.len() {
+        return Err(WriteError::Refused(Refusal::FieldRun));
     }
     let n = 4 + tags_len(date) + (16 + (content.len() + tail));
-    if out.len() < n {
-        return Written::Refused(Refusal::TooSmall);
-    }
+    room(out, n)?;
     put_login(out, date, content, ending, c.count + ending_fields(ending));
-    Written::Bytes(n)
+    Ok(n)
 }
 
 // The laws of a login packet, as a promise.

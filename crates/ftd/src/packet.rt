@@ -14,7 +14,7 @@ ghost use Rattle.ftd.specs.Packet.Helpers.{SaysLengths, FitsIn, bare};
 use crate::bytes::{be16, be32, size8, size16};
 use crate::fields::{FieldPlace, exact_run, field_place};
 use crate::refusal::Refusal;
-use crate::tags::{PacketPlace, TagRun, TradeDate, read_tags};
+use crate::tags::{TagRun, read_tags};
 
 // The longest extension (4.1), and the body of a message packet: its header, and at most a packet's content.
 pub const MOST_EXTENSION: usize = 127;
@@ -30,13 +30,13 @@ pub struct Span {
     pub len: usize,
 }
 
-// The place of a packet in the chain of a message: letters S, F, C, L.
+// The place of a packet in the chain of a message, each with its letter.
 #[derive(Clone, Copy)]
 pub enum Chain {
-    Single,
-    First,
-    Middle,
-    Last,
+    Single = b'S' as isize,
+    First = b'F' as isize,
+    Middle = b'C' as isize,
+    Last = b'L' as isize,
 }
 
 // The values of a message packet's header; its version is 1.
@@ -75,8 +75,8 @@ pub enum Packet {
 #[derive(Clone, Copy)]
 pub struct Dated {
     pub packet: Packet,
-    pub date: TradeDate,
-    pub place: PacketPlace,
+    pub date: Option<u32>,
+    pub place: Option<u16>,
 }
 
 // What they are, without values and places.
@@ -93,8 +93,8 @@ pub enum Verdict {
 #[derive(Clone, Copy)]
 pub struct Judged {
     pub verdict: Verdict,
-    pub date: TradeDate,
-    pub place: PacketPlace,
+    pub date: Option<u32>,
+    pub place: Option<u16>,
 }
 
 // As many bytes as the first four say; 0 where they are not there.
@@ -142,98 +142,61 @@ fn body_in(p: &[u8]) -> usize
 pub fn not_one_packet(p: &[u8]) -> bool
     ensures { result ≡ not_one_packet p.now }
 {
-    if 4 <= p.len() {
-        return p.len() != said_length(p);
-    }
-    true
+    p.len() < 4 || p.len() != said_length(p)
 }
 
 // Refusal 12, of Login and Answer also: no message packet, by the first four bytes. Bytes that are not there count as
 // 0.
+#[tactic(auto, unfolding(crate::specs::Packet::no_message_packet))]
 pub fn no_message_packet(p: &[u8]) -> bool
     ensures { result ≡ no_message_packet p.now }
 {
-    if byte_in(p, 0) != 0x01 {
-        return true;
-    }
     let body = body_in(p);
-    if body < LEAST_BODY {
-        return true;
-    }
-    MOST_BODY < body
+    byte_in(p, 0) != 0x01 || body < LEAST_BODY || MOST_BODY < body
 }
 
 // Refusal 3: type 0x01 with a body of 1 to 15 or above 4,096.
+#[tactic(auto, unfolding(crate::specs::Packet::wrong_body))]
 pub(crate) fn wrong_body(kind: u8, body: usize) -> bool
     ensures { result ≡ wrong_body kind body }
 {
-    if kind != 0x01 {
-        return false;
-    }
-    if body == 0 {
-        return false;
-    }
-    if body < LEAST_BODY {
-        return true;
-    }
-    MOST_BODY < body
+    kind == 0x01 && body != 0 && (body < LEAST_BODY || MOST_BODY < body)
 }
 
 // Any type but 0x00 and 0x01, and type 0x00 with a body.
+#[tactic(auto, unfolding(crate::specs::Packet::is_skipped))]
 pub(crate) fn is_skipped(kind: u8, body: usize) -> bool
     ensures { result ≡ is_skipped kind body }
 {
-    if 1 < kind {
-        return true;
-    }
-    if kind != 0 {
-        return false;
-    }
-    0 < body
+    1 < kind || (kind == 0 && 0 < body)
 }
 
 // A letter of the chain: S, F, C or L.
+#[tactic(auto, unfolding(crate::specs::Packet::is_letter))]
 fn is_letter(x: u8) -> bool
     ensures { result ≡ is_letter x }
 {
-    if x == b'S' {
-        return true;
-    }
-    if x == b'F' {
-        return true;
-    }
-    if x == b'C' {
-        return true;
-    }
-    x == b'L'
+    matches!(x, b'S' | b'F' | b'C' | b'L')
 }
 
 // The chain's place that a letter stands for.
+#[tactic(auto, unfolding(crate::specs::Packet::chain_of))]
 fn chain_of(letter: u8) -> Chain
     ensures { result ≡ chain_of letter }
 {
-    if letter == b'S' {
-        return Chain::Single;
+    match letter {
+        b'S' => Chain::Single,
+        b'F' => Chain::First,
+        b'C' => Chain::Middle,
+        _ => Chain::Last,
     }
-    if letter == b'F' {
-        return Chain::First;
-    }
-    if letter == b'C' {
-        return Chain::Middle;
-    }
-    Chain::Last
 }
 
 // The letter of a chain's place.
 pub fn letter(c: Chain) -> u8
     ensures { result ≡ chain_letter c }
 {
-    match c {
-        Chain::Single => b'S',
-        Chain::First => b'F',
-        Chain::Middle => b'C',
-        Chain::Last => b'L',
-    }
+    c as u8
 }
 
 // The values of the header in a body that starts behind an extension of `ext` bytes.
@@ -256,14 +219,14 @@ fn bare(verdict: Verdict) -> Judged
     ensures { result ≡ bare verdict }
 {
     Judged {
-        verdict: verdict,
-        date: TradeDate::None,
-        place: PacketPlace::NoPlace,
+        verdict,
+        date: None,
+        place: None,
     }
 }
 
 // A message packet that is there whole: refusals 4 to 7, or nothing wrong, with what its extension bears.
-fn judge_message(p: &[u8], ext: usize, body: usize, date: TradeDate, place: PacketPlace) -> Judged
+fn judge_message(p: &[u8], ext: usize, body: usize, date: Option<u32>, place: Option<u16>) -> Judged
     requires { SaysLengths p.now ext body × (4 + ext + body ≤ length p.now) × (16 ≤ body) }
     ensures { result ≡ judgement (with_tags (message_of p.now) date place) }
 {
@@ -278,8 +241,8 @@ fn judge_message(p: &[u8], ext: usize, body: usize, date: TradeDate, place: Pack
         if exact_run(&p[at + 16..at + body], be16(p, at + 12)) {
             return Judged {
                 verdict: Verdict::MessagePacket,
-                date: date,
-                place: place,
+                date,
+                place,
             };
         }
         return bare(Verdict::Against(Refusal::FieldRun));
@@ -297,19 +260,17 @@ fn judge_whole(p: &[u8], kind: u8, ext: usize, body: usize) -> Judged
     if is_skipped(kind, body) {
         return bare(Verdict::SkippedPacket);
     }
-    match read_tags(&p[4..4 + ext]) {
-        TagRun::Broken => bare(Verdict::Against(Refusal::BrokenTag)),
-        TagRun::Good { date, place } => {
-            if body == 0 {
-                return Judged {
-                    verdict: Verdict::LinkPacket,
-                    date: date,
-                    place: place,
-                };
-            }
-            judge_message(p, ext, body, date, place)
-        }
+    let Some(TagRun { date, place }) = read_tags(&p[4..4 + ext]) else {
+        return bare(Verdict::Against(Refusal::BrokenTag));
+    };
+    if body == 0 {
+        return Judged {
+            verdict: Verdict::LinkPacket,
+            date,
+            place,
+        };
     }
+    judge_message(p, ext, body, date, place)
 }
 
 // What the bytes from the front on are, with trade date and place of a link packet or a message packet: all that is
@@ -385,13 +346,10 @@ pub fn read_dated(p: &[u8]) -> Dated
     ensures { result ≡ dated_of p.now }
 {
     let j = judge(p);
-    let verdict = j.verdict;
-    let date = j.date;
-    let place = j.place;
     Dated {
-        packet: parts(p, verdict),
-        date: date,
-        place: place,
+        packet: parts(p, j.verdict),
+        date: j.date,
+        place: j.place,
     }
 }
 
@@ -399,54 +357,44 @@ pub fn read_dated(p: &[u8]) -> Dated
 pub fn read(p: &[u8]) -> Packet
     ensures { result ≡ read_of p.now }
 {
-    let j = judge(p);
-    let verdict = j.verdict;
-    parts(p, verdict)
+    parts(p, judge(p).verdict)
 }
 
 // A place in a part that starts at `base`, as a place in the whole.
-fn moved(base: usize, f: FieldPlace, room: usize) -> FieldPlace
+#[tactic(auto, unfolding(crate::specs::Packet::moved_by))]
+fn moved(base: usize, f: Option<FieldPlace>, room: usize) -> Option<FieldPlace>
     requires { FitsIn room f × (base + room ≤ 18446744073709551615) }
     ensures { result ≡ moved_by base f }
 {
-    match f {
-        FieldPlace::NoField => FieldPlace::NoField,
-        FieldPlace::Field { fid, start, len } => FieldPlace::Field {
-            fid: fid,
-            start: base + start,
-            len: len,
-        },
-    }
+    let found = f?;
+    Some(FieldPlace {
+        start: base + found.start,
+        ..found
+    })
 }
 
 // Field i of a message packet, counted from 0: FID, place and length; no field from the field count on,
 // and of bytes that are no message packet.
-pub fn find_field(p: &[u8], i: usize) -> FieldPlace
+pub fn find_field(p: &[u8], i: usize) -> Option<FieldPlace>
     ensures { (result ≡ field_of p.now i) × FieldInside p.now result }
 {
-    let j = judge(p);
-    let verdict = j.verdict;
-    match verdict {
-        Verdict::MessagePacket => {
-            let at = 4 + size8(p[1]) + 16;
-            let n = size16(be16(p, 2)) - 16;
-            moved(at, field_place(&p[at..at + n], i), n)
-        }
-        Verdict::TooFew => FieldPlace::NoField,
-        Verdict::LinkPacket => FieldPlace::NoField,
-        Verdict::SkippedPacket => FieldPlace::NoField,
-        Verdict::Against(_) => FieldPlace::NoField,
-    }
+    let Verdict::MessagePacket = judge(p).verdict else {
+        return None;
+    };
+    let at = 4 + size8(p[1]) + 16;
+    let n = size16(be16(p, 2)) - 16;
+    moved(at, field_place(&p[at..at + n], i), n)
 }
 
 // The bytes of field i, a part of the lent packet without FID and length; no bytes where there is no such field.
+#[tactic(auto, unfolding(crate::specs::Packet::field_bytes))]
 pub fn field(p: &[u8], i: usize) -> &[u8]
     ensures { result.now ≡ field_bytes p.now i }
 {
-    match find_field(p, i) {
-        FieldPlace::NoField => &p[..0],
-        FieldPlace::Field { fid: _, start, len } => &p[start..start + len],
-    }
+    let Some(FieldPlace { start, len, .. }) = find_field(p, i) else {
+        return &p[..0];
+    };
+    &p[start..start + len]
 }
 
 // The laws of reading, as a promise.

@@ -4,14 +4,14 @@ ghost use Rattle.std.specs.Prelude.{◌++◌, ◌≡◌, ◌+◌, ◌<◌, ◌�
 ghost use Rattle.ftd.specs.Runs.{front};
 ghost use Rattle.ftd.specs.Fields.{field, shaped, count_of};
 ghost use Rattle.ftd.specs.Items.{wrong_width, walk_of, check_of};
-ghost use Rattle.ftd.specs.Composition.{appendix_e, line_at, line_holds, all_hold, composed};
+ghost use Rattle.ftd.specs.Composition.{composed};
 ghost use Rattle.ftd.specs.Content.{content_check};
 ghost use Rattle.ftd.specs.Content.Helpers.{WholeFields, three, Within};
 
 use crate::bytes::{copy_at, size8};
-use crate::composition::{Direction, direction_number, line_allows, line_field, line_of};
+use crate::composition::{Direction, all_hold, direction_number};
 use crate::fields::{PACKET_CONTENT, count_field, field_size, is_shaped};
-use crate::items::{Checked, walk_items, wrong_width};
+use crate::items::{walk_items, wrong_width};
 use crate::refusal::Refusal;
 
 // ─── Three parts, of which the first two are whole fields ───
@@ -22,13 +22,7 @@ fn three_shaped(first: &[u8], across: &[u8], last: &[u8], limit: usize) -> bool
         × Within first.now across.now last.now limit }
     ensures { result ≡ shaped (three first.now across.now last.now) limit }
 {
-    if is_shaped(first, limit) {
-        if is_shaped(across, limit) {
-            return is_shaped(last, limit);
-        }
-        return false;
-    }
-    false
+    is_shaped(first, limit) && is_shaped(across, limit) && is_shaped(last, limit)
 }
 
 // Refusal 8: some field with a known FID has another width.
@@ -36,36 +30,26 @@ fn three_wrong_width(first: &[u8], across: &[u8], last: &[u8]) -> bool
     requires { WholeFields first.now × WholeFields across.now }
     ensures { result ≡ wrong_width (three first.now across.now last.now) }
 {
-    if wrong_width(first) {
-        return true;
-    }
-    if wrong_width(across) {
-        return true;
-    }
-    wrong_width(last)
+    wrong_width(first) || wrong_width(across) || wrong_width(last)
 }
 
 // Refusal 9: part by part, up to the first item that is wrong.
-fn three_walk(first: &[u8], across: &[u8], last: &[u8]) -> Checked
+fn three_walk(first: &[u8], across: &[u8], last: &[u8]) -> Result<(), Refusal>
     requires { WholeFields first.now × WholeFields across.now }
     ensures { result ≡ walk_of (three first.now across.now last.now) }
 {
-    match walk_items(first) {
-        Checked::Refused(r) => Checked::Refused(r),
-        Checked::Passed => match walk_items(across) {
-            Checked::Refused(r) => Checked::Refused(r),
-            Checked::Passed => walk_items(last),
-        },
-    }
+    walk_items(first)?;
+    walk_items(across)?;
+    walk_items(last)
 }
 
 // Refusal 8 over all fields first, then refusal 9.
-fn three_items(first: &[u8], across: &[u8], last: &[u8]) -> Checked
+fn three_items(first: &[u8], across: &[u8], last: &[u8]) -> Result<(), Refusal>
     requires { WholeFields first.now × WholeFields across.now }
     ensures { result ≡ check_of (three first.now across.now last.now) }
 {
     if three_wrong_width(first, across, last) {
-        return Checked::Refused(Refusal::FieldLength);
+        return Err(Refusal::FieldLength);
     }
     three_walk(first, across, last)
 }
@@ -77,52 +61,6 @@ fn three_count(first: &[u8], across: &[u8], last: &[u8], limit: usize, fid: u32)
     ensures { result ≡ count_of fid (three first.now across.now last.now) }
 {
     count_field(first, fid) + (count_field(across, fid) + count_field(last, fid))
-}
-
-// Line i of Appendix E, if it is of the message, has its field as often as it says.
-fn three_line(
-    i: usize,
-    tid: u32,
-    direction: u8,
-    first: &[u8],
-    across: &[u8],
-    last: &[u8],
-    limit: usize,
-) -> bool
-    requires { (i < 82) × WholeFields first.now × WholeFields across.now
-        × Within first.now across.now last.now limit }
-    ensures { result ≡ line_holds (line_at i) tid direction
-        (three first.now across.now last.now) }
-{
-    if line_of(i, tid, direction) {
-        return line_allows(i, three_count(first, across, last, limit, line_field(i)));
-    }
-    true
-}
-
-// All lines of Appendix E hold.
-fn three_hold(
-    tid: u32,
-    direction: u8,
-    first: &[u8],
-    across: &[u8],
-    last: &[u8],
-    limit: usize,
-) -> bool
-    requires { WholeFields first.now × WholeFields across.now
-        × Within first.now across.now last.now limit }
-    ensures { result ≡ all_hold appendix_e tid direction
-        (three first.now across.now last.now) }
-{
-    let mut i: usize = 0;
-    while i < 82 {
-        if three_line(i, tid, direction, first, across, last, limit) {
-            i += 1;
-        } else {
-            return false;
-        }
-    }
-    true
 }
 
 // Row 10: each field that Appendix E lists for the message occurs as often as listed.
@@ -139,10 +77,13 @@ fn three_composed(
     ensures { result ≡ composed tid direction
         (three first.now across.now last.now) }
 {
-    three_hold(tid, direction_number(direction), first, across, last, limit)
+    all_hold(tid, direction_number(direction), |fid| {
+        three_count(first, across, last, limit, fid)
+    })
 }
 
 // The content check of the three.
+#[tactic(auto, unfolding(crate::specs::Content::content_check))]
 fn check_three(
     tid: u32,
     direction: Direction,
@@ -150,30 +91,25 @@ fn check_three(
     across: &[u8],
     last: &[u8],
     limit: usize,
-) -> Checked
+) -> Result<(), Refusal>
     requires { WholeFields first.now × WholeFields across.now
         × Within first.now across.now last.now limit }
     ensures { result ≡ content_check tid direction
         (three first.now across.now last.now) limit }
 {
-    if three_shaped(first, across, last, limit) {
-        match three_items(first, across, last) {
-            Checked::Refused(r) => {
-                return Checked::Refused(r);
-            }
-            Checked::Passed => {
-                if three_composed(tid, direction, first, across, last, limit) {
-                    return Checked::Passed;
-                }
-                return Checked::Refused(Refusal::Composition);
-            }
-        }
+    if !three_shaped(first, across, last, limit) {
+        return Err(Refusal::FieldRun);
     }
-    Checked::Refused(Refusal::FieldRun)
+    three_items(first, across, last)?;
+    if !three_composed(tid, direction, first, across, last, limit) {
+        return Err(Refusal::Composition);
+    }
+    Ok(())
 }
 
 // ─── Two parts ───
 
+// Stays: it answers where the fields end, which `fields::Fields` does not yield.
 // How many bytes the whole fields at the front of a content take.
 fn whole_fields(content: &[u8]) -> usize
     ensures { (result ≤ length content.now) × WholeFields (take result content.now)
@@ -225,7 +161,7 @@ fn check_joined(
     more: &[u8],
     last: &[u8],
     limit: usize,
-) -> Checked
+) -> Result<(), Refusal>
     requires { WholeFields first.now × WholeFields (start.now ++ more.now)
         × (length start.now + length more.now ≤ 4080)
         × (length first.now + ((length start.now + length more.now) + length last.now) ≤ limit) }
@@ -247,18 +183,15 @@ fn check_across(
     start: &[u8],
     tail: &[u8],
     limit: usize,
-) -> Checked
+) -> Result<(), Refusal>
     requires { WholeFields first.now × (front field start.now ≡ 0) × (0 < length start.now)
         × Within first.now start.now tail.now limit }
     ensures { result ≡ content_check tid direction
         (three first.now start.now tail.now) limit }
 {
     let n = size_across(start, tail, start.len() + tail.len());
-    if n == 0 {
-        return Checked::Refused(Refusal::FieldRun);
-    }
-    if PACKET_CONTENT < n {
-        return Checked::Refused(Refusal::FieldRun);
+    if n == 0 || PACKET_CONTENT < n {
+        return Err(Refusal::FieldRun);
     }
     let more = n - start.len();
     check_joined(
@@ -279,14 +212,11 @@ pub fn check_parts(
     head: &[u8],
     tail: &[u8],
     limit: usize,
-) -> Checked
+) -> Result<(), Refusal>
     ensures { result ≡ content_check tid direction (head.now ++ tail.now) limit }
 {
-    if limit < head.len() {
-        return Checked::Refused(Refusal::FieldRun);
-    }
-    if limit - head.len() < tail.len() {
-        return Checked::Refused(Refusal::FieldRun);
+    if limit < head.len() || limit - head.len() < tail.len() {
+        return Err(Refusal::FieldRun);
     }
     let whole = whole_fields(head);
     if whole == head.len() {

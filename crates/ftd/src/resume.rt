@@ -6,8 +6,7 @@ ghost use Rattle.ftd.specs.Resume.{resume_of, resume_bytes, ResumeLaws};
 
 use crate::bytes::{be16, be32, put16, put32};
 use crate::fields::{FieldPlace, count_field, first_field};
-use crate::refusal::Refusal;
-use crate::write::Written;
+use crate::write::{WriteError, room};
 
 // Its FID.
 pub const FID: u32 = 0x0004;
@@ -26,26 +25,26 @@ pub enum Resume {
 }
 
 // The start field of a content: none, one with its values, or more.
+#[tactic(auto, unfolding(crate::specs::Resume::resume_of))]
 pub fn find_resume(content: &[u8]) -> Resume
     ensures { result ≡ resume_of content.now }
 {
     if 1 < count_field(content, FID) {
         return Resume::Several;
     }
-    match first_field(content, FID) {
-        FieldPlace::NoField => Resume::Absent,
-        FieldPlace::Field { fid: _, start, len } => {
-            if len == 6 {
-                return Resume::Next {
-                    series: be16(content, start),
-                    number: be32(content, start + 2),
-                };
-            }
-            Resume::Misshapen
-        }
+    let Some(FieldPlace { start, len, .. }) = first_field(content, FID) else {
+        return Resume::Absent;
+    };
+    if len != 6 {
+        return Resume::Misshapen;
+    }
+    Resume::Next {
+        series: be16(content, start),
+        number: be32(content, start + 2),
     }
 }
 
+// Stays: a struct for series and number would be made by each caller for this one step, and be taken apart here.
 // The start field for a series and a number, at a place of the output.
 pub(crate) fn put_resume(out: &mut [u8], at: usize, series: u16, number: u32)
     requires { at + 12 ≤ length out.old }
@@ -58,15 +57,13 @@ pub(crate) fn put_resume(out: &mut [u8], at: usize, series: u16, number: u32)
 }
 
 // The start field for a series and a number, at the start of the output.
-pub fn write_resume(series: u16, number: u32, out: &mut [u8]) -> Written
+pub fn write_resume(series: u16, number: u32, out: &mut [u8]) -> Result<usize, WriteError>
     ensures answer { result ≡ written_answer fine (resume_bytes series number) out.old }
     ensures output { out.new ≡ written_output fine (resume_bytes series number) out.old }
 {
-    if out.len() < 12 {
-        return Written::Refused(Refusal::TooSmall);
-    }
+    room(out, 12)?;
     put_resume(out, 0, series, number);
-    Written::Bytes(12)
+    Ok(12)
 }
 
 // The laws of the start field, as a promise.

@@ -10,13 +10,13 @@ ghost use Rattle.ftd.specs.Write.{written_answer, written_output, fit_verdict};
 use crate::bytes::{put8, size8};
 use crate::refusal::Refusal;
 use crate::values::{digit, is_float, is_number};
-use crate::write::Written;
+use crate::write::{WriteError, room};
 
 // A value, or none where the bytes are not one.
 #[derive(Clone, Copy)]
-pub enum Signed {
-    NoValue,
-    Value { negative: bool, units: u64 },
+pub struct Signed {
+    pub negative: bool,
+    pub units: u64,
 }
 
 // The number that the digits of a part make behind those of `start`.
@@ -26,10 +26,8 @@ fn digits(start: u64, s: &[u8], from: usize, to: usize) -> u64
         × (result + 1 ≤ (start + 1) * pow10 (to - from)) }
 {
     let mut n = start;
-    let mut i = from;
-    while i < to {
-        n = n * 10 + digit(s[i]) as u64;
-        i += 1;
+    for b in &s[from..to] {
+        n = n * 10 + digit(*b) as u64;
     }
     n
 }
@@ -43,53 +41,53 @@ fn units(s: &[u8], from: usize, point: usize, behind: usize) -> u64
 }
 
 // The value of the Number that the bytes up to the point and behind it make.
-fn value_of(s: &[u8], point: usize, behind: usize) -> Signed
+fn value_of(s: &[u8], point: usize, behind: usize) -> Option<Signed>
     requires { (1 ≤ point) × (point ≤ behind) × (behind ≤ length s.now) × (length s.now ≤ 18) }
     ensures { result ≡ signed_of (take point s.now ++ drop behind s.now) }
 {
     if s[0] == b'-' {
-        return Signed::Value {
+        return Some(Signed {
             negative: true,
             units: units(s, 1, point, behind),
-        };
+        });
     }
-    Signed::Value {
+    Some(Signed {
         negative: false,
         units: units(s, 0, point, behind),
-    }
+    })
 }
 
 // The bytes as a Number.
-pub fn read_number(s: &[u8]) -> Signed
+pub fn read_number(s: &[u8]) -> Option<Signed>
     ensures { result ≡ number_value s.now }
 {
     if 18 < s.len() {
-        return Signed::NoValue;
+        return None;
     }
     if is_number(s) {
         return value_of(s, s.len(), s.len());
     }
-    Signed::NoValue
+    None
 }
 
 // The bytes as a Float with that many decimals.
-pub fn read_float(scale: u8, s: &[u8]) -> Signed
+pub fn read_float(scale: u8, s: &[u8]) -> Option<Signed>
     ensures { result ≡ float_value scale s.now }
 {
     if 18 < s.len() {
-        return Signed::NoValue;
+        return None;
     }
     if is_float(scale, s) {
         let point = s.len() - (size8(scale) + 1);
         return value_of(s, point, point + 1);
     }
-    Signed::NoValue
+    None
 }
 
 // ─── Written ───
 
 // 10 to the power of 0 to 18.
-const POWER: [u64; 19] = [
+static POWER: [u64; 19] = [
     1,
     10,
     100,
@@ -125,102 +123,103 @@ pub(crate) fn put_digits(out: &mut [u8], at: usize, width: usize, units: u64)
     ensures { out.new ≡ put out.old at (digits_in width units) }
 {
     let mut left = units;
-    let mut i = width;
-    while 0 < i {
-        i -= 1;
-        put8(out, at + i, 48 + (left % 10) as u8);
-        left = left / 10;
+    for i in (0..width).rev() {
+        out[at + i] = b'0' + (left % 10) as u8;
+        left /= 10;
     }
 }
 
 // The bytes of a Number.
-fn put_number(out: &mut [u8], width: usize, negative: bool, units: u64)
+fn put_number(out: &mut [u8], width: usize, v: Signed)
     requires { (1 ≤ width) × (width ≤ length out.old) }
-    ensures { out.new ≡ put out.old 0 (number_bytes width negative units) }
+    ensures { out.new ≡ put out.old 0 (number_bytes width v.negative v.units) }
 {
-    if negative {
+    if v.negative {
         put8(out, 0, b'-');
-        put_digits(out, 1, width - 1, units);
+        put_digits(out, 1, width - 1, v.units);
         return;
     }
-    put_digits(out, 0, width, units);
+    put_digits(out, 0, width, v.units);
 }
 
 // A value fits a Number of a width.
-fn number_fits(width: usize, negative: bool, units: u64) -> bool
-    ensures { result ≡ number_fits width negative units }
+#[tactic(auto, unfolding(crate::specs::Signed::Write::number_fits))]
+fn number_fits(width: usize, v: Signed) -> bool
+    ensures { result ≡ number_fits width v.negative v.units }
 {
-    if 18 < width {
+    if width < 1 || 18 < width {
         return false;
     }
-    if width < 1 {
-        return false;
+    if v.negative {
+        return v.units != 0 && v.units < power(width - 1);
     }
-    if negative {
-        if units == 0 {
-            return false;
-        }
-        return units < power(width - 1);
-    }
-    units < power(width)
+    v.units < power(width)
 }
 
 // A value as a Number of a width.
-pub fn write_number(out: &mut [u8], width: usize, negative: bool, units: u64) -> Written
+pub fn write_number(
+    out: &mut [u8],
+    width: usize,
+    negative: bool,
+    units: u64,
+) -> Result<usize, WriteError>
     ensures answer { result ≡ written_answer (fit_verdict (number_fits width negative units)) (number_bytes width negative units)
         out.old }
     ensures output { out.new ≡ written_output (fit_verdict (number_fits width negative units))
         (number_bytes width negative units) out.old }
 {
-    if number_fits(width, negative, units) {
-        if out.len() < width {
-            return Written::Refused(Refusal::TooSmall);
-        }
-        put_number(out, width, negative, units);
-        return Written::Bytes(width);
+    let v = Signed { negative, units };
+    if !number_fits(width, v) {
+        return Err(WriteError::Refused(Refusal::Item));
     }
-    Written::Refused(Refusal::Item)
+    room(out, width)?;
+    put_number(out, width, v);
+    Ok(width)
 }
 
 // The bytes of a Float.
-fn put_float(out: &mut [u8], scale: usize, width: usize, negative: bool, units: u64)
+fn put_float(out: &mut [u8], scale: usize, width: usize, v: Signed)
     requires { (scale + 2 ≤ width) × (width ≤ 18) × (width ≤ length out.old) }
-    ensures { out.new ≡ put out.old 0 (float_bytes scale width negative units) }
+    ensures { out.new ≡ put out.old 0 (float_bytes scale width v.negative v.units) }
 {
     let point = width - (scale + 1);
-    put_number(out, point, negative, units / power(scale));
+    let whole = Signed {
+        units: v.units / power(scale),
+        ..v
+    };
+    put_number(out, point, whole);
     put8(out, point, b'.');
-    put_digits(out, point + 1, scale, units);
+    put_digits(out, point + 1, scale, v.units);
 }
 
 // A value fits a Float of a width with that many decimals.
-fn float_fits(scale: u8, width: usize, negative: bool, units: u64) -> bool
-    ensures { result ≡ float_fits scale width negative units }
+#[tactic(auto, unfolding(crate::specs::Signed::Write::float_fits))]
+fn float_fits(scale: u8, width: usize, v: Signed) -> bool
+    ensures { result ≡ float_fits scale width v.negative v.units }
 {
-    if width < size8(scale) + 2 {
-        return false;
-    }
-    if 18 < width {
-        return false;
-    }
-    number_fits(width - 1, negative, units)
+    size8(scale) + 2 <= width && width <= 18 && number_fits(width - 1, v)
 }
 
 // A value as a Float of a width, with that many decimals.
-pub fn write_float(out: &mut [u8], scale: u8, width: usize, negative: bool, units: u64) -> Written
+pub fn write_float(
+    out: &mut [u8],
+    scale: u8,
+    width: usize,
+    negative: bool,
+    units: u64,
+) -> Result<usize, WriteError>
     ensures answer { result ≡ written_answer (fit_verdict (float_fits scale width negative units))
         (float_bytes scale width negative units) out.old }
     ensures output { out.new ≡ written_output (fit_verdict (float_fits scale width negative units))
         (float_bytes scale width negative units) out.old }
 {
-    if float_fits(scale, width, negative, units) {
-        if out.len() < width {
-            return Written::Refused(Refusal::TooSmall);
-        }
-        put_float(out, size8(scale), width, negative, units);
-        return Written::Bytes(width);
+    let v = Signed { negative, units };
+    if !float_fits(scale, width, v) {
+        return Err(WriteError::Refused(Refusal::Item));
     }
-    Written::Refused(Refusal::Item)
+    room(out, width)?;
+    put_float(out, size8(scale), width, v);
+    Ok(width)
 }
 
 // The round trips of values, as a promise.
@@ -229,13 +228,6 @@ pub fn keeps_value_laws()
 {}
 
 // ─── As a signed integer ───
-
-// A signed number, or none.
-#[derive(Clone, Copy)]
-pub enum Integer {
-    NoInteger,
-    Number(i64),
-}
 
 // A magnitude as a signed number.
 fn above(units: u64) -> i64
@@ -246,41 +238,38 @@ fn above(units: u64) -> i64
 }
 
 // A value that was read, as a plain signed number of units.
-pub fn integer_of(v: Signed) -> Integer
+#[tactic(auto, unfolding(crate::specs::Signed::Integer::integer_of))]
+pub fn integer_of(v: Option<Signed>) -> Option<i64>
     ensures { result ≡ integer_of v }
 {
-    match v {
-        Signed::NoValue => Integer::NoInteger,
-        Signed::Value { negative, units } => {
-            if 999999999999999999 < units {
-                return Integer::NoInteger;
-            }
-            if negative {
-                return Integer::Number(0 - above(units));
-            }
-            Integer::Number(above(units))
-        }
+    let Signed { negative, units } = v?;
+    if 999999999999999999 < units {
+        return None;
     }
+    if negative {
+        return Some(-above(units));
+    }
+    Some(above(units))
 }
 
 // A plain signed number of units as a value to be written; none where it has more than 18 digits.
-pub fn from_integer(x: i64) -> Signed
+pub fn from_integer(x: i64) -> Option<Signed>
     ensures { result ≡ from_integer x }
 {
     if x < 0 {
         if x < -999999999999999999 {
-            return Signed::NoValue;
+            return None;
         }
-        return Signed::Value {
+        return Some(Signed {
             negative: true,
             units: (0 - x) as u64,
-        };
+        });
     }
     if 999999999999999999 < x {
-        return Signed::NoValue;
+        return None;
     }
-    Signed::Value {
+    Some(Signed {
         negative: false,
         units: x as u64,
-    }
+    })
 }

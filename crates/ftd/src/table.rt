@@ -2,7 +2,6 @@
 // A look-up takes no search: FIDs are 1 to 46, and START, COUNT and WIDE have an entry for each.
 ghost use Rattle.std.specs.Prelude.{◌≡◌, ◌+◌, ◌<◌, ◌≤◌};
 ghost use Rattle.ftd.specs.Table.Rule.{rows_place, TableRule, row_at};
-ghost use Rattle.ftd.specs.Table.Helpers.{kind_column, width_column, scale_column};
 
 use crate::bytes::{size8, size16};
 use crate::kinds::{
@@ -14,7 +13,7 @@ use crate::kinds::{
 pub(crate) const LAST_FID: u32 = 46;
 
 // The kind of each row (src/kinds.rt has their names; specs/Table.antt names the rows).
-pub(crate) const KIND: [u8; 379] = [
+static KIND: [u8; 379] = [
     STRING, // BulletinField NewsType: FTDNewsType
     BOOL_FLAG, // BulletinField NewsUrgency: FTDNewsUrgency
     STRING, // BulletinField SendTime: FTDTime
@@ -397,7 +396,7 @@ pub(crate) const KIND: [u8; 379] = [
 ];
 
 // The width of each row, in bytes.
-pub(crate) const WIDTH: [u16; 379] = [
+static WIDTH: [u16; 379] = [
     3, 1, 8, 80, 20, 10, 500, 200, 8, 8, 80, 1, 1, 8, 1, 8, 14, 14, 14, 14, 14, 14, 14, 14, 14, 14,
     14, 14, 14, 14, 14, 14, 14, 14, 14, 14, 14, 14, 14, 14, 2, 4, 10, 100, 20, 20, 24, 2, 4, 1,
     100, 10, 10, 1, 80, 1, 8, 8, 1, 8, 8, 1, 3, 1, 1, 4, 12, 4, 4, 4, 4, 1, 12, 4, 6, 1, 4, 10, 1,
@@ -415,7 +414,7 @@ pub(crate) const WIDTH: [u16; 379] = [
 ];
 
 // The decimals of each row: Float only, else 0.
-pub(crate) const SCALE: [u8; 379] = [
+static SCALE: [u8; 379] = [
     0, 0, 0, 0, 0, 0, 0, 0, 0, 0, 0, 0, 0, 0, 0, 0, 2, 2, 2, 2, 2, 2, 2, 2, 2, 2, 2, 2, 2, 2, 2, 2,
     2, 2, 2, 2, 2, 2, 2, 2, 0, 0, 0, 0, 0, 0, 0, 0, 0, 0, 0, 0, 0, 0, 0, 0, 0, 0, 0, 0, 0, 0, 0, 0,
     0, 0, 4, 2, 2, 0, 0, 0, 4, 0, 0, 0, 0, 0, 0, 0, 0, 0, 0, 0, 0, 4, 4, 4, 4, 4, 4, 0, 0, 0, 0, 0,
@@ -431,20 +430,20 @@ pub(crate) const SCALE: [u8; 379] = [
 ];
 
 // The first row of each field, by FID; 0 is no FID.
-const START: [u16; 47] = [
+static START: [u16; 47] = [
     0, 0, 8, 13, 40, 42, 49, 51, 77, 138, 125, 141, 147, 131, 167, 197, 201, 238, 83, 95, 274, 276,
     277, 279, 281, 285, 286, 283, 292, 293, 296, 282, 298, 306, 308, 310, 319, 322, 79, 326, 334,
     338, 341, 360, 366, 45, 47,
 ];
 
 // How many rows each field has, by FID.
-const COUNT: [u8; 47] = [
+static COUNT: [u8; 47] = [
     0, 8, 5, 27, 2, 3, 2, 26, 2, 3, 6, 6, 20, 7, 30, 4, 37, 36, 12, 30, 2, 1, 2, 2, 1, 1, 6, 2, 1,
     3, 2, 1, 8, 2, 2, 9, 3, 4, 4, 8, 4, 3, 19, 6, 13, 2, 2,
 ];
 
 // The width of each field in bytes, by FID.
-const WIDE: [u16; 47] = [
+static WIDE: [u16; 47] = [
     0, 822, 98, 353, 6, 130, 101, 201, 11, 15, 29, 71, 158, 33, 254, 90, 163, 155, 99, 252, 16, 8,
     20, 20, 10, 10, 62, 11, 8, 26, 18, 10, 78, 23, 23, 120, 24, 103, 93, 131, 44, 63, 166, 46, 186,
     44, 6,
@@ -482,26 +481,26 @@ pub(crate) fn wide_of(fid: usize) -> usize
     size16(WIDE[fid])
 }
 
-// Kind, width and decimals of a row. The columns are lent: a constant array is laid out anew at each use.
-pub(crate) fn kind_at(column: &[u8; 379], row: usize) -> u8
-    requires { (row < 379) × (column.now ≡ kind_column) }
+// Kind, width and decimals of a row.
+pub(crate) fn kind_at(row: usize) -> u8
+    requires { row < 379 }
     ensures { result ≡ (row_at row).kind }
 {
-    column[row]
+    KIND[row]
 }
 
-pub(crate) fn width_at(column: &[u16; 379], row: usize) -> usize
-    requires { (row < 379) × (column.now ≡ width_column) }
+pub(crate) fn width_at(row: usize) -> usize
+    requires { row < 379 }
     ensures { (result ≡ (row_at row).width) × (result < 65536) }
 {
-    size16(column[row])
+    size16(WIDTH[row])
 }
 
-pub(crate) fn scale_at(column: &[u8; 379], row: usize) -> u8
-    requires { (row < 379) × (column.now ≡ scale_column) }
+pub(crate) fn scale_at(row: usize) -> u8
+    requires { row < 379 }
     ensures { result ≡ (row_at row).scale }
 {
-    column[row]
+    SCALE[row]
 }
 
 // The rule of the table holds.

@@ -7,36 +7,16 @@ ghost use Rattle.ftd.specs.Tags.Helpers.{KnownRow, data_place, SeenTag};
 ghost use Rattle.ftd.specs.Bytes.{put};
 
 use crate::bytes::{be16, be32, put8, put16, put32, size8};
+use crate::packet::Span;
 
 // The length of each known tag's data: kinds 0x00 to 0x06, and 0x70.
-const LENGTH: [u8; 8] = [0, 4, 1, 1, 0, 4, 2, 2];
-
-// Where the data of a tag lies in the extension.
-#[derive(Clone, Copy)]
-pub enum TagPlace {
-    NoTag,
-    Data { start: usize, len: usize },
-}
-
-// The trade date (01: mark): tag 0x05, as a number of four bytes, or none.
-#[derive(Clone, Copy)]
-pub enum TradeDate {
-    None,
-    At(u32),
-}
-
-// A packet's place in its message, from 0: tag 0x70, as a number of two bytes, or none (02, No. 10).
-#[derive(Clone, Copy)]
-pub enum PacketPlace {
-    NoPlace,
-    Nth(u16),
-}
+static LENGTH: [u8; 8] = [0, 4, 1, 1, 0, 4, 2, 2];
 
 // What the extension check finds: refusal 2, or the trade date and the packet's place.
 #[derive(Clone, Copy)]
-pub enum TagRun {
-    Broken,
-    Good { date: TradeDate, place: PacketPlace },
+pub struct TagRun {
+    pub date: Option<u32>,
+    pub place: Option<u16>,
 }
 
 // How many bytes the tag at a place takes; 0 where none stands there whole.
@@ -75,10 +55,7 @@ pub fn length_right(kind: u8, len: u8) -> bool
     ensures { result ≡ length_right kind len }
 {
     let row = row_of(kind);
-    if row == 8 {
-        return true;
-    }
-    LENGTH[row] == len
+    row == 8 || LENGTH[row] == len
 }
 
 // One more where the kind is the one that is counted.
@@ -105,30 +82,30 @@ fn data_place(counted: u8, kind: u8, place: usize, at: usize) -> usize
 }
 
 // The trade date that a walk over the tags has seen: none, or one.
-fn seen_date(extension: &[u8], dates: usize, place: usize) -> TradeDate
+fn seen_date(extension: &[u8], dates: usize, place: usize) -> Option<u32>
     requires { SeenTag extension.now 0x05 4 dates place × (dates ≤ 1) }
     ensures { result ≡ trade_date_of extension.now }
 {
     if dates == 0 {
-        return TradeDate::None;
+        return None;
     }
-    TradeDate::At(be32(extension, place))
+    Some(be32(extension, place))
 }
 
 // The packet's place that it has seen.
-fn seen_place(extension: &[u8], places: usize, place: usize) -> PacketPlace
+fn seen_place(extension: &[u8], places: usize, place: usize) -> Option<u16>
     requires { SeenTag extension.now 0x70 2 places place × (places ≤ 1) }
     ensures { result ≡ packet_place_of extension.now }
 {
     if places == 0 {
-        return PacketPlace::NoPlace;
+        return None;
     }
-    PacketPlace::Nth(be16(extension, place))
+    Some(be16(extension, place))
 }
 
 // The extension check, the trade date and the packet's place, in one walk: tags end with the extension, known ones have
 // their lengths, 0x05 and 0x70 stand once at most.
-pub fn read_tags(extension: &[u8]) -> TagRun
+pub fn read_tags(extension: &[u8]) -> Option<TagRun>
     ensures { result ≡ tag_run_of extension.now }
 {
     let mut at: usize = 0;
@@ -139,130 +116,91 @@ pub fn read_tags(extension: &[u8]) -> TagRun
     loop {
         let n = tag_size(extension, at);
         if n == 0 {
-            if at < extension.len() {
-                return TagRun::Broken;
+            if at < extension.len() || 1 < dates || 1 < places {
+                return None;
             }
-            if 1 < dates {
-                return TagRun::Broken;
-            }
-            if 1 < places {
-                return TagRun::Broken;
-            }
-            return TagRun::Good {
+            return Some(TagRun {
                 date: seen_date(extension, dates, date),
                 place: seen_place(extension, places, place),
-            };
+            });
         }
         let kind = extension[at];
-        if length_right(kind, extension[at + 1]) {
-            dates = count_kind(0x05, kind, dates);
-            date = data_place(0x05, kind, date, at);
-            places = count_kind(0x70, kind, places);
-            place = data_place(0x70, kind, place, at);
-            at += n;
-        } else {
-            return TagRun::Broken;
+        if !length_right(kind, extension[at + 1]) {
+            return None;
         }
+        dates = count_kind(0x05, kind, dates);
+        date = data_place(0x05, kind, date, at);
+        places = count_kind(0x70, kind, places);
+        place = data_place(0x70, kind, place, at);
+        at += n;
     }
 }
 
-// The extension check alone, for the writers. (The readers' walk above has one caller, and is built into it.)
+// The extension check alone, for the writers.
+#[tactic(auto, unfolding(crate::specs::Tags::tag_run_of))]
 pub fn good_tags(extension: &[u8]) -> bool
     ensures { result ≡ good_tags extension.now }
 {
-    let mut at: usize = 0;
-    let mut dates: usize = 0;
-    let mut places: usize = 0;
-    loop {
-        let n = tag_size(extension, at);
-        if n == 0 {
-            if at < extension.len() {
-                return false;
-            }
-            if 1 < dates {
-                return false;
-            }
-            return places <= 1;
-        }
-        let kind = extension[at];
-        if length_right(kind, extension[at + 1]) {
-            dates = count_kind(0x05, kind, dates);
-            places = count_kind(0x70, kind, places);
-            at += n;
-        } else {
-            return false;
-        }
-    }
+    read_tags(extension).is_some()
 }
 
 // The data of the first tag of a kind.
-pub fn find_tag(extension: &[u8], kind: u8) -> TagPlace
+pub fn find_tag(extension: &[u8], kind: u8) -> Option<Span>
     ensures { (result ≡ tag_place extension.now kind) × TagInside extension.now result }
 {
     let mut at: usize = 0;
     loop {
         let n = tag_size(extension, at);
         if n == 0 {
-            return TagPlace::NoTag;
+            return None;
         }
         if extension[at] == kind {
-            return TagPlace::Data {
+            return Some(Span {
                 start: at + 2,
                 len: n - 2,
-            };
+            });
         }
         at += n;
     }
 }
 
 // The trade date that the extension bears: the first tag 0x05, if it has its four bytes.
-pub fn trade_date(extension: &[u8]) -> TradeDate
+#[tactic(auto, unfolding(crate::specs::Tags::trade_date_of))]
+pub fn trade_date(extension: &[u8]) -> Option<u32>
     ensures { result ≡ trade_date_of extension.now }
 {
-    match find_tag(extension, 0x05) {
-        TagPlace::NoTag => TradeDate::None,
-        TagPlace::Data { start, len } => {
-            if len == 4 {
-                return TradeDate::At(be32(extension, start));
-            }
-            TradeDate::None
-        }
+    let Span { start, len } = find_tag(extension, 0x05)?;
+    if len != 4 {
+        return None;
     }
+    Some(be32(extension, start))
 }
 
 // The extension has the keep-alive tag 0x04.
+#[tactic(auto, unfolding(crate::specs::Tags::keep_alive_of))]
 pub fn keep_alive(extension: &[u8]) -> bool
     ensures { result ≡ keep_alive_of extension.now }
 {
-    match find_tag(extension, 0x04) {
-        TagPlace::NoTag => false,
-        TagPlace::Data { start: _, len: _ } => true,
-    }
+    find_tag(extension, 0x04).is_some()
 }
 
 // The trade date as the only tag, or none.
-pub(crate) fn put_tags(out: &mut [u8], to: usize, date: TradeDate)
+pub(crate) fn put_tags(out: &mut [u8], to: usize, date: Option<u32>)
     requires { to + length (extension_bytes (tags_for date)) ≤ length out.old }
     ensures { out.new ≡ put out.old to (extension_bytes (tags_for date)) }
 {
-    match date {
-        TradeDate::None => {}
-        TradeDate::At(d) => {
-            put8(out, to, 0x05);
-            put8(out, to + 1, 4);
-            put32(out, to + 2, d);
-        }
+    if let Some(d) = date {
+        put8(out, to, 0x05);
+        put8(out, to + 1, 4);
+        put32(out, to + 2, d);
     }
 }
 
 // The bytes that it takes.
-pub(crate) fn tags_len(date: TradeDate) -> usize
+pub(crate) fn tags_len(date: Option<u32>) -> usize
     ensures { (result ≡ length (extension_bytes (tags_for date))) × (result ≤ 6) }
 {
-    match date {
-        TradeDate::None => 0,
-        TradeDate::At(_) => 6,
-    }
+    if date.is_some() { 6 } else { 0 }
 }
 
 // The tag of a packet's place.

@@ -12,7 +12,7 @@ use crate::kinds::{ACTION_FLAG, CHAR, DATE, FLOAT, INT, NUMBER, ORDER_TYPE, STRI
 
 // The values of the enumerations of Appendix B by kind, from the first to the last, with 0: eight entries for each, 1
 // where the value is listed.
-const LISTED: [u8; 80] = [
+static LISTED: [u8; 80] = [
     1, // ACTION_FLAG: 0 1 2
     1, 1, 0, 0, 0, 0, 0, 1, // BOOL_FLAG: 0 1
     1, 0, 0, 0, 0, 0, 0, 1, // FORCE_EXIT_CODE: 0
@@ -40,31 +40,11 @@ fn in_class(class: Class, b: u8) -> bool
     ensures { result ≡ in_class class b }
 {
     match class {
-        Class::Text => {
-            if b < b' ' {
-                return false;
-            }
-            b != 0x7F
-        }
-        Class::Digit => {
-            if b < b'0' {
-                return false;
-            }
-            b <= b'9'
-        }
+        Class::Text => b' ' <= b && b != 0x7F,
+        Class::Digit => b.is_ascii_digit(),
         Class::Zero => b == b'0',
         Class::Space => b == b' ',
     }
-}
-
-// Both hold.
-fn both(a: bool, b: bool) -> bool
-    ensures { result ≡ (a && b) }
-{
-    if a {
-        return b;
-    }
-    false
 }
 
 // All bytes of a part are of a class. No early end: many bytes at once are faster.
@@ -72,13 +52,9 @@ pub(crate) fn all_in(class: Class, s: &[u8], from: usize, to: usize) -> bool
     requires { (from ≤ to) × (to ≤ length s.now) }
     ensures { result ≡ every (in_class class) (drop from (take to s.now)) }
 {
-    let mut good = true;
-    let mut i = from;
-    while i < to {
-        good = both(good, in_class(class, s[i]));
-        i += 1;
-    }
-    good
+    s[from..to]
+        .iter()
+        .fold(true, |good, b| good & in_class(class, *b))
 }
 
 // The same of two parts: from `from` up to the point, and what stands behind it.
@@ -86,10 +62,7 @@ fn both_in(class: Class, s: &[u8], from: usize, point: usize, behind: usize) -> 
     requires { (from ≤ point) × (point ≤ behind) × (behind ≤ length s.now) }
     ensures { result ≡ every (in_class class) (drop from (take point s.now) ++ drop behind s.now) }
 {
-    if all_in(class, s, from, point) {
-        return all_in(class, s, behind, s.len());
-    }
-    false
+    all_in(class, s, from, point) && all_in(class, s, behind, s.len())
 }
 
 // The bytes up to the point and behind it are a Number.
@@ -98,13 +71,8 @@ fn is_signed(s: &[u8], point: usize, behind: usize) -> bool
     ensures { result ≡ is_number (take point s.now ++ drop behind s.now) }
 {
     if s[0] == b'-' {
-        if both_in(Class::Digit, s, 1, point, behind) {
-            if both_in(Class::Zero, s, 1, point, behind) {
-                return false;
-            }
-            return true;
-        }
-        return false;
+        return both_in(Class::Digit, s, 1, point, behind)
+            && !both_in(Class::Zero, s, 1, point, behind);
     }
     both_in(Class::Digit, s, 0, point, behind)
 }
@@ -113,10 +81,7 @@ fn is_signed(s: &[u8], point: usize, behind: usize) -> bool
 pub fn is_number(s: &[u8]) -> bool
     ensures { result ≡ is_number s.now }
 {
-    if s.len() == 0 {
-        return false;
-    }
-    is_signed(s, s.len(), s.len())
+    !s.is_empty() && is_signed(s, s.len(), s.len())
 }
 
 // The bytes are a Float with that many decimals.
@@ -128,20 +93,14 @@ pub fn is_float(scale: u8, s: &[u8]) -> bool
         return false;
     }
     let point = s.len() - (decimals + 1);
-    if s[point] == b'.' {
-        return is_signed(s, point, point + 1);
-    }
-    false
+    s[point] == b'.' && is_signed(s, point, point + 1)
 }
 
 // What a digit stands for; 0 for any other byte.
 pub(crate) fn digit(b: u8) -> u8
     ensures { (result ≡ digit_of b) × (result ≤ 9) }
 {
-    if b < b'0' {
-        return 0;
-    }
-    if b <= b'9' {
+    if b.is_ascii_digit() {
         return b - b'0';
     }
     0
@@ -176,16 +135,8 @@ fn is_real_day(s: &[u8]) -> bool
 pub fn is_date(s: &[u8]) -> bool
     ensures { result ≡ is_date s.now }
 {
-    if s.len() != 8 {
-        return false;
-    }
-    if all_in(Class::Space, s, 0, 8) {
-        return true;
-    }
-    if all_in(Class::Digit, s, 0, 8) {
-        return is_real_day(s);
-    }
-    false
+    s.len() == 8
+        && (all_in(Class::Space, s, 0, 8) || (all_in(Class::Digit, s, 0, 8) && is_real_day(s)))
 }
 
 // A byte is listed by an enumeration, or 0.
@@ -193,10 +144,7 @@ pub(crate) fn is_listed(kind: u8, b: u8) -> bool
     requires { (first_listed ≤ kind) × (kind ≤ last_listed) }
     ensures { result ≡ is_listed kind b }
 {
-    if 8 <= b {
-        return false;
-    }
-    LISTED[size8(kind - ACTION_FLAG) * 8 + size8(b)] == 1
+    b < 8 && LISTED[size8(kind - ACTION_FLAG) * 8 + size8(b)] == 1
 }
 
 // The bytes are a value of a type, by kind and decimals.
@@ -211,12 +159,7 @@ pub fn is_value(kind: u8, scale: u8, s: &[u8]) -> bool
         NUMBER => is_number(s),
         FLOAT => is_float(scale, s),
         DATE => is_date(s),
-        ACTION_FLAG..=ORDER_TYPE => {
-            if s.len() == 1 {
-                return is_listed(kind, s[0]);
-            }
-            false
-        }
+        ACTION_FLAG..=ORDER_TYPE => s.len() == 1 && is_listed(kind, s[0]),
         _ => false,
     }
 }

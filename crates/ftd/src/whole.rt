@@ -8,99 +8,76 @@ use crate::bytes::{be16, be32, number16, put8, put16, put32, wide32};
 use crate::kinds::{ACTION_FLAG, CHAR, ORDER_TYPE};
 use crate::refusal::Refusal;
 use crate::values::is_listed;
-use crate::write::Written;
-
-// A value, or none where the bytes are not one.
-#[derive(Clone, Copy)]
-pub enum Whole {
-    NoValue,
-    Value(u32),
-}
+use crate::write::{WriteError, room};
 
 // A byte is a value of a Char, by kind.
+#[tactic(auto, unfolding(crate::specs::Whole::char_fits))]
 pub fn char_fits(kind: u8, b: u8) -> bool
     ensures { result ≡ char_fits kind b }
 {
-    if kind == CHAR {
-        return true;
-    }
-    if kind < ACTION_FLAG {
-        return false;
-    }
-    if kind <= ORDER_TYPE {
-        return is_listed(kind, b);
-    }
-    false
+    kind == CHAR || (matches!(kind, ACTION_FLAG..=ORDER_TYPE) && is_listed(kind, b))
 }
 
 // The bytes as a Char of that kind.
-pub fn read_char(kind: u8, s: &[u8]) -> Whole
+#[tactic(auto, unfolding(crate::specs::Whole::char_value))]
+pub fn read_char(kind: u8, s: &[u8]) -> Option<u32>
     ensures { result ≡ char_value kind s.now }
 {
-    if s.len() == 1 {
-        if char_fits(kind, s[0]) {
-            return Whole::Value(wide32(s[0]));
-        }
-        return Whole::NoValue;
+    if s.len() == 1 && char_fits(kind, s[0]) {
+        return Some(wide32(s[0]));
     }
-    Whole::NoValue
+    None
 }
 
 // The bytes as a Word.
-pub fn read_word(s: &[u8]) -> Whole
+pub fn read_word(s: &[u8]) -> Option<u32>
     ensures { result ≡ word_value s.now }
 {
     if s.len() == 2 {
-        return Whole::Value(number16(be16(s, 0)));
+        return Some(number16(be16(s, 0)));
     }
-    Whole::NoValue
+    None
 }
 
 // The bytes as an Int.
-pub fn read_int(s: &[u8]) -> Whole
+pub fn read_int(s: &[u8]) -> Option<u32>
     ensures { result ≡ int_value s.now }
 {
     if s.len() == 4 {
-        return Whole::Value(be32(s, 0));
+        return Some(be32(s, 0));
     }
-    Whole::NoValue
+    None
 }
 
 // A byte as a Char of that kind.
-pub fn write_char(out: &mut [u8], kind: u8, b: u8) -> Written
+pub fn write_char(out: &mut [u8], kind: u8, b: u8) -> Result<usize, WriteError>
     ensures answer { result ≡ written_answer (fit_verdict (char_fits kind b)) (b ∷ []) out.old }
     ensures output { out.new ≡ written_output (fit_verdict (char_fits kind b)) (b ∷ []) out.old }
 {
-    if char_fits(kind, b) {
-        if out.len() < 1 {
-            return Written::Refused(Refusal::TooSmall);
-        }
-        put8(out, 0, b);
-        return Written::Bytes(1);
+    if !char_fits(kind, b) {
+        return Err(WriteError::Refused(Refusal::Item));
     }
-    Written::Refused(Refusal::Item)
+    room(out, 1)?;
+    put8(out, 0, b);
+    Ok(1)
 }
 
 // A number as a Word.
-pub fn write_word(out: &mut [u8], x: u16) -> Written
+pub fn write_word(out: &mut [u8], x: u16) -> Result<usize, WriteError>
     ensures answer { result ≡ written_answer (fit_verdict true) (bytes16 x) out.old }
     ensures output { out.new ≡ written_output (fit_verdict true) (bytes16 x) out.old }
 {
-    if out.len() < 2 {
-        return Written::Refused(Refusal::TooSmall);
-    }
+    room(out, 2)?;
     put16(out, 0, x);
-    Written::Bytes(2)
+    Ok(2)
 }
 
 // A number as an Int.
-pub fn write_int(out: &mut [u8], x: u32) -> Written
+pub fn write_int(out: &mut [u8], x: u32) -> Result<usize, WriteError>
     ensures answer { result ≡ written_answer (fit_verdict true) (bytes32 x) out.old }
     ensures output { out.new ≡ written_output (fit_verdict true) (bytes32 x) out.old }
 {
-    if out.len() < 4 {
-        return Written::Refused(Refusal::TooSmall);
-    }
+    room(out, 4)?;
     put32(out, 0, x);
-    Written::Bytes(4)
+    Ok(4)
 }

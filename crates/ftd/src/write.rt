@@ -1,6 +1,8 @@
 // Packets written into a lent output: the values as the reader gives them, refused as the reader would refuse the
 // result.
-ghost use Rattle.std.specs.Prelude.{◌||◌, ◌≡◌, ◌+◌, ◌<◌, ◌≤◌, length};
+ghost use Rattle.std.specs.Prelude.{◌||◌, ◌≡◌, ◌+◌, ◌<◌, ◌≤◌, length, cond, ltb, Ok, Err};
+ghost use Rattle.ftd.specs.declared.refusal.Refusal.TheVariants.{TooSmall};
+ghost use Rattle.ftd.specs.declared.write.WriteError.TheVariants.{Refused};
 ghost use Rattle.ftd.specs.Bytes.{put};
 ghost use Rattle.ftd.specs.Packet.{is_skipped};
 ghost use Rattle.ftd.specs.Tags.{good_tags};
@@ -15,14 +17,30 @@ use crate::packet::{Header, MOST_EXTENSION, is_skipped, letter, wrong_body};
 use crate::refusal::Refusal;
 use crate::tags::good_tags;
 
-// What a writer answers.
+// Why a writer writes nothing; otherwise it answers how many bytes stand at the start of the output.
 #[derive(Clone, Copy)]
-pub enum Written {
-    // So many bytes stand at the start of the output.
-    Bytes(usize),
+pub enum WriteError {
     Refused(Refusal),
     // The values are neither a link packet nor a skipped one; the refusal table has no number for it.
     NotPlain,
+}
+
+impl From<Refusal> for WriteError {
+    ghost from_gives = { λ r e. e ≡ Refused r };
+
+    fn from(r: Refusal) -> WriteError {
+        WriteError::Refused(r)
+    }
+}
+
+// Refusal 18: the output has no room for so many bytes.
+pub(crate) fn room(out: &[u8], n: usize) -> Result<(), Refusal>
+    ensures { result ≡ cond (ltb (length out.now) n) (Err TooSmall) (Ok tt) }
+{
+    if out.len() < n {
+        return Err(Refusal::TooSmall);
+    }
+    Ok(())
 }
 
 // The first four bytes of a packet.
@@ -40,10 +58,9 @@ fn put_header(out: &mut [u8], to: usize, h: Header, size: usize)
     requires { (to + 16 ≤ length out.old) × (size < 65536) }
     ensures { out.new ≡ put out.old to (header_bytes h size) }
 {
-    let c = h.chain;
     put8(out, to, 1);
     put32(out, to + 1, h.tid);
-    put8(out, to + 5, letter(c));
+    put8(out, to + 5, letter(h.chain));
     put16(out, to + 6, h.series);
     put32(out, to + 8, h.number);
     put16(out, to + 12, h.fields);
@@ -62,16 +79,11 @@ pub(crate) fn put_head(out: &mut [u8], to: usize, ext: usize, h: Header, size: u
 }
 
 // The values are a link packet or a skipped one.
+#[tactic(auto, unfolding(crate::specs::Write::is_plain))]
 fn is_plain(kind: u8, body: usize) -> bool
     ensures { result ≡ is_plain kind body }
 {
-    if 65535 < body {
-        return false;
-    }
-    if kind != 0x01 {
-        return true;
-    }
-    body == 0
+    body <= 65535 && (kind != 0x01 || body == 0)
 }
 
 // A packet at a place of the output.
@@ -99,67 +111,70 @@ fn put_message(out: &mut [u8], to: usize, h: Header, extension: &[u8], content: 
 }
 
 // A link packet (type 0x00 or 0x01, no body) or a skipped one (type 0x00 with a body, any other type).
-pub fn write_plain(kind: u8, extension: &[u8], body: &[u8], out: &mut [u8]) -> Written
+pub fn write_plain(
+    kind: u8,
+    extension: &[u8],
+    body: &[u8],
+    out: &mut [u8],
+) -> Result<usize, WriteError>
     ensures answer { result ≡ written_answer (plain_verdict kind extension.now body.now)
         (packet_bytes kind extension.now body.now) out.old }
     ensures output { out.new ≡ written_output (plain_verdict kind extension.now body.now)
         (packet_bytes kind extension.now body.now) out.old }
 {
     if MOST_EXTENSION < extension.len() {
-        return Written::Refused(Refusal::LongExtension);
+        return Err(WriteError::Refused(Refusal::LongExtension));
     }
-    if is_plain(kind, body.len()) {
-        if plain_tags(kind, extension, body.len()) {
-            let n = 4 + extension.len() + body.len();
-            if out.len() < n {
-                return Written::Refused(Refusal::TooSmall);
-            }
-            put_packet(out, 0, kind, extension, body);
-            return Written::Bytes(n);
+    if !is_plain(kind, body.len()) {
+        if wrong_body(kind, body.len()) {
+            return Err(WriteError::Refused(Refusal::BodyLength));
         }
-        return Written::Refused(Refusal::BrokenTag);
+        return Err(WriteError::NotPlain);
     }
-    if wrong_body(kind, body.len()) {
-        return Written::Refused(Refusal::BodyLength);
+    if !plain_tags(kind, extension, body.len()) {
+        return Err(WriteError::Refused(Refusal::BrokenTag));
     }
-    Written::NotPlain
+    let n = 4 + extension.len() + body.len();
+    room(out, n)?;
+    put_packet(out, 0, kind, extension, body);
+    Ok(n)
 }
 
 // The tags of a link packet are right; those of a skipped one are not looked at.
 fn plain_tags(kind: u8, extension: &[u8], body: usize) -> bool
     ensures { result ≡ (is_skipped kind body || good_tags extension.now) }
 {
-    if is_skipped(kind, body) {
-        return true;
-    }
-    good_tags(extension)
+    is_skipped(kind, body) || good_tags(extension)
 }
 
 // A message packet.
-pub fn write_message(h: Header, extension: &[u8], content: &[u8], out: &mut [u8]) -> Written
+pub fn write_message(
+    h: Header,
+    extension: &[u8],
+    content: &[u8],
+    out: &mut [u8],
+) -> Result<usize, WriteError>
     ensures answer { result ≡ written_answer (message_verdict h extension.now content.now)
         (message_bytes h extension.now content.now) out.old }
     ensures output { out.new ≡ written_output (message_verdict h extension.now content.now)
         (message_bytes h extension.now content.now) out.old }
 {
     if MOST_EXTENSION < extension.len() {
-        return Written::Refused(Refusal::LongExtension);
+        return Err(WriteError::Refused(Refusal::LongExtension));
     }
     if PACKET_CONTENT < content.len() {
-        return Written::Refused(Refusal::BodyLength);
+        return Err(WriteError::Refused(Refusal::BodyLength));
     }
-    if good_tags(extension) {
-        if exact_run(content, h.fields) {
-            let n = 4 + extension.len() + (16 + content.len());
-            if out.len() < n {
-                return Written::Refused(Refusal::TooSmall);
-            }
-            put_message(out, 0, h, extension, content);
-            return Written::Bytes(n);
-        }
-        return Written::Refused(Refusal::FieldRun);
+    if !good_tags(extension) {
+        return Err(WriteError::Refused(Refusal::BrokenTag));
     }
-    Written::Refused(Refusal::BrokenTag)
+    if !exact_run(content, h.fields) {
+        return Err(WriteError::Refused(Refusal::FieldRun));
+    }
+    let n = 4 + extension.len() + (16 + content.len());
+    room(out, n)?;
+    put_message(out, 0, h, extension, content);
+    Ok(n)
 }
 
 // The laws of writing, as a promise: both round trips, and refusals as the reader's.

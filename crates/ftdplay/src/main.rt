@@ -14,53 +14,50 @@ struct Reached {
     have: usize,
 }
 
-// Plays a line and prints its answer.
-fn print_line(
-    rt: &impl Print,
-    player: Player,
-    line: &[u8],
-    have: usize,
-    log: &mut [u8],
-    chain: &mut [u8],
-    bytes: &mut [u8],
-    out: &mut [u8],
-    text: &mut [u8],
-) -> io::Result<Player> {
-    let r = player.play(line, have, log, chain, bytes, out, text);
-    let n = r.len;
-    rt.write_all(&text[..n])?;
-    Ok(r.player)
+// A line of the script, and what playing it writes to.
+#[derive(Drop)]
+struct Buffers {
+    line: [u8; 140000],
+    log: [u8; 1048576],
+    chain: [u8; 262144],
+    bytes: [u8; 140000],
+    out: [u8; 65536],
+    text: [u8; 1048576],
+}
+
+// Plays the line, of so many bytes, and prints its answer.
+fn print_line(rt: &impl Print, now: Reached, b: &mut Buffers) -> io::Result<Reached> {
+    let played = now.player.play(
+        &b.line,
+        now.have,
+        &mut b.log,
+        &mut b.chain,
+        &mut b.bytes,
+        &mut b.out,
+        &mut b.text,
+    );
+    rt.write_all(&b.text[..played.len])?;
+    Ok(Reached {
+        player: played.player,
+        have: 0,
+    })
 }
 
 // Plays the lines that end in a piece of the input.
 fn print_piece(
     rt: &impl Print,
-    player: Player,
-    have: usize,
+    from: Reached,
     input: &[u8],
-    line: &mut [u8],
-    log: &mut [u8],
-    chain: &mut [u8],
-    bytes: &mut [u8],
-    out: &mut [u8],
-    text: &mut [u8],
+    b: &mut Buffers,
 ) -> io::Result<Reached> {
-    let mut now = Reached {
-        player: player,
-        have: have,
-    };
+    let mut now = from;
     let mut at: usize = 0;
     while at < input.len() {
-        let t = take_line(input, at, line, now.have);
+        let t = take_line(input, at, &mut b.line, now.have);
         at = t.at;
+        now.have = t.have;
         if t.whole {
-            let p = now.player;
-            now = Reached {
-                player: print_line(rt, p, line, t.have, log, chain, bytes, out, text)?,
-                have: 0,
-            };
-        } else {
-            now.have = t.have;
+            now = print_line(rt, now, b)?;
         }
     }
     Ok(now)
@@ -69,45 +66,27 @@ fn print_piece(
 fn main(rt: HostRuntime) -> io::Result<()> {
     let mut stdin = rt.reader();
     let mut input = [0u8; 65536];
-    let mut line = [0u8; 140000];
-    let mut log = [0u8; 1048576];
-    let mut chain = [0u8; 262144];
-    let mut bytes = [0u8; 140000];
-    let mut out = [0u8; 65536];
-    let mut text = [0u8; 1048576];
+    let mut buffers = Buffers {
+        line: [0; 140000],
+        log: [0; 1048576],
+        chain: [0; 262144],
+        bytes: [0; 140000],
+        out: [0; 65536],
+        text: [0; 1048576],
+    };
     let mut now = Reached {
         player: Player::fresh(),
         have: 0,
     };
-    let mut turns: u32 = 4294967295;
-    while turns > 0 {
+    for _ in 0..4294967295u32 {
         let n = read_full(&mut stdin, &mut input)?;
         if n == 0 {
-            turns = 0;
-        } else {
-            let p = now.player;
-            let have = now.have;
-            now = print_piece(
-                &rt,
-                p,
-                have,
-                &input[..n],
-                &mut line,
-                &mut log,
-                &mut chain,
-                &mut bytes,
-                &mut out,
-                &mut text,
-            )?;
-            turns -= 1;
+            break;
         }
+        now = print_piece(&rt, now, &input[..n], &mut buffers)?;
     }
-    let p = now.player;
-    let have = now.have;
-    if have > 0 {
-        print_line(
-            &rt, p, &line, have, &mut log, &mut chain, &mut bytes, &mut out, &mut text,
-        )?;
+    if now.have > 0 {
+        print_line(&rt, now, &mut buffers)?;
     }
     Ok(())
 }

@@ -14,6 +14,7 @@ use ftd::packet::{Packet, letter, read, said_length};
 use ftd::refusal::number;
 use ftd::tags::keep_alive;
 
+// Stays: three outcomes that callers tell apart, with other values each, as `answer_of` of specs/Lines.antt names them.
 // What became of a line: too little room for it, the last one with its length, or its length and where the next packet
 // starts.
 #[derive(Clone, Copy)]
@@ -47,10 +48,10 @@ pub fn put_decimal(out: &mut [u8], at: usize, x: usize) -> usize
     ensures { WroteText out.old at (decimal_of x) out.new result }
 {
     if x < 10 {
-        return put_byte(out, at, 48 + x as u8);
+        return put_byte(out, at, b'0' + x as u8);
     }
     let last = put_decimal(out, at, x / 10);
-    put_byte(out, last, 48 + (x % 10) as u8)
+    put_byte(out, last, b'0' + (x % 10) as u8)
 }
 
 // A hexadecimal digit.
@@ -58,10 +59,7 @@ fn hex_digit(d: u8) -> u8
     requires { d < 16 }
     ensures { result ≡ hex_digit d }
 {
-    if d < 10 {
-        return 48 + d;
-    }
-    55 + d
+    if d < 10 { b'0' + d } else { b'A' + (d - 10) }
 }
 
 // The last `digits` digits of a number in hexadecimal.
@@ -81,7 +79,7 @@ fn put_tabbed(out: &mut [u8], at: usize, x: usize) -> usize
     requires { at + 1 + length (decimal_of x) ≤ length out.old }
     ensures { WroteText out.old at (tabbed x) out.new result }
 {
-    let n = put_byte(out, at, 9);
+    let n = put_byte(out, at, b'\t');
     put_decimal(out, n, x)
 }
 
@@ -101,7 +99,7 @@ fn put_start(out: &mut [u8], at: usize, tid: u32, letter: u8) -> usize
 {
     let n = put_word(out, at, b"msg\t");
     let n = put_hex(out, n, tid, 8);
-    let n = put_byte(out, n, 9);
+    let n = put_byte(out, n, b'\t');
     put_byte(out, n, letter)
 }
 
@@ -130,10 +128,7 @@ fn is_heart(p: &[u8], kind: u8, start: usize, len: usize) -> bool
     requires { start + len ≤ length p.now }
     ensures { result ≡ is_heart p.now kind start len }
 {
-    if kind != 0 {
-        return false;
-    }
-    keep_alive(&p[start..start + len])
+    kind == 0 && keep_alive(&p[start..start + len])
 }
 
 // The field of a link packet.
@@ -143,9 +138,10 @@ fn put_link(out: &mut [u8], at: usize, p: &[u8], kind: u8, start: usize, len: us
         × (result ≤ at + 5) }
 {
     if is_heart(p, kind, start, len) {
-        return put_word(out, at, b"heart");
+        put_word(out, at, b"heart")
+    } else {
+        put_word(out, at, b"link")
     }
-    put_word(out, at, b"link")
 }
 
 // The fields behind the offset, for what was read of the bytes p.
@@ -164,19 +160,16 @@ fn put_packet(out: &mut [u8], at: usize, p: &[u8], found: Packet) -> usize
             extension.start,
             extension.len,
         ),
-        Packet::Skipped {
-            kind: _,
-            extension: _,
-            body: _,
-        } => put_word(out, at, b"skip"),
-        Packet::Message {
-            header: h,
-            extension: _,
-            content: _,
-        } => {
-            let chain = h.chain;
-            put_message(out, at, h.tid, letter(chain), h.series, h.number, h.fields)
-        }
+        Packet::Skipped { .. } => put_word(out, at, b"skip"),
+        Packet::Message { header: h, .. } => put_message(
+            out,
+            at,
+            h.tid,
+            letter(h.chain),
+            h.series,
+            h.number,
+            h.fields,
+        ),
         Packet::Refused(r) => put_refused(out, at, number(r)),
     }
 }
@@ -187,7 +180,7 @@ fn begin_line(out: &mut [u8], offset: usize) -> usize
     ensures { WroteText out.old 0 (decimal_of offset ++ tab) out.new result × (result ≤ 21) }
 {
     let n = put_decimal(out, 0, offset);
-    put_byte(out, n, 9)
+    put_byte(out, n, b'\t')
 }
 
 // A line of an offset and a word.
@@ -197,7 +190,7 @@ fn word_line(out: &mut [u8], offset: usize, word: &[u8]) -> usize
 {
     let n = begin_line(out, offset);
     let n = put_word(out, n, word);
-    put_byte(out, n, 10)
+    put_byte(out, n, b'\n')
 }
 
 // The line of a packet.
@@ -208,31 +201,14 @@ fn packet_line(out: &mut [u8], offset: usize, p: &[u8], found: Packet) -> usize
 {
     let n = begin_line(out, offset);
     let n = put_packet(out, n, p, found);
-    put_byte(out, n, 10)
+    put_byte(out, n, b'\n')
 }
 
 // Another line follows: the packet is there whole.
 fn goes_on(found: Packet) -> bool
     ensures { result ≡ goes_on found }
 {
-    match found {
-        Packet::Short(_) => false,
-        Packet::Link {
-            kind: _,
-            extension: _,
-        } => true,
-        Packet::Skipped {
-            kind: _,
-            extension: _,
-            body: _,
-        } => true,
-        Packet::Message {
-            header: _,
-            extension: _,
-            content: _,
-        } => true,
-        Packet::Refused(_) => false,
-    }
+    !matches!(found, Packet::Short(_) | Packet::Refused(_))
 }
 
 // The line at a place inside the capture.
@@ -245,12 +221,13 @@ fn line_inside(capture: &[u8], at: usize, out: &mut [u8]) -> Line
     let found = read(p);
     let len = packet_line(out, at, p, found);
     if goes_on(found) {
-        return Line::More {
+        Line::More {
             len,
             next: at + said_length(p),
-        };
+        }
+    } else {
+        Line::Last(len)
     }
-    Line::Last(len)
 }
 
 // Writes the line at a place of a capture to the start of a buffer. `more` says that the input goes on behind the

@@ -7,7 +7,6 @@ use Rattle.std.proofs.Math.ListN.{get_elem?}
 use Rattle.ftd.specs.Chain.{packets_of}
 use Rattle.ftd.specs.Login.{login_bytes}
 use Rattle.ftd.specs.Bench.{same}
-use Rattle.ftd.specs.declared.tags.TradeDate.TheVariants.{At}
 use Rattle.flow.specs.declared.receiver.Receiver.{Receiver}
 use Rattle.flow.specs.declared.receiver.Received.{Received}
 use Rattle.flow.specs.Ends.{Wrote}
@@ -20,6 +19,7 @@ use Rattle.flow.specs.World.{request_login, confirm_login, receive, broken, tran
 use Rattle.flow.specs.Agreement.{of, published_on, handed_on, reported, CaughtUp}
 use Rattle.flow.specs.PacketByPacket.{shown}
 use Rattle.flow.specs.Bench.{numbers, req_login, rsp_login, tid, note, space, at_last}
+use Rattle.std.specs.Prelude.{Some}
 
 -- ─── Contents ───
 
@@ -269,7 +269,7 @@ two_logins_end = run behind_three late
 
 -- What each login answered.
 abbrev pub last_answer : List ℕ
-last_answer = login_bytes (At 7) rsp_login
+last_answer = login_bytes (Some 7) rsp_login
 
 unfoldable pub two_logins_refusals : List ℕ
 two_logins_refusals = 13 ∷ 13 ∷ 14 ∷ 13 ∷ 14 ∷ 15 ∷ 18 ∷ 16 ∷ 11 ∷ 11 ∷ []
@@ -359,7 +359,7 @@ one_packet_shown w =
 
 -- Packet j of a2, as number 1 of series 1.
 abbrev pub piece_of : ℕ → List ℕ
-piece_of j = get_or (packets_of (record { date = At 7; tid = tid; series = 1; number = 1; counted = true }) a2) j []
+piece_of j = get_or (packets_of (record { date = Some 7; tid = tid; series = 1; number = 1; counted = true }) a2) j []
 
 -- F with the whole buffer; C with none; L with the whole buffer again.
 unfoldable pub behind_first : Wrote Receiver Received

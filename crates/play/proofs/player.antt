@@ -1,5 +1,4 @@
 -- The laws of the player.
-pub mod Turns
 pub mod Shown
 pub mod Plays
 pub mod Room

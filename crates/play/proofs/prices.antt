@@ -1,3 +1,2 @@
 -- The laws of prices as text.
-pub mod Sizes
 pub mod Lines

@@ -4,52 +4,25 @@ use Rattle.ftd.specs.Signed.{pow10}
 use Rattle.ftd.specs.Signed.Write.{digits_in}
 use Rattle.ftd.specs.Refusal.{number_of}
 use Rattle.ftd.specs.declared.refusal.Refusal.{Refusal}
-use Rattle.flow.specs.declared.sender.Opened.{Opened}
-use Rattle.flow.specs.declared.sender.Opened.TheVariants.{Done}
-use Rattle.flow.specs.declared.sender.Opened.TheVariants.{Refused as NotOpened}
-use Rattle.flow.specs.declared.sender.Published.{Published}
-use Rattle.flow.specs.declared.sender.Published.TheVariants.{Number}
-use Rattle.flow.specs.declared.sender.Published.TheVariants.{Refused as NotPublished}
-use Rattle.flow.specs.declared.sender.LoggedIn.{LoggedIn}
-use Rattle.flow.specs.declared.sender.LoggedIn.TheVariants.{Wrote as Answered}
-use Rattle.flow.specs.declared.sender.LoggedIn.TheVariants.{Refused as NotIn}
-use Rattle.flow.specs.declared.sender.Sent.{Sent}
-use Rattle.flow.specs.declared.sender.Sent.TheVariants.{Drained}
-use Rattle.flow.specs.declared.sender.Sent.TheVariants.{Wrote as MessageSent}
-use Rattle.flow.specs.declared.sender.Sent.TheVariants.{Refused as NotSent}
-use Rattle.flow.specs.declared.sender.SentPacket.{SentPacket}
-use Rattle.flow.specs.declared.sender.SentPacket.TheVariants.{Drained as NoPacket}
-use Rattle.flow.specs.declared.sender.SentPacket.TheVariants.{Wrote as PacketSent}
-use Rattle.flow.specs.declared.sender.SentPacket.TheVariants.{Refused as NotPacket}
-use Rattle.flow.specs.declared.receiver.Requested.{Requested}
-use Rattle.flow.specs.declared.receiver.Requested.TheVariants.{Wrote as Asked}
-use Rattle.flow.specs.declared.receiver.Requested.TheVariants.{Refused as NotAsked}
-use Rattle.flow.specs.declared.receiver.Confirmed.{Confirmed}
-use Rattle.flow.specs.declared.receiver.Confirmed.TheVariants.{Last}
-use Rattle.flow.specs.declared.receiver.Confirmed.TheVariants.{Refused as NotConfirmed}
+use Rattle.flow.specs.Types.{Opened}
+use Rattle.flow.specs.Types.{Published}
+use Rattle.flow.specs.Types.{LoggedIn}
+use Rattle.flow.specs.Types.{Requested}
+use Rattle.flow.specs.Types.{Confirmed}
 use Rattle.flow.specs.declared.receiver.Received.{Received}
 use Rattle.flow.specs.declared.receiver.Received.TheVariants.{Idle, Duplicate, Partial, Complete}
 use Rattle.flow.specs.declared.receiver.Received.TheVariants.{Refused as NotTaken}
-use Rattle.flow.specs.declared.checkpoint.Saved.{Saved}
-use Rattle.flow.specs.declared.checkpoint.Saved.TheVariants.{Done as IsSaved}
-use Rattle.flow.specs.declared.checkpoint.Saved.TheVariants.{Refused as NotSaved}
-use Rattle.flow.specs.declared.checkpoint.Restored.{Restored}
-use Rattle.flow.specs.declared.checkpoint.Restored.TheVariants.{Done as IsRestored}
-use Rattle.flow.specs.declared.checkpoint.Restored.TheVariants.{Refused as NotRestored}
-use Rattle.calendar.specs.declared.trading.SetAnswer.{SetAnswer}
-use Rattle.calendar.specs.declared.trading.SetAnswer.TheVariants.{Done as IsSet}
-use Rattle.calendar.specs.declared.trading.SetAnswer.TheVariants.{Refused as NotSet}
-use Rattle.calendar.specs.declared.trading.TradeTime.{TradeTime}
-use Rattle.calendar.specs.declared.trading.TradeTime.TheVariants.{Outside, Inside}
-use Rattle.book.specs.declared.calls.Outcome.{Outcome}
-use Rattle.book.specs.declared.calls.Outcome.TheVariants.{Done as IsDone}
-use Rattle.book.specs.declared.calls.Outcome.TheVariants.{Refused as NotDone}
-use Rattle.book.specs.declared.levels.Listed.{Listed}
-use Rattle.book.specs.declared.levels.Listed.TheVariants.{NoLevel, At}
-use Rattle.book.specs.declared.sums.Mean.{Mean}
-use Rattle.book.specs.declared.sums.Mean.TheVariants.{NoMean, Price}
+use Rattle.flow.specs.Types.{Saved}
+use Rattle.flow.specs.Types.{Restored}
+use Rattle.calendar.specs.Types.{SetAnswer}
+use Rattle.calendar.specs.Types.{TradeTime}
+use Rattle.book.specs.Types.{Outcome}
+use Rattle.book.specs.Types.{Mean}
 use Rattle.flow.specs.Answers.{content_in}
 use Rattle.listing.specs.Text.{decimal_of, hex_of, hex8_of, newline, refused}
+use Rattle.std.specs.Prelude.{Some, None, Ok, Err}
+use Rattle.flow.specs.Types.{SendAnswer, PacketSent}
+use Rattle.book.specs.Types.{MaybeLevel}
 
 -- Bytes as pairs of upper-case hexadecimal digits.
 unfoldable pub hex_bytes : List ℕ → List ℕ
@@ -152,45 +125,49 @@ mean = 109 ∷ 101 ∷ 97 ∷ 110 ∷ []
 unfoldable pub refused_line : Refusal → List ℕ
 refused_line r = word_line (numbered refused (number_of r))
 
--- `opened`, or `refused` and the number.
+-- Of an answer that says no more than a refusal: the word meant, or `refused` and the number.
+abbrev pub outcome_line : List ℕ → Outcome → List ℕ
+outcome_line word (Ok tt) = word_line word
+outcome_line word (Err r) = refused_line r
+
+-- `opened`.
 abbrev pub opened_line : Opened → List ℕ
-opened_line Done = word_line opened
-opened_line (NotOpened r) = refused_line r
+opened_line x = outcome_line opened x
 
 -- `published` and the message's number.
 abbrev pub published_line : Published → List ℕ
-published_line (Number k) = word_line (numbered published k)
-published_line (NotPublished r) = refused_line r
+published_line (Ok k) = word_line (numbered published k)
+published_line (Err r) = refused_line r
 
 -- `login`, how many bytes were written, and these bytes of the output.
 abbrev pub login_answer_line : List ℕ → LoggedIn → List ℕ
-login_answer_line out (Answered n) = bytes_line login gap (take n out)
-login_answer_line out (NotIn r) = refused_line r
+login_answer_line out (Ok n) = bytes_line login gap (take n out)
+login_answer_line out (Err r) = refused_line r
 
 -- `sent` likewise, or `none`.
-abbrev pub sent_line : List ℕ → Sent → List ℕ
-sent_line out Drained = word_line none
-sent_line out (MessageSent k n) = bytes_line sent gap (take n out)
-sent_line out (NotSent r) = refused_line r
+abbrev pub sent_line : List ℕ → SendAnswer → List ℕ
+sent_line out (Ok None) = word_line none
+sent_line out (Ok (Some found)) = bytes_line sent gap (take found.len out)
+sent_line out (Err r) = refused_line r
 
 -- `packet` likewise, with `last` or `more` before the bytes: whether it is its message's last; or `none`.
 unfoldable pub packet_line : Bool → List ℕ → List ℕ
 packet_line is_last bytes = bytes_line packet (cond is_last last_gap more_gap) bytes
 
-abbrev pub sent_packet_line : List ℕ → SentPacket → List ℕ
-sent_packet_line out NoPacket = word_line none
-sent_packet_line out (PacketSent k n is_last) = packet_line is_last (take n out)
-sent_packet_line out (NotPacket r) = refused_line r
+abbrev pub sent_packet_line : List ℕ → PacketSent → List ℕ
+sent_packet_line out (Ok None) = word_line none
+sent_packet_line out (Ok (Some found)) = packet_line found.last (take found.len out)
+sent_packet_line out (Err r) = refused_line r
 
 -- `asked`, how many bytes were written, and these bytes of the output.
 abbrev pub requested_line : List ℕ → Requested → List ℕ
-requested_line out (Asked n) = bytes_line asked gap (take n out)
-requested_line out (NotAsked r) = refused_line r
+requested_line out (Ok n) = bytes_line asked gap (take n out)
+requested_line out (Err r) = refused_line r
 
 -- `answered` and the series' last number.
 abbrev pub confirmed_line : Confirmed → List ℕ
-confirmed_line (Last k) = word_line (numbered answered k)
-confirmed_line (NotConfirmed r) = refused_line r
+confirmed_line (Ok k) = word_line (numbered answered k)
+confirmed_line (Err r) = refused_line r
 
 -- `message`, the number, which is the series' last now, TID and content.
 unfoldable pub message_start : ℕ → ℕ → List ℕ
@@ -220,25 +197,22 @@ Passing (NotTaken r) at to = Unit {0}
 
 -- `kept`, or `refused` and the number.
 abbrev pub saved_line : Saved → List ℕ
-saved_line IsSaved = word_line kept
-saved_line (NotSaved r) = refused_line r
+saved_line x = outcome_line kept x
 
 -- `returned`, or `refused` and the number.
 abbrev pub restored_line : Restored → List ℕ
-restored_line IsRestored = word_line returned
-restored_line (NotRestored r) = refused_line r
+restored_line x = outcome_line returned x
 
 -- ─── The calendar's answers ───
 
 -- `set`, or `refused` and the number.
 abbrev pub set_line : SetAnswer → List ℕ
-set_line IsSet = word_line set
-set_line (NotSet r) = refused_line r
+set_line x = outcome_line set x
 
 -- `inside` and the trade date, or `outside`.
 abbrev pub time_line : TradeTime → List ℕ
-time_line Outside = word_line outside
-time_line (Inside d) = word_line (numbered inside d)
+time_line None = word_line outside
+time_line (Some d) = word_line (numbered inside d)
 
 -- `date` and the date.
 abbrev pub date_line : ℕ → List ℕ
@@ -262,11 +236,6 @@ price_text (negsuc n) = (0x2D ∷ []) ++ units_text (suc n)
 unfoldable pub priced : List ℕ → ℤ → List ℕ
 priced word p = word ++ gap ++ price_text p
 
--- The word meant (`started` of Start, `taken` of Take), or `refused` and the number.
-abbrev pub outcome_line : List ℕ → Outcome → List ℕ
-outcome_line word IsDone = word_line word
-outcome_line word (NotDone r) = refused_line r
-
 unfoldable pub spaced : ℕ → List ℕ
 spaced n = gap ++ decimal_of n
 
@@ -277,11 +246,11 @@ unfoldable pub price_line : ℤ → List ℕ
 price_line p = word_line (priced mean p)
 
 -- `level`, price and quantity, or `none`.
-abbrev pub level_line : Listed → List ℕ
-level_line NoLevel = word_line none
-level_line (At p n) = pair_line p n
+abbrev pub level_line : MaybeLevel → List ℕ
+level_line None = word_line none
+level_line (Some found) = pair_line found.price found.quantity
 
 -- `mean` and the price, or `none`.
 abbrev pub mean_line : Mean → List ℕ
-mean_line NoMean = word_line none
-mean_line (Price p) = price_line p
+mean_line None = word_line none
+mean_line (Some p) = price_line p

@@ -1,7 +1,6 @@
 -- Both ends and the named places as lines, for people.
 use Rattle.std.specs.Prelude.{ℕ, zero, suc, ◌/◌, ◌%◌, List, [], ◌∷◌, ◌++◌, Bool, cond, length, get_or, ltb, eqb}
-use Rattle.ftd.specs.declared.tags.TradeDate.{TradeDate}
-use Rattle.ftd.specs.declared.tags.TradeDate.TheVariants.{None, At}
+use Rattle.ftd.specs.Types.{TradeDate}
 use Rattle.flow.specs.declared.sender.DaySeries.{DaySeries}
 use Rattle.flow.specs.declared.sender.Place.{Place}
 use Rattle.flow.specs.declared.sender.Sender.{Sender}
@@ -15,6 +14,7 @@ use Rattle.flow.specs.Ends.{no_series, no_place, new_kept, no_live}
 use Rattle.flow.specs.Checkpoints.{most_letters, used_names}
 use Rattle.listing.specs.Text.{decimal_of}
 use Rattle.play.specs.Lines.{gap, word_line, numbered, none}
+use Rattle.std.specs.Prelude.{Some, None}
 
 -- ─── Words ───
 
@@ -69,7 +69,7 @@ place_gap = 112 ∷ 108 ∷ 97 ∷ 99 ∷ 101 ∷ 32 ∷ []
 -- A trade date, or `none`.
 abbrev pub date_text : TradeDate → List ℕ
 date_text None = none
-date_text (At d) = decimal_of d
+date_text (Some d) = decimal_of d
 
 -- The lines of the first n places.
 unfoldable pub lines_up_to : (ℕ → List ℕ) → ℕ → List ℕ

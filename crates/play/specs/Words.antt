@@ -1,7 +1,7 @@
 -- The words of a script's line: what a word says as a number, as a TID, as bytes.
 use Rattle.std.specs.Prelude.{ℕ, zero, suc, ◌+◌, ◌-◌, ◌*◌, ◌%◌, List, [], ◌∷◌, ◌++◌, Bool, true, false, cond, length, get_or, take, drop, ltb, leb, eqb}
-use Rattle.play.specs.declared.words.Wide.{Wide}
-use Rattle.play.specs.declared.words.Wide.TheVariants.{Missing, Number}
+use Rattle.play.specs.Types.{Wide}
+use Rattle.std.specs.Prelude.{Some, None}
 
 -- ─── Where a word ends ───
 
@@ -47,23 +47,23 @@ tid_in word = cond (eqb (length word) 8) (number_in 16 word) no_number
 
 -- A number n and the decimal digits behind it; one that eight bytes do not hold is none.
 unfoldable pub wide_from : ℕ → List ℕ → Wide
-wide_from n [] = Number n
+wide_from n [] = Some n
 wide_from n (x ∷ l) =
-    cond (leb 10 (digit_value x)) Missing
-    (cond (ltb 18446744073709551615 (n * 10 + digit_value x)) Missing (wide_from (n * 10 + digit_value x) l))
+    cond (leb 10 (digit_value x)) None
+    (cond (ltb 18446744073709551615 (n * 10 + digit_value x)) None (wide_from (n * 10 + digit_value x) l))
 
 -- A word as a decimal number of eight bytes: one digit at least.
 unfoldable pub wide_in : List ℕ → Wide
-wide_in word = cond (eqb (length word) 0) Missing (wide_from 0 word)
+wide_in word = cond (eqb (length word) 0) None (wide_from 0 word)
 
 abbrev pub is_number : Wide → Bool
-is_number Missing = false
-is_number (Number n) = true
+is_number None = false
+is_number (Some n) = true
 
 -- Where the word says none, 0.
 abbrev pub wide_number : Wide → ℕ
-wide_number Missing = 0
-wide_number (Number n) = n
+wide_number None = 0
+wide_number (Some n) = n
 
 -- ─── A series and its reserve: `SERIES`, or `SERIES:RESERVE` ───
 
@@ -79,7 +79,7 @@ series_in word = number_in 10 (take (up_to_colon word) word)
 -- All that stands behind the first colon is the reserve; without a colon it is 0.
 unfoldable pub reserve_in : List ℕ → Wide
 reserve_in word =
-    cond (ltb (up_to_colon word) (length word)) (wide_in (drop (up_to_colon word + 1) word)) (Number 0)
+    cond (ltb (up_to_colon word) (length word)) (wide_in (drop (up_to_colon word + 1) word)) (Some 0)
 
 -- A series of two bytes, and a reserve of eight.
 unfoldable pub says_share : List ℕ → Bool

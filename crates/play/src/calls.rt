@@ -1,14 +1,15 @@
 // What a script's line says: a call, with its numbers. The words that say bytes stay in the line.
 ghost use Rattle.std.specs.Prelude.{◌≡◌, ◌≤◌};
-ghost use Rattle.play.specs.Calls.{several_verb_of, trading_verb_of, time_with, calendar_with, mark_with, book_verb_of};
+ghost use Rattle.play.specs.Calls.{time_with, calendar_with, mark_with};
 ghost use Rattle.play.specs.Calls.{take_with, level_with};
-ghost use Rattle.play.specs.Calls.{end_verb_of, verb_of, buffers_with, open_day_with, publish_with, login_call_with, send_with};
+ghost use Rattle.play.specs.Calls.{verb_of, buffers_with, open_day_with, publish_with, login_call_with, send_with};
 ghost use Rattle.play.specs.Calls.{open_end_with, ask_with, answer_with, plain_call, named_call, number_at, call_of};
 
 use crate::words::{
     argument, has_form, has_name, is_word, number_count, read_number, read_tid, share_count,
     word_end,
 };
+use book::levels::Level;
 
 // The first word of a line.
 #[derive(Clone, Copy)]
@@ -112,118 +113,50 @@ pub enum Call {
     Return,
 }
 
-// Which call of the book a line's first word names.
-fn book_verb_of(word: &[u8]) -> Verb
-    ensures { result ≡ book_verb_of word.now }
-{
-    if is_word(word, b"book") {
-        return Verb::Book;
-    }
-    if is_word(word, b"take") {
-        return Verb::Take;
-    }
-    if is_word(word, b"level") {
-        return Verb::Level;
-    }
-    if is_word(word, b"mean") {
-        return Verb::Mean;
-    }
-    Verb::Unknown
-}
-
-// Which call for several packets or records, or of a named place, a line's first word names, or of the book.
-fn several_verb_of(word: &[u8]) -> Verb
-    ensures { result ≡ several_verb_of word.now }
-{
-    if is_word(word, b"receiveall") {
-        return Verb::ReceiveAll;
-    }
-    if is_word(word, b"publishall") {
-        return Verb::PublishAll;
-    }
-    if is_word(word, b"keep") {
-        return Verb::Keep;
-    }
-    if is_word(word, b"return") {
-        return Verb::Return;
-    }
-    book_verb_of(word)
-}
-
-// Which call of the trading calendar a line's first word names, or for several, of a named place or of the book.
-fn trading_verb_of(word: &[u8]) -> Verb
-    ensures { result ≡ trading_verb_of word.now }
-{
-    if is_word(word, b"calendar") {
-        return Verb::Calendar;
-    }
-    if is_word(word, b"mark") {
-        return Verb::Mark;
-    }
-    several_verb_of(word)
-}
-
-// Which call of the receiving end a line's first word names, or of the calendar.
-fn end_verb_of(word: &[u8]) -> Verb
-    ensures { result ≡ end_verb_of word.now }
-{
-    if is_word(word, b"ropen") {
-        return Verb::OpenEnd;
-    }
-    if is_word(word, b"connect") {
-        return Verb::Connect;
-    }
-    if is_word(word, b"ask") {
-        return Verb::Ask;
-    }
-    if is_word(word, b"answer") {
-        return Verb::Answer;
-    }
-    if is_word(word, b"receive") {
-        return Verb::Receive;
-    }
-    if is_word(word, b"state") {
-        return Verb::State;
-    }
-    trading_verb_of(word)
-}
+// The words that name calls: of the serving end, of the receiving end, of the calendar, for several packets or records
+// and of named places, of the book.
+const VERBS: [(&[u8], Verb); 22] = [
+    (b"buffers", Verb::Buffers),
+    (b"sopen", Verb::OpenDay),
+    (b"publish", Verb::Publish),
+    (b"login", Verb::Login),
+    (b"send", Verb::Send),
+    (b"sendpacket", Verb::SendPacket),
+    (b"ropen", Verb::OpenEnd),
+    (b"connect", Verb::Connect),
+    (b"ask", Verb::Ask),
+    (b"answer", Verb::Answer),
+    (b"receive", Verb::Receive),
+    (b"state", Verb::State),
+    (b"calendar", Verb::Calendar),
+    (b"mark", Verb::Mark),
+    (b"receiveall", Verb::ReceiveAll),
+    (b"publishall", Verb::PublishAll),
+    (b"keep", Verb::Keep),
+    (b"return", Verb::Return),
+    (b"book", Verb::Book),
+    (b"take", Verb::Take),
+    (b"level", Verb::Level),
+    (b"mean", Verb::Mean),
+];
 
 // Which call a line's first word names.
 fn verb_of(word: &[u8]) -> Verb
     ensures { result ≡ verb_of word.now }
 {
-    if is_word(word, b"buffers") {
-        return Verb::Buffers;
+    for (name, verb) in &VERBS {
+        if is_word(word, name) {
+            return *verb;
+        }
     }
-    if is_word(word, b"sopen") {
-        return Verb::OpenDay;
-    }
-    if is_word(word, b"publish") {
-        return Verb::Publish;
-    }
-    if is_word(word, b"login") {
-        return Verb::Login;
-    }
-    if is_word(word, b"send") {
-        return Verb::Send;
-    }
-    if is_word(word, b"sendpacket") {
-        return Verb::SendPacket;
-    }
-    end_verb_of(word)
+    Verb::Unknown
 }
 
 // Lengths within the limits.
 fn buffers_with(right: bool, log: u64, chain: u64) -> Call
     ensures { result ≡ buffers_with right log chain }
 {
-    if right {
-        if log > 1048576 {
-            return Call::Bad;
-        }
-        if chain > 262144 {
-            return Call::Bad;
-        }
+    if right && log <= 1048576 && chain <= 262144 {
         return Call::Buffers {
             log: log as usize,
             chain: chain as usize,
@@ -236,15 +169,12 @@ fn buffers_with(right: bool, log: u64, chain: u64) -> Call
 fn open_day_with(date: u64, count: usize) -> Call
     ensures { result ≡ open_day_with date count }
 {
-    if date > 4294967295 {
-        return Call::Bad;
-    }
-    if count > 64 {
+    if date > 4294967295 || count > 64 {
         return Call::Bad;
     }
     Call::OpenDay {
         date: date as u32,
-        count: count,
+        count,
     }
 }
 
@@ -252,13 +182,7 @@ fn open_day_with(date: u64, count: usize) -> Call
 fn publish_with(right: bool, series: u64, tid: u64) -> Call
     ensures { result ≡ publish_with right series tid }
 {
-    if right {
-        if series > 65535 {
-            return Call::Bad;
-        }
-        if tid > 4294967295 {
-            return Call::Bad;
-        }
+    if right && series <= 65535 && tid <= 4294967295 {
         return Call::Publish {
             series: series as u16,
             tid: tid as u32,
@@ -267,17 +191,13 @@ fn publish_with(right: bool, series: u64, tid: u64) -> Call
     Call::Bad
 }
 
+// Stays: three functions, here, `send_with` and `ask_with`, with a definition each. What they share is one condition;
+// one function over what makes the call would have to say what that answers, or to part an answer once more.
 // Numbers within their width and limit.
 fn login_with(right: bool, series: u64, room: u64) -> Call
     ensures { result ≡ login_call_with right series room }
 {
-    if right {
-        if series > 65535 {
-            return Call::Bad;
-        }
-        if room > 65536 {
-            return Call::Bad;
-        }
+    if right && series <= 65535 && room <= 65536 {
         return Call::Login {
             series: series as u16,
             room: room as usize,
@@ -290,17 +210,11 @@ fn login_with(right: bool, series: u64, room: u64) -> Call
 fn send_with(right: bool, series: u64, room: u64, single: bool) -> Call
     ensures { result ≡ send_with right series room single }
 {
-    if right {
-        if series > 65535 {
-            return Call::Bad;
-        }
-        if room > 65536 {
-            return Call::Bad;
-        }
+    if right && series <= 65535 && room <= 65536 {
         return Call::Send {
             series: series as u16,
             room: room as usize,
-            single: single,
+            single,
         };
     }
     Call::Bad
@@ -313,20 +227,14 @@ fn open_end_with(count: usize) -> Call
     if count > 64 {
         return Call::Bad;
     }
-    Call::OpenEnd { count: count }
+    Call::OpenEnd { count }
 }
 
 // Numbers within their width and limit.
 fn ask_with(right: bool, series: u64, room: u64) -> Call
     ensures { result ≡ ask_with right series room }
 {
-    if right {
-        if series > 65535 {
-            return Call::Bad;
-        }
-        if room > 65536 {
-            return Call::Bad;
-        }
+    if right && series <= 65535 && room <= 65536 {
         return Call::Ask {
             series: series as u16,
             room: room as usize,
@@ -339,10 +247,7 @@ fn ask_with(right: bool, series: u64, room: u64) -> Call
 fn answer_with(right: bool, series: u64) -> Call
     ensures { result ≡ answer_with right series }
 {
-    if right {
-        if series > 65535 {
-            return Call::Bad;
-        }
+    if right && series <= 65535 {
         return Call::Answer {
             series: series as u16,
         };
@@ -369,17 +274,11 @@ fn time_with(alone: bool, seconds: u64, other: Call) -> Call
 fn calendar_with(sessions: u64, count: usize) -> Call
     ensures { result ≡ calendar_with sessions count }
 {
-    if sessions > 16 {
-        return Call::Bad;
-    }
-    if count > 112 {
+    if sessions > 16 || count > 112 {
         return Call::Bad;
     }
     let n = sessions as usize;
-    if count < 3 * n {
-        return Call::Bad;
-    }
-    if count - 3 * n > 64 {
+    if count < 3 * n || count - 3 * n > 64 {
         return Call::Bad;
     }
     Call::SetCalendar {
@@ -392,10 +291,7 @@ fn calendar_with(sessions: u64, count: usize) -> Call
 fn mark_with(right: bool, mark: u64) -> Call
     ensures { result ≡ mark_with right mark }
 {
-    if right {
-        if mark > 4294967295 {
-            return Call::Bad;
-        }
+    if right && mark <= 4294967295 {
         return Call::MarkDate { mark: mark as u32 };
     }
     Call::Bad
@@ -405,10 +301,7 @@ fn mark_with(right: bool, mark: u64) -> Call
 fn take_with(right: bool, tid: u64) -> Call
     ensures { result ≡ take_with right tid }
 {
-    if right {
-        if tid > 4294967295 {
-            return Call::Bad;
-        }
+    if right && tid <= 4294967295 {
         return Call::TakeMessage { tid: tid as u32 };
     }
     Call::Bad
@@ -418,23 +311,11 @@ fn take_with(right: bool, tid: u64) -> Call
 fn level_with(right: bool, buying: bool, selling: bool, place: u64) -> Call
     ensures { result ≡ level_with right buying selling place }
 {
-    if right {
-        if place > 4294967295 {
-            return Call::Bad;
-        }
-        if buying {
-            return Call::ShowLevel {
-                buying: true,
-                place: place as usize,
-            };
-        }
-        if selling {
-            return Call::ShowLevel {
-                buying: false,
-                place: place as usize,
-            };
-        }
-        return Call::Bad;
+    if right && place <= 4294967295 && (buying || selling) {
+        return Call::ShowLevel {
+            buying,
+            place: place as usize,
+        };
     }
     Call::Bad
 }

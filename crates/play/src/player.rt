@@ -45,11 +45,7 @@ pub struct Played {
 pub(crate) fn clear(out: &mut [u8])
     ensures { out.new ≡ replicate (length out.old) 0 }
 {
-    let mut i: usize = 0;
-    while i < out.len() {
-        out[i] = 0;
-        i += 1;
-    }
+    out.fill(0);
 }
 
 impl Player {
@@ -74,62 +70,23 @@ impl Player {
     pub(crate) fn with_sender(self, sender: Sender) -> Player
         ensures { result ≡ with_sender self sender }
     {
-        let receiver = self.receiver;
-        let checkpoints = self.checkpoints;
-        let calendar = self.calendar;
-        let book = self.book;
-        Player {
-            lines: self.lines,
-            ready: self.ready,
-            log: self.log,
-            chain: self.chain,
-            sender: sender,
-            receiver: receiver,
-            checkpoints: checkpoints,
-            calendar: calendar,
-            book: book,
-        }
+        Player { sender, ..self }
     }
 
     // The receiving end is another.
     pub(crate) fn with_receiver(self, receiver: Receiver) -> Player
         ensures { result ≡ with_receiver self receiver }
     {
-        let sender = self.sender;
-        let checkpoints = self.checkpoints;
-        let calendar = self.calendar;
-        let book = self.book;
-        Player {
-            lines: self.lines,
-            ready: self.ready,
-            log: self.log,
-            chain: self.chain,
-            sender: sender,
-            receiver: receiver,
-            checkpoints: checkpoints,
-            calendar: calendar,
-            book: book,
-        }
+        Player { receiver, ..self }
     }
 
     // The named places are others.
     pub(crate) fn with_checkpoints(self, checkpoints: Checkpoints) -> Player
         ensures { result ≡ with_checkpoints self checkpoints }
     {
-        let sender = self.sender;
-        let receiver = self.receiver;
-        let calendar = self.calendar;
-        let book = self.book;
         Player {
-            lines: self.lines,
-            ready: self.ready,
-            log: self.log,
-            chain: self.chain,
-            sender: sender,
-            receiver: receiver,
-            checkpoints: checkpoints,
-            calendar: calendar,
-            book: book,
+            checkpoints,
+            ..self
         }
     }
 
@@ -137,42 +94,14 @@ impl Player {
     pub(crate) fn with_calendar(self, calendar: Calendar) -> Player
         ensures { result ≡ with_calendar self calendar }
     {
-        let sender = self.sender;
-        let receiver = self.receiver;
-        let checkpoints = self.checkpoints;
-        let book = self.book;
-        Player {
-            lines: self.lines,
-            ready: self.ready,
-            log: self.log,
-            chain: self.chain,
-            sender: sender,
-            receiver: receiver,
-            checkpoints: checkpoints,
-            calendar: calendar,
-            book: book,
-        }
+        Player { calendar, ..self }
     }
 
     // The book is another.
     pub(crate) fn with_book(self, book: Book) -> Player
         ensures { result ≡ with_book self book }
     {
-        let sender = self.sender;
-        let receiver = self.receiver;
-        let checkpoints = self.checkpoints;
-        let calendar = self.calendar;
-        Player {
-            lines: self.lines,
-            ready: self.ready,
-            log: self.log,
-            chain: self.chain,
-            sender: sender,
-            receiver: receiver,
-            checkpoints: checkpoints,
-            calendar: calendar,
-            book: book,
-        }
+        Player { book, ..self }
     }
 
     // A line more.
@@ -180,21 +109,9 @@ impl Player {
         ensures { result ≡ counted_player self }
     {
         if self.lines < 4294967295 {
-            let sender = self.sender;
-            let receiver = self.receiver;
-            let checkpoints = self.checkpoints;
-            let calendar = self.calendar;
-            let book = self.book;
             return Player {
                 lines: self.lines + 1,
-                ready: self.ready,
-                log: self.log,
-                chain: self.chain,
-                sender: sender,
-                receiver: receiver,
-                checkpoints: checkpoints,
-                calendar: calendar,
-                book: book,
+                ..self
             };
         }
         self
@@ -224,30 +141,17 @@ impl Player {
         ensures { Plays (layout_turn self size part log.old chain.old) result text.old
             text.new log.new chain.new }
     {
-        if log.len() < size {
-            return self.bad_line(text);
-        }
-        if chain.len() < part {
+        if log.len() < size || chain.len() < part {
             return self.bad_line(text);
         }
         clear(&mut log[..size]);
         clear(&mut chain[..part]);
-        let sender = self.sender;
-        let receiver = self.receiver;
-        let checkpoints = self.checkpoints;
-        let calendar = self.calendar;
-        let book = self.book;
         Played {
             player: Player {
-                lines: self.lines,
                 ready: true,
                 log: size,
                 chain: part,
-                sender: sender,
-                receiver: receiver,
-                checkpoints: checkpoints,
-                calendar: calendar,
-                book: book,
+                ..self
             },
             len: word_line(text, b"ok"),
         }
@@ -259,6 +163,7 @@ impl Player {
         ensures { Plays (start_turn self log.old chain.old call) result text.old
             text.new log.new chain.new }
     {
+        // Stays: a match on the call, as `start_turn` and `ready_turn` of specs/ have it; a table would need dyn.
         match call {
             Call::Buffers {
                 log: size,
@@ -286,7 +191,7 @@ impl Player {
     {
         match call {
             Call::Bad => self.bad_line(text),
-            Call::Buffers { log: _, chain: _ } => self.bad_line(text),
+            Call::Buffers { .. } => self.bad_line(text),
             Call::OpenDay { date, count } => play_open_day(self, date, count, line, log, text),
             Call::Publish { series, tid } => {
                 play_publish(self, series, tid, line, log, bytes, text)
@@ -353,27 +258,13 @@ impl Player {
     ) -> bool
         ensures { result ≡ lacks_room self line log chain bytes out text }
     {
-        if text < 524448 {
-            return true;
-        }
-        if out < 65536 {
-            return true;
-        }
-        if bytes < line {
-            return true;
-        }
-        let left = text - 524448;
-        let most = left / 7;
-        if most < line / 2 {
-            return true;
-        }
-        if 262144 < self.chain {
-            return true;
-        }
-        if log < self.log {
-            return true;
-        }
-        chain < self.chain
+        text < 524448
+            || out < 65536
+            || bytes < line
+            || (text - 524448) / 7 < line / 2
+            || 262144 < self.chain
+            || log < self.log
+            || chain < self.chain
     }
 
     // Plays the line that the first `len` bytes of a buffer are: the call is made, and what it prints is written to the

@@ -1,26 +1,15 @@
 // Prices as text, and the lines that the book's answers are printed as.
-ghost use Rattle.std.specs.Prelude.{◌≡◌, [], ◌∷◌, ◌+◌, ◌%◌, ◌<◌, ◌≤◌, length, nat_abs};
+ghost use Rattle.std.specs.Prelude.{◌≡◌, [], ◌∷◌, ◌+◌, ◌%◌, ◌<◌, ◌≤◌, length};
 ghost use Rattle.ftd.specs.Signed.Write.{digits_in};
 ghost use Rattle.listing.specs.Text.{WroteText};
-ghost use Rattle.play.specs.Lines.{units_text, price_text, priced, spaced, outcome_line, pair_line};
+ghost use Rattle.play.specs.Lines.{units_text, price_text, priced, spaced, pair_line};
 ghost use Rattle.play.specs.Lines.{price_line, level_line, mean_line};
 
-use crate::text::{refused_line, word_line};
-use book::calls::Outcome;
-use book::levels::Listed;
-use book::sums::Mean;
+use crate::text::word_line;
+use book::levels::Level;
 use ftd::bytes::size32;
+use ftd::refusal::Refusal;
 use listing::{put_byte, put_decimal, put_word};
-
-// The size of a signed number; of each one, also the least.
-fn size_of(x: i64) -> u64
-    ensures { (result ≡ nat_abs x) × (result ≤ 9223372036854775808) }
-{
-    if x < 0 {
-        return (-1 - x) as u64 + 1;
-    }
-    x as u64
-}
 
 // The last digit of a number.
 fn put_digit(out: &mut [u8], at: usize, x: u64) -> usize
@@ -58,7 +47,7 @@ fn put_price(out: &mut [u8], at: usize, price: i64) -> usize
     requires { at + 26 ≤ length out.old }
     ensures { WroteText out.old at (price_text price) out.new result × (result ≤ at + 26) }
 {
-    let units = size_of(price);
+    let units = price.unsigned_abs();
     if price < 0 {
         let n = put_byte(out, at, b'-');
         return put_units(out, n, units);
@@ -85,18 +74,6 @@ fn put_spaced(out: &mut [u8], at: usize, x: usize) -> usize
     put_decimal(out, n, x)
 }
 
-// The line of Start's and of Take's answer: the word meant where nothing was refused.
-pub(crate) fn outcome_line(out: &mut [u8], word: &[u8], answer: Outcome) -> usize
-    requires { (64 ≤ length out.old) × (length word.now ≤ 16) }
-    ensures { WroteText out.old 0 (outcome_line word.now answer) out.new result
-        × (result ≤ length out.new) }
-{
-    match answer {
-        Outcome::Done => word_line(out, word),
-        Outcome::Refused(r) => refused_line(out, r),
-    }
-}
-
 // The line of a price and a quantity.
 fn pair_line(out: &mut [u8], price: i64, quantity: u32) -> usize
     requires { 64 ≤ length out.old }
@@ -119,25 +96,25 @@ fn price_line(out: &mut [u8], price: i64) -> usize
 }
 
 // The line of a level.
-pub(crate) fn level_line(out: &mut [u8], answer: Listed) -> usize
+pub(crate) fn level_line(out: &mut [u8], answer: Option<Level>) -> usize
     requires { 64 ≤ length out.old }
     ensures { WroteText out.old 0 (level_line answer) out.new result
         × (result ≤ length out.new) }
 {
     match answer {
-        Listed::NoLevel => word_line(out, b"none"),
-        Listed::At { price, quantity } => pair_line(out, price, quantity),
+        None => word_line(out, b"none"),
+        Some(Level { price, quantity }) => pair_line(out, price, quantity),
     }
 }
 
 // The line of a mean.
-pub(crate) fn mean_line(out: &mut [u8], answer: Mean) -> usize
+pub(crate) fn mean_line(out: &mut [u8], answer: Option<i64>) -> usize
     requires { 64 ≤ length out.old }
     ensures { WroteText out.old 0 (mean_line answer) out.new result
         × (result ≤ length out.new) }
 {
     match answer {
-        Mean::NoMean => word_line(out, b"none"),
-        Mean::Price(p) => price_line(out, p),
+        None => word_line(out, b"none"),
+        Some(p) => price_line(out, p),
     }
 }

@@ -4,7 +4,8 @@ ghost use Rattle.play.specs.Words.{argument as argument_of, said_bytes};
 ghost use Rattle.play.specs.Played.{ShowsStart, ShowsTake, ShowsLevel, ShowsMean};
 
 use crate::player::{Played, Player};
-use crate::prices::{level_line, mean_line, outcome_line};
+use crate::prices::{level_line, mean_line};
+use crate::text::outcome_line;
 use crate::words::{argument, put_bytes};
 
 // Start.
@@ -12,14 +13,11 @@ fn start_book(player: Player, code: &[u8], text: &mut [u8]) -> Played
     requires { 64 ≤ length text.old }
     ensures { ShowsStart player code.now result text.old text.new }
 {
-    let old = player.book;
-    let step = old.start(code);
-    let answer = step.answer;
-    let new = step.book;
-    let len = outcome_line(text, b"started", answer);
+    let step = player.book.start(code);
+    let len = outcome_line(text, b"started", step.answer);
     Played {
-        player: player.with_book(new),
-        len: len,
+        player: player.with_book(step.book),
+        len,
     }
 }
 
@@ -38,14 +36,11 @@ fn take_message(player: Player, tid: u32, content: &[u8], text: &mut [u8]) -> Pl
     requires { 64 ≤ length text.old }
     ensures { ShowsTake player tid content.now result text.old text.new }
 {
-    let old = player.book;
-    let step = old.take(tid, content);
-    let answer = step.answer;
-    let new = step.book;
-    let len = outcome_line(text, b"taken", answer);
+    let step = player.book.take(tid, content);
+    let len = outcome_line(text, b"taken", step.answer);
     Played {
-        player: player.with_book(new),
-        len: len,
+        player: player.with_book(step.book),
+        len,
     }
 }
 
@@ -70,10 +65,9 @@ pub(crate) fn show_level(player: Player, buying: bool, place: usize, text: &mut 
     requires { 64 ≤ length text.old }
     ensures { ShowsLevel player buying place result text.old text.new }
 {
-    let book = player.book;
-    let answer = book.level(buying, place);
+    let answer = player.book.level(buying, place);
     Played {
-        player: player,
+        player,
         len: level_line(text, answer),
     }
 }
@@ -83,10 +77,9 @@ pub(crate) fn show_mean(player: Player, text: &mut [u8]) -> Played
     requires { 64 ≤ length text.old }
     ensures { ShowsMean player result text.old text.new }
 {
-    let book = player.book;
-    let answer = book.mean();
+    let answer = player.book.mean();
     Played {
-        player: player,
+        player,
         len: mean_line(text, answer),
     }
 }

@@ -6,7 +6,7 @@ ghost use Rattle.play.specs.Played.{PlaysAsk, PlaysReceive};
 
 use crate::player::{Played, Player, clear};
 use crate::state::state_lines;
-use crate::text::{confirmed_line, opened_line, received_line, requested_line, word_line};
+use crate::text::{confirmed_line, outcome_line, received_line, requested_line, word_line};
 use crate::words::{argument, put_bytes, read_series};
 
 // Opening.
@@ -14,14 +14,11 @@ fn open_end(player: Player, series: &[u16], text: &mut [u8]) -> Played
     requires { 64 ≤ length text.old }
     ensures { ShowsOpenEnd player series.now result text.old text.new }
 {
-    let receiver = player.receiver;
-    let step = receiver.open(series);
-    let answer = step.answer;
-    let end = step.end;
-    let len = opened_line(text, answer);
+    let step = player.receiver.open(series);
+    let len = outcome_line(text, b"opened", step.answer);
     Played {
-        player: player.with_receiver(end),
-        len: len,
+        player: player.with_receiver(step.end),
+        len,
     }
 }
 
@@ -41,12 +38,11 @@ pub(crate) fn connect(player: Player, text: &mut [u8]) -> Played
     requires { 64 ≤ length text.old }
     ensures { ShowsConnect player result text.old text.new }
 {
-    let receiver = player.receiver;
-    let end = receiver.connect();
+    let end = player.receiver.connect();
     let len = word_line(text, b"connected");
     Played {
         player: player.with_receiver(end),
-        len: len,
+        len,
     }
 }
 
@@ -56,14 +52,10 @@ fn ask(player: Player, series: u16, content: &[u8], out: &mut [u8], text: &mut [
     ensures { ShowsAsk player series content.now (length out.old) out.new result
         text.old text.new }
 {
-    let receiver = player.receiver;
     clear(out);
-    let answer = receiver.request_login(series, content, out);
+    let answer = player.receiver.request_login(series, content, out);
     let len = requested_line(text, answer, out);
-    Played {
-        player: player,
-        len: len,
-    }
+    Played { player, len }
 }
 
 // Ask, with the content that a line says, and an output of so many bytes.
@@ -90,14 +82,11 @@ fn answer(player: Player, series: u16, packet: &[u8], text: &mut [u8]) -> Played
     requires { 64 ≤ length text.old }
     ensures { ShowsAnswer player series packet.now result text.old text.new }
 {
-    let receiver = player.receiver;
-    let step = receiver.confirm_login(series, packet);
-    let given = step.answer;
-    let end = step.end;
-    let len = confirmed_line(text, given);
+    let step = player.receiver.confirm_login(series, packet);
+    let len = confirmed_line(text, step.answer);
     Played {
-        player: player.with_receiver(end),
-        len: len,
+        player: player.with_receiver(step.end),
+        len,
     }
 }
 
@@ -123,14 +112,11 @@ fn receive(player: Player, packet: &[u8], buffer: &mut [u8], text: &mut [u8]) ->
     ensures { ShowsReceive player packet.now buffer.old buffer.new result
         text.old text.new }
 {
-    let receiver = player.receiver;
-    let step = receiver.receive(packet, buffer);
-    let given = step.answer;
-    let end = step.end;
-    let len = received_line(text, given, packet, buffer);
+    let step = player.receiver.receive(packet, buffer);
+    let len = received_line(text, step.answer, packet, buffer);
     Played {
-        player: player.with_receiver(end),
-        len: len,
+        player: player.with_receiver(step.end),
+        len,
     }
 }
 
@@ -147,9 +133,8 @@ pub(crate) fn play_receive(
     ensures { PlaysReceive player (said_bytes (argument_of line.now 0)) chain.old
         chain.new result text.old text.new }
 {
-    let size = player.chain;
     let n = put_bytes(bytes, 0, argument(line, 0));
-    receive(player, &bytes[..n], &mut chain[..size], text)
+    receive(player, &bytes[..n], &mut chain[..player.chain], text)
 }
 
 // Both ends and the named places, for people.
@@ -157,11 +142,8 @@ pub(crate) fn show_state(player: Player, text: &mut [u8]) -> Played
     requires { 8192 ≤ length text.old }
     ensures { ShowsState player result text.old text.new }
 {
-    let sender = player.sender;
-    let receiver = player.receiver;
-    let checkpoints = player.checkpoints;
     Played {
-        player: player,
-        len: state_lines(text, sender, receiver, checkpoints),
+        player,
+        len: state_lines(text, player.sender, player.receiver, player.checkpoints),
     }
 }

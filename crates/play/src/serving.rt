@@ -5,7 +5,7 @@ ghost use Rattle.play.specs.Played.{ShowsOpenDay, ShowsPublish, ShowsLogin, Show
 ghost use Rattle.play.specs.Played.{PlaysOpenDay, PlaysPublish, PlaysLogin, PlaysSend};
 
 use crate::player::{Played, Player, clear};
-use crate::text::{login_line, opened_line, published_line, sent_line, sent_packet_line};
+use crate::text::{login_line, outcome_line, published_line, sent_line, sent_packet_line};
 use crate::words::{argument, put_bytes, put_two, read_reserves, read_series};
 
 // Opening.
@@ -21,14 +21,11 @@ fn open_day(
     ensures { ShowsOpenDay player date series.now reserves.now log.now result
         text.old text.new }
 {
-    let sender = player.sender;
-    let step = sender.open(date, series, reserves, log);
-    let answer = step.answer;
-    let end = step.end;
-    let len = opened_line(text, answer);
+    let step = player.sender.open(date, series, reserves, log);
+    let len = outcome_line(text, b"opened", step.answer);
     Played {
-        player: player.with_sender(end),
-        len: len,
+        player: player.with_sender(step.end),
+        len,
     }
 }
 
@@ -45,7 +42,6 @@ pub(crate) fn play_open_day(
     ensures { PlaysOpenDay player line.now date count log.now result text.old
         text.new }
 {
-    let size = player.log;
     let mut list = [0u16; 64];
     read_series(line, 1, count, &mut list);
     let mut shares = [0usize; 64];
@@ -55,7 +51,7 @@ pub(crate) fn play_open_day(
         date,
         &list[..count],
         &shares[..count],
-        &log[..size],
+        &log[..player.log],
         text,
     )
 }
@@ -73,14 +69,11 @@ fn publish(
     ensures { ShowsPublish player series tid content.now log.old log.new result
         text.old text.new }
 {
-    let sender = player.sender;
-    let step = sender.publish(series, tid, content, log);
-    let answer = step.answer;
-    let end = step.end;
-    let len = published_line(text, answer);
+    let step = player.sender.publish(series, tid, content, log);
+    let len = published_line(text, step.answer);
     Played {
-        player: player.with_sender(end),
-        len: len,
+        player: player.with_sender(step.end),
+        len,
     }
 }
 
@@ -99,9 +92,15 @@ pub(crate) fn play_publish(
     ensures { PlaysPublish player series tid (said_bytes (argument_of line.now 2)) log.old
         log.new result text.old text.new }
 {
-    let size = player.log;
     let n = put_bytes(bytes, 0, argument(line, 2));
-    publish(player, series, tid, &bytes[..n], &mut log[..size], text)
+    publish(
+        player,
+        series,
+        tid,
+        &bytes[..n],
+        &mut log[..player.log],
+        text,
+    )
 }
 
 // Login.
@@ -117,15 +116,12 @@ fn login(
     ensures { ShowsLogin player series packet.now content.now (length out.old)
         out.new result text.old text.new }
 {
-    let sender = player.sender;
     clear(out);
-    let step = sender.login(series, packet, content, out);
-    let answer = step.answer;
-    let end = step.end;
-    let len = login_line(text, answer, out);
+    let step = player.sender.login(series, packet, content, out);
+    let len = login_line(text, step.answer, out);
     Played {
-        player: player.with_sender(end),
-        len: len,
+        player: player.with_sender(step.end),
+        len,
     }
 }
 
@@ -164,15 +160,12 @@ fn send(player: Player, series: u16, log: &[u8], out: &mut [u8], text: &mut [u8]
     ensures { ShowsSend player series log.now (length out.old) out.new result
         text.old text.new }
 {
-    let sender = player.sender;
     clear(out);
-    let step = sender.send(series, log, out);
-    let answer = step.answer;
-    let end = step.end;
-    let len = sent_line(text, answer, out);
+    let step = player.sender.send(series, log, out);
+    let len = sent_line(text, step.answer, out);
     Played {
-        player: player.with_sender(end),
-        len: len,
+        player: player.with_sender(step.end),
+        len,
     }
 }
 
@@ -182,15 +175,12 @@ fn send_packet(player: Player, series: u16, log: &[u8], out: &mut [u8], text: &m
     ensures { ShowsSendPacket player series log.now (length out.old) out.new result
         text.old text.new }
 {
-    let sender = player.sender;
     clear(out);
-    let step = sender.send_packet(series, log, out);
-    let answer = step.answer;
-    let end = step.end;
-    let len = sent_packet_line(text, answer, out);
+    let step = player.sender.send_packet(series, log, out);
+    let len = sent_packet_line(text, step.answer, out);
     Played {
-        player: player.with_sender(end),
-        len: len,
+        player: player.with_sender(step.end),
+        len,
     }
 }
 
@@ -209,9 +199,8 @@ pub(crate) fn play_send(
     ensures { PlaysSend player series log.now room single result text.old
         text.new }
 {
-    let size = player.log;
     if single {
-        return send_packet(player, series, &log[..size], &mut out[..room], text);
+        return send_packet(player, series, &log[..player.log], &mut out[..room], text);
     }
-    send(player, series, &log[..size], &mut out[..room], text)
+    send(player, series, &log[..player.log], &mut out[..room], text)
 }

@@ -11,15 +11,16 @@ use crate::player::{Played, Player};
 use crate::text::{published_line, put_numbered, received_line};
 use crate::words::{argument, put_bytes};
 use flow::receiver::{Received, Receiver};
-use flow::sender::{Published, Sender};
+use flow::sender::Sender;
 use flow::several::{
-    PublishedSeveral, ReceiveTurn, ReceivedSeveral, packet_size, packets_rest, publish_record,
-    receive_turn, record_size, records_rest,
+    PublishedSeveral, ReceivedSeveral, packet_size, packets_rest, publish_record, receive_turn,
+    record_size, records_rest,
 };
 use ftd::bytes::size8;
-use ftd::refusal::number;
+use ftd::refusal::{Refusal, number};
 use listing::{put_byte, put_word};
 
+// Stays: two types, and two of each function below; `PrintsReceived` and `PrintsPublished` of specs/ name both types.
 // What a walk leaves: the end, its answer, how many bytes were taken, and the length of the lines.
 #[derive(Clone, Copy)]
 pub(crate) struct ReceivedAll {
@@ -49,7 +50,7 @@ fn received_at(text: &mut [u8], at: usize, answer: Received, packet: &[u8], buff
 }
 
 // The line of Publish's answer, from a place on.
-fn published_at(text: &mut [u8], at: usize, answer: Published) -> usize
+fn published_at(text: &mut [u8], at: usize, answer: Result<u32, Refusal>) -> usize
     requires { at + 64 ≤ length text.old }
     ensures { WroteText text.old at (published_line answer) text.new result × (result ≤ at + 28) }
 {
@@ -70,7 +71,7 @@ fn receive_packets(e: Receiver, packets: &[u8], buffer: &mut [u8], text: &mut [u
         let n = packet_size(packets, at);
         if n == 0 {
             return ReceivedAll {
-                end: end,
+                end,
                 answer: packets_rest(&packets[at..]),
                 taken: at,
                 len: to,
@@ -79,21 +80,16 @@ fn receive_packets(e: Receiver, packets: &[u8], buffer: &mut [u8], text: &mut [u
         let past = at + n;
         let packet = &packets[at..past];
         let step = end.receive(packet, buffer);
-        let next = step.end;
-        let answer = step.answer;
-        end = next;
-        to = received_at(text, to, answer, packet, buffer);
-        let turn = receive_turn(at, n, answer);
-        match turn {
-            ReceiveTurn::Stop(a) => {
-                return ReceivedAll {
-                    end: end,
-                    answer: a,
-                    taken: past,
-                    len: to,
-                };
-            }
-            ReceiveTurn::On => {}
+        end = step.end;
+        to = received_at(text, to, step.answer, packet, buffer);
+        let turn = receive_turn(at, n, step.answer);
+        if let Some(a) = turn {
+            return ReceivedAll {
+                end,
+                answer: a,
+                taken: past,
+                len: to,
+            };
         }
         at = past;
     }
@@ -112,7 +108,7 @@ fn publish_records(e: Sender, records: &[u8], log: &mut [u8], text: &mut [u8]) -
         let n = record_size(records, at);
         if n == 0 {
             return PublishedAll {
-                end: end,
+                end,
                 answer: records_rest(&records[at..]),
                 taken: at,
                 len: to,
@@ -120,20 +116,15 @@ fn publish_records(e: Sender, records: &[u8], log: &mut [u8], text: &mut [u8]) -
         }
         let behind = at + n;
         let step = publish_record(end, &records[at..behind], log);
-        let next = step.end;
-        let answer = step.answer;
-        end = next;
-        to = published_at(text, to, answer);
-        match answer {
-            Published::Refused(r) => {
-                return PublishedAll {
-                    end: end,
-                    answer: PublishedSeveral::Refused(r),
-                    taken: behind,
-                    len: to,
-                };
-            }
-            Published::Number(_) => {}
+        end = step.end;
+        to = published_at(text, to, step.answer);
+        if let Err(r) = step.answer {
+            return PublishedAll {
+                end,
+                answer: PublishedSeveral::Refused(r),
+                taken: behind,
+                len: to,
+            };
         }
         at = behind;
     }
@@ -147,12 +138,7 @@ fn put_received_why(text: &mut [u8], at: usize, answer: ReceivedSeveral) -> usiz
     match answer {
         ReceivedSeveral::End => put_word(text, at, b"end"),
         ReceivedSeveral::Short(n) => put_numbered(text, at, b"short", n),
-        ReceivedSeveral::Complete {
-            last: _,
-            tid: _,
-            origin: _,
-            content: _,
-        } => put_word(text, at, b"message"),
+        ReceivedSeveral::Complete { .. } => put_word(text, at, b"message"),
         ReceivedSeveral::Refused(r) => put_numbered(text, at, b"refused", size8(number(r))),
     }
 }
@@ -199,15 +185,12 @@ fn receive_all(player: Player, packets: &[u8], buffer: &mut [u8], text: &mut [u8
     ensures { ShowsReceiveAll player packets.now buffer.old buffer.new result
         text.old text.new }
 {
-    let receiver = player.receiver;
     let most = text.len() - 96;
-    let all = receive_packets(receiver, packets, buffer, &mut text[..most]);
-    let end = all.end;
-    let answer = all.answer;
-    let len = received_taken(text, all.len, all.taken, answer);
+    let all = receive_packets(player.receiver, packets, buffer, &mut text[..most]);
+    let len = received_taken(text, all.len, all.taken, all.answer);
     Played {
-        player: player.with_receiver(end),
-        len: len,
+        player: player.with_receiver(all.end),
+        len,
     }
 }
 
@@ -224,9 +207,8 @@ pub(crate) fn play_receive_all(
     ensures { PlaysReceiveAll player (said_bytes (argument_of line.now 0)) chain.old
         chain.new result text.old text.new }
 {
-    let size = player.chain;
     let n = put_bytes(bytes, 0, argument(line, 0));
-    receive_all(player, &bytes[..n], &mut chain[..size], text)
+    receive_all(player, &bytes[..n], &mut chain[..player.chain], text)
 }
 
 // Publish for several records.
@@ -235,15 +217,12 @@ fn publish_all(player: Player, records: &[u8], log: &mut [u8], text: &mut [u8]) 
     ensures { ShowsPublishAll player records.now log.old log.new result
         text.old text.new }
 {
-    let sender = player.sender;
     let most = text.len() - 96;
-    let all = publish_records(sender, records, log, &mut text[..most]);
-    let end = all.end;
-    let answer = all.answer;
-    let len = published_taken(text, all.len, all.taken, answer);
+    let all = publish_records(player.sender, records, log, &mut text[..most]);
+    let len = published_taken(text, all.len, all.taken, all.answer);
     Played {
-        player: player.with_sender(end),
-        len: len,
+        player: player.with_sender(all.end),
+        len,
     }
 }
 
@@ -260,7 +239,6 @@ pub(crate) fn play_publish_all(
     ensures { PlaysPublishAll player (said_bytes (argument_of line.now 0)) log.old
         log.new result text.old text.new }
 {
-    let size = player.log;
     let n = put_bytes(bytes, 0, argument(line, 0));
-    publish_all(player, &bytes[..n], &mut log[..size], text)
+    publish_all(player, &bytes[..n], &mut log[..player.log], text)
 }

@@ -1,5 +1,5 @@
 // Both ends and the named places as lines, for people.
-ghost use Rattle.std.specs.Prelude.{◌≡◌, ◌+◌, ◌%◌, ◌≤◌, length};
+ghost use Rattle.std.specs.Prelude.{◌≡◌, ◌+◌, ◌≤◌, length};
 ghost use Rattle.flow.specs.Checkpoints.{used_names};
 ghost use Rattle.listing.specs.Text.{WroteText, decimal_of};
 ghost use Rattle.play.specs.State.{date_text, shown_places, serving_line, next_text, place_text, served_line, served_lines};
@@ -13,7 +13,6 @@ use flow::checkpoint::{Checkpoint, Checkpoints};
 use flow::receiver::{Kept, KeptSeries, LiveSeries, Receiver};
 use flow::sender::{DaySeries, Place, Sender};
 use ftd::bytes::{size16, size32};
-use ftd::tags::TradeDate;
 use listing::{put_byte, put_decimal, put_word};
 
 // A number of any width.
@@ -25,13 +24,13 @@ fn put_number(out: &mut [u8], at: usize, x: usize) -> usize
 }
 
 // A trade date, or `none`.
-fn put_date(out: &mut [u8], at: usize, date: TradeDate) -> usize
+fn put_date(out: &mut [u8], at: usize, date: Option<u32>) -> usize
     requires { at + 20 ≤ length out.old }
     ensures { WroteText out.old at (date_text date) out.new result × (result ≤ at + 20) }
 {
     match date {
-        TradeDate::None => put_word(out, at, b"none"),
-        TradeDate::At(d) => put_number(out, at, size32(d)),
+        None => put_word(out, at, b"none"),
+        Some(d) => put_number(out, at, size32(d)),
     }
 }
 
@@ -39,10 +38,7 @@ fn put_date(out: &mut [u8], at: usize, date: TradeDate) -> usize
 fn shown_places(count: usize) -> usize
     ensures { (result ≡ shown_places count) × (result ≤ 8) }
 {
-    if count < 8 {
-        return count;
-    }
-    8
+    count.min(8)
 }
 
 // The serving end: its trade date, the bytes of the log in use.
@@ -50,13 +46,11 @@ fn put_serving(out: &mut [u8], at: usize, sender: Sender) -> usize
     requires { at + 64 ≤ length out.old }
     ensures { WroteText out.old at (serving_line sender) out.new result × (result ≤ at + 64) }
 {
-    let day = sender.day;
-    let date = day.date;
     let n = put_word(out, at, b"serving");
     let n = put_byte(out, n, 32);
-    let n = put_date(out, n, date);
+    let n = put_date(out, n, sender.day.date);
     let n = put_byte(out, n, 32);
-    let n = put_number(out, n, day.used);
+    let n = put_number(out, n, sender.day.used);
     put_byte(out, n, 10)
 }
 
@@ -103,6 +97,8 @@ fn put_served_text(out: &mut [u8], at: usize, one: DaySeries) -> usize
     put_numbered(out, n, b"published", size32(one.published))
 }
 
+// Stays: this, `put_kept` and `put_saved` share the byte at the end alone; their texts are three (`served_line`,
+// `kept_line`, `saved_series`).
 // A series of the serving end.
 fn put_served(out: &mut [u8], at: usize, one: DaySeries, place: Place) -> usize
     requires { at + 190 ≤ length out.old }
@@ -119,16 +115,9 @@ fn put_all_served(out: &mut [u8], at: usize, sender: Sender) -> usize
     requires { at + 1520 ≤ length out.old }
     ensures { WroteText out.old at (served_lines sender) out.new result × (result ≤ at + 1520) }
 {
-    let day = sender.day;
-    let seat = sender.seat;
-    let count = shown_places(day.count);
     let mut to = at;
-    let mut i: usize = 0;
-    while i < count {
-        let one = day.series[i];
-        let place = seat.places[i];
-        to = put_served(out, to, one, place);
-        i += 1;
+    for i in 0..shown_places(sender.day.count) {
+        to = put_served(out, to, sender.day.series[i], sender.seat.places[i]);
     }
     to
 }
@@ -171,10 +160,9 @@ fn put_kept_text(out: &mut [u8], at: usize, one: KeptSeries) -> usize
     requires { at + 128 ≤ length out.old }
     ensures { WroteText out.old at (kept_text one) out.new result × (result ≤ at + 128) }
 {
-    let date = one.date;
     let n = put_numbered(out, at, b"series", size16(one.series));
     let n = put_byte(out, n, 32);
-    let n = put_date(out, n, date);
+    let n = put_date(out, n, one.date);
     let n = put_byte(out, n, 32);
     put_numbered(out, n, b"last", size32(one.last))
 }
@@ -203,16 +191,9 @@ fn put_all_kept(out: &mut [u8], at: usize, receiver: Receiver) -> usize
     requires { at + 1536 ≤ length out.old }
     ensures { WroteText out.old at (kept_lines receiver) out.new result × (result ≤ at + 1536) }
 {
-    let kept = receiver.kept;
-    let live = receiver.live;
-    let count = shown_places(kept.count);
     let mut to = at;
-    let mut i: usize = 0;
-    while i < count {
-        let one = kept.series[i];
-        let line = live.series[i];
-        to = put_kept(out, to, one, line);
-        i += 1;
+    for i in 0..shown_places(receiver.kept.count) {
+        to = put_kept(out, to, receiver.kept.series[i], receiver.live.series[i]);
     }
     to
 }
@@ -222,16 +203,8 @@ fn put_receiving(out: &mut [u8], at: usize, receiver: Receiver) -> usize
     requires { at + 64 ≤ length out.old }
     ensures { WroteText out.old at (receiving_line receiver) out.new result × (result ≤ at + 64) }
 {
-    let kept = receiver.kept;
-    let n = put_numbered(out, at, b"receiving", kept.count);
+    let n = put_numbered(out, at, b"receiving", receiver.kept.count);
     put_byte(out, n, 10)
-}
-
-// The lowest byte of a name's number.
-fn letter(rest: u64) -> u8
-    ensures { result ≡ rest % 256 }
-{
-    (rest % 256) as u8
 }
 
 // The letters of a name.
@@ -241,15 +214,13 @@ fn put_name(out: &mut [u8], at: usize, name: u64) -> usize
 {
     let mut to = at;
     let mut rest = name;
-    let mut i: usize = 0;
-    while i < 8 {
-        let x = letter(rest);
+    for _ in 0..8usize {
+        let x = (rest % 256) as u8;
         if x == 0 {
             return to;
         }
         to = put_byte(out, to, x);
-        rest = rest / 256;
-        i += 1;
+        rest /= 256;
     }
     to
 }
@@ -278,13 +249,9 @@ fn put_all_saved(out: &mut [u8], at: usize, kept: Kept) -> usize
     requires { at + 1032 ≤ length out.old }
     ensures { WroteText out.old at (saved_lines kept) out.new result × (result ≤ at + 1032) }
 {
-    let count = shown_places(kept.count);
     let mut to = at;
-    let mut i: usize = 0;
-    while i < count {
-        let one = kept.series[i];
-        to = put_saved(out, to, one);
-        i += 1;
+    for one in &kept.series[..shown_places(kept.count)] {
+        to = put_saved(out, to, *one);
     }
     to
 }
@@ -294,19 +261,15 @@ fn put_checkpoint(out: &mut [u8], at: usize, one: Checkpoint) -> usize
     requires { at + 1048 ≤ length out.old }
     ensures { WroteText out.old at (checkpoint_lines one) out.new result × (result ≤ at + 1048) }
 {
-    let kept = one.kept;
     let n = put_named(out, at, one.name);
-    put_all_saved(out, n, kept)
+    put_all_saved(out, n, one.kept)
 }
 
 // How many names are in use.
 fn names_used(checkpoints: Checkpoints) -> usize
     ensures { (result ≡ length (used_names checkpoints)) × (result ≤ 4) }
 {
-    if checkpoints.count < 4 {
-        return checkpoints.count;
-    }
-    4
+    checkpoints.count.min(4)
 }
 
 // The names in use, and what was kept under each.
@@ -315,13 +278,9 @@ fn put_checkpoints(out: &mut [u8], at: usize, checkpoints: Checkpoints) -> usize
     ensures { WroteText out.old at (all_checkpoints checkpoints) out.new result
         × (result ≤ at + 4192) }
 {
-    let count = names_used(checkpoints);
     let mut to = at;
-    let mut i: usize = 0;
-    while i < count {
-        let one = checkpoints.places[i];
-        to = put_checkpoint(out, to, one);
-        i += 1;
+    for one in &checkpoints.places[..names_used(checkpoints)] {
+        to = put_checkpoint(out, to, *one);
     }
     to
 }

@@ -3,13 +3,12 @@ ghost use Rattle.std.specs.Prelude.{◌≡◌, ◌+◌, ◌*◌, ◌<◌, ◌≤
 ghost use Rattle.listing.specs.Text.{WroteText};
 ghost use Rattle.flow.specs.Answers.{content_in};
 ghost use Rattle.ftd.specs.Bytes.{part};
-ghost use Rattle.play.specs.Lines.{hex_bytes, content_text, numbered, word_line, bytes_line, refused_line, opened_line};
+ghost use Rattle.play.specs.Lines.{hex_bytes, content_text, numbered, word_line, bytes_line, refused_line, outcome_line};
 ghost use Rattle.play.specs.Lines.{published_line, login_answer_line, sent_line, packet_line, sent_packet_line, requested_line};
-ghost use Rattle.play.specs.Lines.{confirmed_line, message_start, message_line, received_line, Passing, set_line, time_line, date_line};
+ghost use Rattle.play.specs.Lines.{confirmed_line, message_start, message_line, received_line, Passing, time_line, date_line};
 
-use calendar::trading::{SetAnswer, TradeTime};
-use flow::receiver::{Confirmed, Origin, Received, Requested};
-use flow::sender::{LoggedIn, Opened, Published, Sent, SentPacket};
+use flow::receiver::{Origin, Received};
+use flow::sender::{Sent, SentPacket};
 use ftd::bytes::{size8, size32, wide32};
 use ftd::packet::Span;
 use ftd::refusal::{Refusal, number};
@@ -22,10 +21,8 @@ pub(crate) fn put_pairs(out: &mut [u8], at: usize, bytes: &[u8]) -> usize
         × (result ≡ at + 2 * length bytes.now) }
 {
     let mut to = at;
-    let mut i: usize = 0;
-    while i < bytes.len() {
-        to = put_hex(out, to, wide32(bytes[i]), 2);
-        i += 1;
+    for x in bytes {
+        to = put_hex(out, to, wide32(*x), 2);
     }
     to
 }
@@ -46,8 +43,8 @@ fn put_content(out: &mut [u8], at: usize, bytes: &[u8]) -> usize
     ensures { WroteText out.old at (content_text bytes.now) out.new result
         × (result ≤ at + 1 + 2 * length bytes.now) }
 {
-    if bytes.len() == 0 {
-        return put_byte(out, at, 45);
+    if bytes.is_empty() {
+        return put_byte(out, at, b'-');
     }
     put_pairs(out, at, bytes)
 }
@@ -108,52 +105,56 @@ pub(crate) fn refused_line(out: &mut [u8], r: Refusal) -> usize
     number_line(out, b"refused", size8(number(r)))
 }
 
-// The line of an opening's answer.
-pub(crate) fn opened_line(out: &mut [u8], answer: Opened) -> usize
-    requires { 64 ≤ length out.old }
-    ensures { WroteText out.old 0 (opened_line answer) out.new result
+// The line of an answer that says no more than a refusal: the word meant where nothing was refused.
+pub(crate) fn outcome_line(out: &mut [u8], word: &[u8], answer: Result<(), Refusal>) -> usize
+    requires { (64 ≤ length out.old) × (length word.now ≤ 16) }
+    ensures { WroteText out.old 0 (outcome_line word.now answer) out.new result
         × (result ≤ length out.new) }
 {
     match answer {
-        Opened::Done => word_line(out, b"opened"),
-        Opened::Refused(r) => refused_line(out, r),
+        Ok(()) => word_line(out, word),
+        Err(r) => refused_line(out, r),
     }
 }
 
 // The line of Publish's answer.
-pub(crate) fn published_line(out: &mut [u8], answer: Published) -> usize
+pub(crate) fn published_line(out: &mut [u8], answer: Result<u32, Refusal>) -> usize
     requires { 64 ≤ length out.old }
     ensures { WroteText out.old 0 (published_line answer) out.new result
         × (result ≤ length out.new) × (result ≤ 28) }
 {
     match answer {
-        Published::Number(k) => number_line(out, b"published", size32(k)),
-        Published::Refused(r) => refused_line(out, r),
+        Ok(k) => number_line(out, b"published", size32(k)),
+        Err(r) => refused_line(out, r),
     }
 }
 
 // The line of Login's answer, with the bytes that it wrote to an output.
-pub(crate) fn login_line(out: &mut [u8], answer: LoggedIn, bytes: &[u8]) -> usize
+pub(crate) fn login_line(out: &mut [u8], answer: Result<usize, Refusal>, bytes: &[u8]) -> usize
     requires { 64 + 2 * length bytes.now ≤ length out.old }
     ensures { WroteText out.old 0 (login_answer_line bytes.now answer) out.new result
         × (result ≤ length out.new) }
 {
     match answer {
-        LoggedIn::Wrote(n) => front_line(out, b"login", b" ", bytes, n),
-        LoggedIn::Refused(r) => refused_line(out, r),
+        Ok(n) => front_line(out, b"login", b" ", bytes, n),
+        Err(r) => refused_line(out, r),
     }
 }
 
 // The line of Send's answer, with the bytes that it wrote to an output.
-pub(crate) fn sent_line(out: &mut [u8], answer: Sent, bytes: &[u8]) -> usize
+pub(crate) fn sent_line(
+    out: &mut [u8],
+    answer: Result<Option<Sent>, Refusal>,
+    bytes: &[u8],
+) -> usize
     requires { 64 + 2 * length bytes.now ≤ length out.old }
     ensures { WroteText out.old 0 (sent_line bytes.now answer) out.new result
         × (result ≤ length out.new) }
 {
     match answer {
-        Sent::Drained => word_line(out, b"none"),
-        Sent::Wrote { number: _, len: n } => front_line(out, b"sent", b" ", bytes, n),
-        Sent::Refused(r) => refused_line(out, r),
+        Ok(None) => word_line(out, b"none"),
+        Ok(Some(Sent { len, .. })) => front_line(out, b"sent", b" ", bytes, len),
+        Err(r) => refused_line(out, r),
     }
 }
 
@@ -170,43 +171,43 @@ fn packet_line(out: &mut [u8], last: bool, bytes: &[u8], n: usize) -> usize
 }
 
 // The line of Send's answer for one packet, with the bytes that it wrote to an output.
-pub(crate) fn sent_packet_line(out: &mut [u8], answer: SentPacket, bytes: &[u8]) -> usize
+pub(crate) fn sent_packet_line(
+    out: &mut [u8],
+    answer: Result<Option<SentPacket>, Refusal>,
+    bytes: &[u8],
+) -> usize
     requires { 64 + 2 * length bytes.now ≤ length out.old }
     ensures { WroteText out.old 0 (sent_packet_line bytes.now answer) out.new result
         × (result ≤ length out.new) }
 {
     match answer {
-        SentPacket::Drained => word_line(out, b"none"),
-        SentPacket::Wrote {
-            number: _,
-            len: n,
-            last,
-        } => packet_line(out, last, bytes, n),
-        SentPacket::Refused(r) => refused_line(out, r),
+        Ok(None) => word_line(out, b"none"),
+        Ok(Some(SentPacket { len, last, .. })) => packet_line(out, last, bytes, len),
+        Err(r) => refused_line(out, r),
     }
 }
 
 // The line of Ask's answer, with the bytes that it wrote to an output.
-pub(crate) fn requested_line(out: &mut [u8], answer: Requested, bytes: &[u8]) -> usize
+pub(crate) fn requested_line(out: &mut [u8], answer: Result<usize, Refusal>, bytes: &[u8]) -> usize
     requires { 64 + 2 * length bytes.now ≤ length out.old }
     ensures { WroteText out.old 0 (requested_line bytes.now answer) out.new result
         × (result ≤ length out.new) }
 {
     match answer {
-        Requested::Wrote(n) => front_line(out, b"asked", b" ", bytes, n),
-        Requested::Refused(r) => refused_line(out, r),
+        Ok(n) => front_line(out, b"asked", b" ", bytes, n),
+        Err(r) => refused_line(out, r),
     }
 }
 
 // The line of Answer's answer.
-pub(crate) fn confirmed_line(out: &mut [u8], answer: Confirmed) -> usize
+pub(crate) fn confirmed_line(out: &mut [u8], answer: Result<u32, Refusal>) -> usize
     requires { 64 ≤ length out.old }
     ensures { WroteText out.old 0 (confirmed_line answer) out.new result
         × (result ≤ length out.new) }
 {
     match answer {
-        Confirmed::Last(k) => number_line(out, b"answered", size32(k)),
-        Confirmed::Refused(r) => refused_line(out, r),
+        Ok(k) => number_line(out, b"answered", size32(k)),
+        Err(r) => refused_line(out, r),
     }
 }
 
@@ -259,11 +260,9 @@ fn complete_line(
     ensures { WroteText out.old 0 (message_line last tid (content_in packet.now
         buffer.now origin content)) out.new result × (result ≤ length out.new) }
 {
-    let start = content.start;
-    let len = content.len;
     match origin {
-        Origin::Packet => message_line(out, last, tid, part_of(packet, start, len)),
-        Origin::Buffer => message_line(out, last, tid, part_of(buffer, start, len)),
+        Origin::Packet => message_line(out, last, tid, part_of(packet, content.start, content.len)),
+        Origin::Buffer => message_line(out, last, tid, part_of(buffer, content.start, content.len)),
     }
 }
 
@@ -287,27 +286,15 @@ pub(crate) fn received_line(out: &mut [u8], answer: Received, packet: &[u8], buf
     }
 }
 
-// The line of Set's answer, of the calendar.
-pub(crate) fn set_line(out: &mut [u8], answer: SetAnswer) -> usize
-    requires { 64 ≤ length out.old }
-    ensures { WroteText out.old 0 (set_line answer) out.new result
-        × (result ≤ length out.new) }
-{
-    match answer {
-        SetAnswer::Done => word_line(out, b"set"),
-        SetAnswer::Refused(r) => refused_line(out, r),
-    }
-}
-
 // The line of a time's answer.
-pub(crate) fn time_line(out: &mut [u8], answer: TradeTime) -> usize
+pub(crate) fn time_line(out: &mut [u8], answer: Option<u32>) -> usize
     requires { 64 ≤ length out.old }
     ensures { WroteText out.old 0 (time_line answer) out.new result
         × (result ≤ length out.new) }
 {
     match answer {
-        TradeTime::Outside => word_line(out, b"outside"),
-        TradeTime::Inside(d) => number_line(out, b"inside", size32(d)),
+        None => word_line(out, b"outside"),
+        Some(d) => number_line(out, b"inside", size32(d)),
     }
 }
 

@@ -5,7 +5,7 @@ ghost use Rattle.play.specs.Words.{words_from};
 ghost use Rattle.play.specs.Played.{ShowsCalendar, ShowsTime, ShowsDate};
 
 use crate::player::{Played, Player};
-use crate::text::{date_line, set_line, time_line};
+use crate::text::{date_line, outcome_line, time_line};
 use crate::words::read_words;
 use calendar::trading::mark_date;
 
@@ -15,14 +15,11 @@ fn set_calendar(player: Player, sessions: &[u32], holidays: &[u32], text: &mut [
     ensures { ShowsCalendar player sessions.now holidays.now result text.old
         text.new }
 {
-    let old = player.calendar;
-    let step = old.set(sessions, holidays);
-    let answer = step.answer;
-    let new = step.calendar;
-    let len = set_line(text, answer);
+    let step = player.calendar.set(sessions, holidays);
+    let len = outcome_line(text, b"set", step.answer);
     Played {
-        player: player.with_calendar(new),
-        len: len,
+        player: player.with_calendar(step.calendar),
+        len,
     }
 }
 
@@ -51,10 +48,9 @@ pub(crate) fn ask_time(player: Player, seconds: u32, text: &mut [u8]) -> Played
     requires { 64 ≤ length text.old }
     ensures { ShowsTime player seconds result text.old text.new }
 {
-    let calendar = player.calendar;
-    let answer = calendar.ask(seconds);
+    let answer = player.calendar.ask(seconds);
     Played {
-        player: player,
+        player,
         len: time_line(text, answer),
     }
 }
@@ -64,9 +60,8 @@ pub(crate) fn show_date(player: Player, mark: u32, text: &mut [u8]) -> Played
     requires { 64 ≤ length text.old }
     ensures { ShowsDate player mark result text.old text.new }
 {
-    let d = mark_date(mark);
     Played {
-        player: player,
-        len: date_line(text, d),
+        player,
+        len: date_line(text, mark_date(mark)),
     }
 }

@@ -1,68 +1,43 @@
 // The words of a script's line: where a word ends, and the number or the bytes that it says.
-ghost use Rattle.std.specs.Prelude.{◌≡◌, ◌+◌, ◌-◌, ◌*◌, ◌/◌, ◌<◌, ◌≤◌, ◌++◌, ltb, length, take, drop};
+ghost use Rattle.std.specs.Prelude.{◌≡◌, ◌+◌, ◌-◌, ◌/◌, ◌≤◌, ◌==◌, ◌++◌, ltb, length, take, drop};
+ghost use Rattle.std.specs.List.{position};
 ghost use Rattle.ftd.specs.Bytes.{put};
 ghost use Rattle.play.specs.Words.{end_of, digit_value, number_in, tid_in, all_hex, says_bytes, pair_of, said_bytes, same_word};
 ghost use Rattle.play.specs.Words.{next_end, end_at, argument as argument_of, has_arguments, all_bytes, has_form};
 ghost use Rattle.play.specs.Words.{number_count, number_up_to, series_from, words_from};
-ghost use Rattle.play.specs.Words.{wide_in, is_number, up_to_colon, series_in, reserve_in, says_share};
+ghost use Rattle.play.specs.Words.{wide_in, up_to_colon, series_in, reserve_in, says_share};
 ghost use Rattle.play.specs.Words.{share_count, series_at, reserve_at, reserves_from, name_in, has_name};
 
 // A number above all that four bytes hold stands for a word that says none.
+// Stays: no `Option<u32>`, since the definitions (`number_in`, `no_number`, `tid_in`, `series_in`) give a number above
+// every limit, so that a call's one comparison with its limit refuses a word that says none too.
 pub const NO_NUMBER: u64 = 4294967296;
+
+// The first place at which bytes have the one given.
+fn place_of(bytes: &[u8], given: u8) -> Option<usize>
+    ensures { result ≡ position (λ x. x == given) bytes.now }
+{
+    bytes.iter().position(|x| *x == given)
+}
 
 // Where the word that begins at a place ends: at the next space, or with the line.
 pub(crate) fn word_end(line: &[u8], at: usize) -> usize
     requires { at ≤ length line.now }
     ensures { (result ≡ end_of line.now at) × (at ≤ result) × (result ≤ length line.now) }
 {
-    let mut i = at;
-    while i < line.len() {
-        if line[i] == 32 {
-            return i;
-        }
-        i += 1;
-    }
-    i
+    at + place_of(&line[at..], b' ').unwrap_or(line.len() - at)
 }
 
 // The value of a digit, decimal or hexadecimal in either case; 16 where it is none.
 fn digit(x: u8) -> u8
     ensures { (result ≡ digit_value x) × (result ≤ 16) }
 {
-    if x < 48 {
-        return 16;
+    match x {
+        b'0'..=b'9' => x - b'0',
+        b'A'..=b'F' => x - b'A' + 10,
+        b'a'..=b'f' => x - b'a' + 10,
+        _ => 16,
     }
-    if x <= 57 {
-        return x - 48;
-    }
-    if x < 65 {
-        return 16;
-    }
-    if x <= 70 {
-        return x - 55;
-    }
-    if x < 97 {
-        return 16;
-    }
-    if x <= 102 {
-        return x - 87;
-    }
-    16
-}
-
-// A digit as a number of eight bytes.
-fn wide_digit(x: u8) -> u64
-    ensures { (result ≡ digit_value x) × (result ≤ 16) }
-{
-    digit(x) as u64
-}
-
-// A number with a digit behind it.
-fn behind(n: u64, base: u64, d: u64) -> u64
-    requires { (n < 4294967296) × (base ≤ 16) × (d ≤ 16) }
-    ensures { result ≡ n * base + d }
-{
-    n * base + d
 }
 
 // The number that a word's digits say, in a base; `NO_NUMBER` where it is no number, or above four bytes.
@@ -70,21 +45,19 @@ pub(crate) fn read_number(word: &[u8], base: u64) -> u64
     requires { base ≤ 16 }
     ensures { (result ≡ number_in base word.now) × (result ≤ 4294967296) }
 {
-    if word.len() == 0 {
+    if word.is_empty() {
         return NO_NUMBER;
     }
     let mut n: u64 = 0;
-    let mut i: usize = 0;
-    while i < word.len() {
-        let d = wide_digit(word[i]);
+    for x in word {
+        let d = u64::from(digit(*x));
         if base <= d {
             return NO_NUMBER;
         }
-        n = behind(n, base, d);
+        n = n * base + d;
         if NO_NUMBER <= n {
             return NO_NUMBER;
         }
-        i += 1;
     }
     n
 }
@@ -99,81 +72,29 @@ pub(crate) fn read_tid(word: &[u8]) -> u64
     NO_NUMBER
 }
 
-// A number of eight bytes, or none.
-#[derive(Clone, Copy)]
-enum Wide {
-    Missing,
-    Number(usize),
-}
-
-// A number with a decimal digit behind it is above eight bytes.
-fn too_wide(n: usize, d: usize) -> bool
-    requires { d < 10 }
-    ensures { result ≡ ltb 18446744073709551615 (n * 10 + d) }
-{
-    (18446744073709551615 - d) / 10 < n
-}
-
-// A number with a decimal digit behind it, within eight bytes.
-fn wide_behind(n: usize, d: usize) -> usize
-    requires { n * 10 + d ≤ 18446744073709551615 }
-    ensures { result ≡ n * 10 + d }
-{
-    n * 10 + d
-}
-
-// A digit as a size.
-fn size_digit(x: u8) -> usize
-    ensures { (result ≡ digit_value x) × (result ≤ 16) }
-{
-    digit(x) as usize
-}
-
 // The decimal number that a word's digits say.
-fn read_wide(word: &[u8]) -> Wide
+fn read_wide(word: &[u8]) -> Option<usize>
     ensures { result ≡ wide_in word.now }
 {
-    if word.len() == 0 {
-        return Wide::Missing;
+    if word.is_empty() {
+        return None;
     }
     let mut n: usize = 0;
-    let mut i: usize = 0;
-    while i < word.len() {
-        let d = size_digit(word[i]);
+    for x in word {
+        let d = usize::from(digit(*x));
         if 10 <= d {
-            return Wide::Missing;
+            return None;
         }
-        if too_wide(n, d) {
-            return Wide::Missing;
-        }
-        n = wide_behind(n, d);
-        i += 1;
+        n = n.checked_mul(10)?.checked_add(d)?;
     }
-    Wide::Number(n)
-}
-
-// There is a number.
-fn is_number(x: Wide) -> bool
-    ensures { result ≡ is_number x }
-{
-    match x {
-        Wide::Missing => false,
-        Wide::Number(_) => true,
-    }
+    Some(n)
 }
 
 // How many bytes of a word stand before its first colon, or before its end.
 fn colon_at(word: &[u8]) -> usize
     ensures { (result ≡ up_to_colon word.now) × (result ≤ length word.now) }
 {
-    let mut i: usize = 0;
-    while i < word.len() {
-        if word[i] == 58 {
-            return i;
-        }
-        i += 1;
-    }
-    i
+    place_of(word, b':').unwrap_or(word.len())
 }
 
 // The number before a word's colon.
@@ -185,61 +106,47 @@ fn read_named(word: &[u8]) -> u64
 }
 
 // The reserve behind a word's colon; 0 without one.
-fn read_reserve(word: &[u8]) -> Wide
+fn read_reserve(word: &[u8]) -> Option<usize>
     ensures { result ≡ reserve_in word.now }
 {
     let e = colon_at(word);
     if e < word.len() {
         return read_wide(&word[e + 1..]);
     }
-    Wide::Number(0)
+    Some(0)
 }
 
 // The word says a series, and behind a colon its reserve.
+#[tactic(auto, unfolding(crate::specs::Words::says_share))]
 fn says_share(word: &[u8]) -> bool
     ensures { result ≡ says_share word.now }
 {
-    if read_named(word) > 65535 {
-        return false;
-    }
-    is_number(read_reserve(word))
+    read_named(word) <= 65535 && read_reserve(word).is_some()
 }
 
 // All bytes of a word are hexadecimal digits.
 fn all_hex(word: &[u8]) -> bool
     ensures { result ≡ all_hex word.now }
 {
-    let mut i: usize = 0;
-    while i < word.len() {
-        if digit(word[i]) == 16 {
-            return false;
-        }
-        i += 1;
-    }
-    true
+    word.iter().all(|x| digit(*x) != 16)
 }
 
 // The word says bytes: pairs of hexadecimal digits, or `-` for none.
 pub(crate) fn says_bytes(word: &[u8]) -> bool
     ensures { result ≡ says_bytes word.now }
 {
-    if word.len() == 0 {
-        return false;
+    match word {
+        [] => false,
+        [one] => *one == b'-',
+        _ => word.len() % 2 == 0 && all_hex(word),
     }
-    if word.len() == 1 {
-        return word[0] == 45;
-    }
-    if word.len() % 2 == 1 {
-        return false;
-    }
-    all_hex(word)
 }
 
 // The byte that a pair of digits says.
 fn pair(high: u8, low: u8) -> u8
     ensures { result ≡ pair_of high low }
 {
-    ((wide_digit(high) * 16 + wide_digit(low)) % 256) as u8
+    ((u16::from(digit(high)) * 16 + u16::from(digit(low))) % 256) as u8
 }
 
 // The bytes that a word says are put at a place; answers how many.
@@ -249,10 +156,8 @@ pub(crate) fn put_bytes(out: &mut [u8], at: usize, word: &[u8]) -> usize
         × (result ≡ length (said_bytes word.now)) × (result ≡ length word.now / 2) }
 {
     let n = word.len() / 2;
-    let mut i: usize = 0;
-    while i < n {
+    for i in 0..n {
         out[at + i] = pair(word[2 * i], word[2 * i + 1]);
-        i += 1;
     }
     n
 }
@@ -268,17 +173,7 @@ pub struct Two {
 pub(crate) fn is_word(word: &[u8], given: &[u8]) -> bool
     ensures { result ≡ same_word word.now given.now }
 {
-    if word.len() != given.len() {
-        return false;
-    }
-    let mut i: usize = 0;
-    while i < word.len() {
-        if word[i] != given[i] {
-            return false;
-        }
-        i += 1;
-    }
-    true
+    word == given
 }
 
 // Where the word ends that follows the one that ends at a place; behind the line where none follows.
@@ -296,10 +191,8 @@ fn end_at(line: &[u8], i: usize) -> usize
     ensures { (result ≡ end_at line.now i) × (result ≤ length line.now + 1) }
 {
     let mut e = word_end(line, 0);
-    let mut k: usize = 0;
-    while k < i {
+    for _ in 0..i {
         e = next_end(line, e);
-        k += 1;
     }
     e
 }
@@ -344,11 +237,8 @@ fn all_bytes(line: &[u8], i: usize, k: usize) -> bool
     requires { i + k ≤ 4 }
     ensures { result ≡ all_bytes line.now i k }
 {
-    let mut j: usize = 0;
-    while j < k {
-        if says_bytes(argument(line, i + j)) {
-            j += 1;
-        } else {
+    for j in 0..k {
+        if !says_bytes(argument(line, i + j)) {
             return false;
         }
     }
@@ -360,21 +250,14 @@ pub(crate) fn has_form(line: &[u8], numbers: usize, bytes: usize) -> bool
     requires { numbers + bytes ≤ 4 }
     ensures { result ≡ has_form line.now numbers bytes }
 {
-    if has_arguments(line, numbers + bytes) {
-        return all_bytes(line, numbers, bytes);
-    }
-    false
+    has_arguments(line, numbers + bytes) && all_bytes(line, numbers, bytes)
 }
 
 // The line has one argument, of one byte at least.
 pub(crate) fn has_name(line: &[u8]) -> bool
     ensures { result ≡ has_name line.now }
 {
-    if has_arguments(line, 1) {
-        let word = argument(line, 0);
-        return word.len() > 0;
-    }
-    false
+    has_arguments(line, 1) && !argument(line, 0).is_empty()
 }
 
 // The name that a word says: its bytes as they stand, and none where it is `-`.
@@ -394,21 +277,21 @@ fn above(line: &[u8], i: usize, top: u64) -> bool
     read_number(argument(line, i), 10) > top
 }
 
+// Stays: two loops, here and in `share_count`, with a definition each (`numbers_behind`, `shares_behind`). One over a
+// closure would have to say what the closure answers of each argument, which takes more lines than are the same.
 // How many numbers up to a top one the arguments from i on are; one more than the most where they are too many, or one
 // is no such number.
 pub(crate) fn number_count(line: &[u8], i: usize, top: u64, most: usize) -> usize
     requires { (i ≤ 1) × (most ≤ 112) }
     ensures { (result ≡ number_count top most line.now i) × (result ≤ most + 1) }
 {
-    let mut n: usize = 0;
-    while n <= most {
+    for n in 0..most + 1 {
         if has_arguments(line, i + n) {
             return n;
         }
         if above(line, i + n, top) {
             return most + 1;
         }
-        n += 1;
     }
     most + 1
 }
@@ -435,15 +318,15 @@ fn series_at(line: &[u8], i: usize) -> u64
     x
 }
 
+// Stays: three functions that differ in the list's type and in what is put. One over a closure would have to say what
+// the closure answers at each place, which takes more than the two lines that are the same.
 // The n series from argument i on are put into a list.
 pub(crate) fn read_series(line: &[u8], i: usize, n: usize, list: &mut [u16])
     requires { (i ≤ 1) × (n ≤ length list.old) }
     ensures { list.new ≡ series_from line.now i n ++ drop n list.old }
 {
-    let mut k: usize = 0;
-    while k < n {
-        list[k] = series_at(line, i + k) as u16;
-        k += 1;
+    for (k, x) in list[..n].iter_mut().enumerate() {
+        *x = series_at(line, i + k) as u16;
     }
 }
 
@@ -452,14 +335,11 @@ pub(crate) fn share_count(line: &[u8], i: usize) -> usize
     requires { i ≤ 1 }
     ensures { (result ≡ share_count line.now i) × (result ≤ 65) }
 {
-    let mut n: usize = 0;
-    while n <= 64 {
+    for n in 0..65 {
         if has_arguments(line, i + n) {
             return n;
         }
-        if says_share(argument(line, i + n)) {
-            n += 1;
-        } else {
+        if !says_share(argument(line, i + n)) {
             return 65;
         }
     }
@@ -467,13 +347,11 @@ pub(crate) fn share_count(line: &[u8], i: usize) -> usize
 }
 
 // The reserve that argument i says; 0 where it says none.
+#[tactic(auto, unfolding(crate::specs::Words::reserve_at, crate::specs::Words::wide_number))]
 fn reserve_at(line: &[u8], i: usize) -> usize
     ensures { result ≡ reserve_at line.now i }
 {
-    match read_reserve(argument(line, i)) {
-        Wide::Missing => 0,
-        Wide::Number(n) => n,
-    }
+    read_reserve(argument(line, i)).unwrap_or(0)
 }
 
 // The n reserves from argument i on are put into a list.
@@ -481,10 +359,8 @@ pub(crate) fn read_reserves(line: &[u8], i: usize, n: usize, list: &mut [usize])
     requires { (i ≤ 1) × (n ≤ length list.old) }
     ensures { list.new ≡ reserves_from line.now i n ++ drop n list.old }
 {
-    let mut k: usize = 0;
-    while k < n {
-        list[k] = reserve_at(line, i + k);
-        k += 1;
+    for (k, x) in list[..n].iter_mut().enumerate() {
+        *x = reserve_at(line, i + k);
     }
 }
 
@@ -493,9 +369,7 @@ pub(crate) fn read_words(line: &[u8], i: usize, n: usize, list: &mut [u32])
     requires { (i ≤ 49) × (n ≤ length list.old) }
     ensures { list.new ≡ words_from line.now i n ++ drop n list.old }
 {
-    let mut k: usize = 0;
-    while k < n {
-        list[k] = number_up_to(line, i + k, 4294967295) as u32;
-        k += 1;
+    for (k, x) in list[..n].iter_mut().enumerate() {
+        *x = number_up_to(line, i + k, 4294967295) as u32;
     }
 }

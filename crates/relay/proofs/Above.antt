@@ -12,10 +12,8 @@ use lib.Dec.{eqb}
 use Rattle.ftd.specs.Packet.{dated_of}
 use Rattle.ftd.specs.declared.refusal.Refusal.{Refusal}
 use Rattle.ftd.specs.declared.refusal.Refusal.TheVariants.{Opening, OtherDay}
-use Rattle.ftd.specs.declared.tags.TradeDate.{TradeDate}
-use Rattle.ftd.specs.declared.tags.TradeDate.TheVariants.{None, At}
-use Rattle.flow.specs.declared.sender.Opened.{Opened}
-use Rattle.flow.specs.declared.sender.Opened.TheVariants.{Refused as NotOpened}
+use Rattle.ftd.specs.Types.{TradeDate}
+use Rattle.flow.specs.Types.{Opened}
 use Rattle.flow.specs.declared.receiver.Receiver.{Receiver}
 use Rattle.flow.specs.Ends.{Left, left, before, wrong_series}
 use Rattle.flow.specs.Receiving.{open_end_of, confirm_login_of, receive_of}
@@ -39,6 +37,7 @@ use Rattle.relay.specs.World.{with_box, box_step}
 use Rattle.relay.proofs.Ways.{AnswerDone, comes-late, not_taken, same-day, not_opened, opened, answer-done}
 use Rattle.relay.proofs.Ways.{ReceiveDone, hands_none, not-published, published, receive-done, hands-past}
 use Rattle.relay.proofs.Ways.{past-online}
+use Rattle.std.specs.Prelude.{Some, None, Err}
 
 -- ─── A step of a line, and what it spares ───
 
@@ -63,22 +62,22 @@ by-box P w (some x) h k = k x refl
 
 -- The box's day is not above d, and no message of series s and day d was turned away by publishing.
 pub record Fair (n m : Node) (s d : ℕ) : Type 0 where
-  pub ahead : Upto n.day.date (At d)
+  pub ahead : Upto n.day.date (Some d)
   pub takes : of s d (since n.refused m.refused) ≡ []
 
-not-before : (d : ℕ) (o : TradeDate) → Upto o (At d) → before (At d) o ≡ true → ⊥
+not-before : (d : ℕ) (o : TradeDate) → Upto o (Some d) → before (Some d) o ≡ true → ⊥
 not-before d None u q = clash false q refl
-not-before d (At c) u q = let l = ltb-true d c q in omega arith
+not-before d (Some c) u q = let l = ltb-true d c q in omega arith
 
-one-there : (s d : ℕ) (x : Refusal) → of s d (dated s (At d) x ∷ []) ≡ [] → ⊥
+one-there : (s d : ℕ) (x : Refusal) → of s d (dated s (Some d) x ∷ []) ≡ [] → ⊥
 one-there s d x q =
-    let f : of s d (dated s (At d) x ∷ []) ≡ x ∷ [] = rw (eq-eqb s s refl, eq-eqb d d refl) in
+    let f : of s d (dated s (Some d) x ∷ []) ≡ x ∷ [] = rw (eq-eqb s s refl, eq-eqb d d refl) in
     let g : x ∷ [] ≡ [] = sym f ∙ q in
     let z : ◌≡◌ {A = ℕ} 0 1 = cc in
     omega arith
 
 -- An opening without series is refused.
-pub no-opening : (e : Receiver) → open_end_of e [] ≡ left e (NotOpened Opening)
+pub no-opening : (e : Receiver) → open_end_of e [] ≡ left e (Err Opening)
 unfolding open_end_of wrong_series
 no-opening e = rw (either (not (eqb e.kept.count 0)))
   where
@@ -155,7 +154,7 @@ module _ (v : SenderSide) (begun : AllBegun v) (n : Node) where
     t = series_in (dated_of p).packet
 
     -- The packet is of the transmission's series, and of a day.
-    pub packet-of : (t ≡ m.series) × ((d : ℕ) × ((dated_of p).date ≡ At d))
+    pub packet-of : (t ≡ m.series) × ((d : ℕ) × ((dated_of p).date ≡ Some d))
     packet-of =
         let g = every-at (BegunIn v.published) v.transmissions i m begun at in
         let a : PacketAt m.series g.what.tid (suc g.place) g.day g.what.content j p =

@@ -8,9 +8,6 @@ use borrow.Author.Tests.{lt-ltb}
 use Rattle.ftd.specs.declared.refusal.Refusal.TheVariants.{DamagedLog}
 use Rattle.ftd.proofs.chain.Laws.{chain_laws}
 use Rattle.flow.specs.declared.sender.Sender.{Sender}
-use Rattle.flow.specs.declared.sender.Sent.{Sent}
-use Rattle.flow.specs.declared.sender.Sent.TheVariants.{Refused as NotSent}
-use Rattle.flow.specs.declared.sender.SentPacket.TheVariants.{Refused as NotPacket}
 use Rattle.flow.specs.Ends.{Wrote}
 use Rattle.flow.specs.Serving.{send_of, send_packet_of}
 use Rattle.flow.specs.World.{SenderSide}
@@ -32,6 +29,8 @@ use Rattle.relay.proofs.Openings.{openings}
 use Rattle.relay.proofs.Halves.{Good, good_start, good-run, above-complete, below-complete}
 use Rattle.relay.proofs.Enough.{log-enough, admitted}
 use Rattle.relay.proofs.Numbers.{same_number, counts, day-below, seat-start, seat-whole}
+use Rattle.std.specs.Prelude.{Err}
+use Rattle.flow.specs.Types.{SendAnswer}
 
 good : (l : Lent) (es : List BoxEvent) → Good (ran l es)
 good l es = good-run (start_box l) (good_start l) es
@@ -44,7 +43,7 @@ each-sent v z k m q =
 -- ─── The log is sound ───
 
 module _ (v : SenderSide) (h : Source v) (s : ℕ) (out : List ℕ) where
-  send-damaged-never : (r : Wrote Sender Sent) → SendDone v.end s v.log out r → r.answer ≡ NotSent DamagedLog → ⊥
+  send-damaged-never : (r : Wrote Sender SendAnswer) → SendDone v.end s v.log out r → r.answer ≡ Err DamagedLog → ⊥
   send-damaged-never r (send-unknown a) q = let z : ◌≡◌ {A = ℕ} 0 1 = cc in omega arith
   send-damaged-never r (send-outside a b) q = let z : ◌≡◌ {A = ℕ} 0 1 = cc in omega arith
   send-damaged-never r (send-drained a b) q = let z : ◌≡◌ {A = ℕ} 0 1 = cc in omega arith
@@ -58,14 +57,14 @@ module _ (n : Node) (i : ℕ) (x : SeatLine) (few : i < 16) (h : Source (serving
   there : no_such_seat i ≡ false
   there = rw (lt-ltb i 16 few)
 
-  sends : (send_seat_of (box_of n) i s n.log out).answer ≡ NotSent DamagedLog → ⊥
+  sends : (send_seat_of (box_of n) i s n.log out).answer ≡ Err DamagedLog → ⊥
   unfolding send_seat_of
   sends =
       rw there
       (send-damaged-never (serving_at n i x) h s out (send_of (server_at (box_of n) i) s n.log out)
       (send-cases (server_at (box_of n) i) s n.log out))
 
-  sends-packet : (send_packet_seat_of (box_of n) i s n.log out).answer ≡ NotPacket DamagedLog → ⊥
+  sends-packet : (send_packet_seat_of (box_of n) i s n.log out).answer ≡ Err DamagedLog → ⊥
   unfolding send_packet_seat_of
   sends-packet =
       rw there

@@ -11,13 +11,10 @@ use lib.ListN.{length, get_elem?, get_or, set, length-set, get_or-replicate}
 use lib.Seq.{get_or-set_same, get_or-set_other}
 use lib.Dec.{eqb}
 use Rattle.ftd.specs.Packet.{dated_of}
-use Rattle.ftd.specs.declared.tags.TradeDate.TheVariants.{At}
 use Rattle.flow.specs.declared.sender.Seat.{Seat}
 use Rattle.flow.specs.declared.sender.Sender.{Sender}
-use Rattle.flow.specs.declared.sender.Opened.{Opened}
-use Rattle.flow.specs.declared.sender.Opened.TheVariants.{Done}
-use Rattle.flow.specs.declared.sender.Published.{Published}
-use Rattle.flow.specs.declared.sender.Published.TheVariants.{Number}
+use Rattle.flow.specs.Types.{Opened}
+use Rattle.flow.specs.Types.{Published}
 use Rattle.flow.specs.Ends.{Left, Wrote, wrote, kept_series}
 use Rattle.flow.specs.Answers.{Message}
 use Rattle.flow.specs.Serving.{open_day_of, publish_of, login_of, send_of, send_packet_of}
@@ -38,6 +35,7 @@ use Rattle.relay.proofs.Calls.{reseated, publish-seat, publish-date, open-seat, 
 use Rattle.relay.proofs.Ways.{AnswerDone, comes-late, not_taken, same-day, not_opened, opened, answer-done}
 use Rattle.relay.proofs.Ways.{opening_of, ReceiveDone, hands_none, not-published, published, receive-done}
 use Rattle.relay.proofs.Above.{Stepped, called, rested, by-box}
+use Rattle.std.specs.Prelude.{Some, Ok}
 
 abbrev pub Any : ℕ → ℕ → Type 0
 Any s d = Unit {0}
@@ -162,7 +160,7 @@ module _ (n : Node) (h : Sixteen n) (i : ℕ) (few : i < 16) (x : SeatLine) (r :
 
   opened-here : (s : ℕ) (p : List ℕ) (d : ℕ) (q : Left Sender Opened)
       → OpenDone (serving (box_of n)) d ss rs n.log q
-      → open_day_of (serving (box_of n)) d ss rs n.log ≡ q → q.answer ≡ Done → then s p (AnswerWay.opens q)
+      → open_day_of (serving (box_of n)) d ss rs n.log ≡ q → q.answer ≡ (Ok tt) → then s p (AnswerWay.opens q)
   opened-here s p d q (open-refused y) e f = let z : ◌≡◌ {A = ℕ} 0 1 = cc in absurd (omega arith)
   opened-here s p d q (open-taken a b c k) e f =
       let g : open_day_of (server_of n.day X) d ss rs n.log ≡ q =
@@ -174,7 +172,7 @@ module _ (n : Node) (h : Sixteen n) (i : ℕ) (few : i < 16) (x : SeatLine) (r :
       (record {
         end = server_of q.end.day y;
         log = n.log;
-        day = At d;
+        day = Some d;
         openings = suc n.openings;
         published = n.published;
         answers = x.answers;
@@ -211,7 +209,7 @@ module _ (n : Node) (h : Sixteen n) (i : ℕ) (few : i < 16) (x : SeatLine) (r :
 
     published-here : (y : Message) (c : ℕ) (q : Wrote Sender Published)
         → publish_of (server_of n.day X) t y.tid y.content n.log ≡ reseated X q
-        → q.answer ≡ Number c → q.end.day.date ≡ n.day.date → To (on (ReceiveWay.publishes y q)) x
+        → q.answer ≡ Ok c → q.end.day.date ≡ n.day.date → To (on (ReceiveWay.publishes y q)) x
     published-here y c q e f g =
         called W _ _ (World.publish t y.tid y.content)
         (ap

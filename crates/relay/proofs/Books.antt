@@ -12,17 +12,14 @@ use lib.ListN.{length, get_elem?, get_or, set, take, length-append, length-repli
 use lib.Dec.{eqb, ltb}
 use borrow.Author.Tests.{ltb-false}
 use Rattle.ftd.specs.Packet.{dated_of}
-use Rattle.ftd.specs.declared.tags.TradeDate.{TradeDate}
-use Rattle.ftd.specs.declared.tags.TradeDate.TheVariants.{At}
+use Rattle.ftd.specs.Types.{TradeDate}
 use Rattle.flow.specs.declared.sender.Day.{Day}
 use Rattle.flow.specs.declared.sender.DaySeries.{DaySeries}
 use Rattle.flow.specs.declared.sender.Sender.{Sender}
-use Rattle.flow.specs.declared.sender.Opened.{Opened}
-use Rattle.flow.specs.declared.sender.Opened.TheVariants.{Done}
-use Rattle.flow.specs.declared.sender.Published.{Published}
-use Rattle.flow.specs.declared.sender.Published.TheVariants.{Number}
+use Rattle.flow.specs.Types.{Opened}
+use Rattle.flow.specs.Types.{Published}
 use Rattle.flow.specs.declared.receiver.Receiver.{Receiver}
-use Rattle.flow.specs.declared.receiver.Confirmed.{Confirmed}
+use Rattle.flow.specs.Types.{Confirmed}
 use Rattle.flow.specs.declared.receiver.Received.{Received}
 use Rattle.flow.specs.Ends.{Left, Wrote, member, index_of, differing, wrong_series, most_series, up_to, no_series, grown_series}
 use Rattle.flow.specs.Ends.{opened_series, fresh_sender, day_series, is_served, reserve_of, used_of, with_entry}
@@ -64,6 +61,7 @@ use Rattle.relay.proofs.Join.{hands-one}
 use Rattle.relay.proofs.Joint.{Rests, login-rests, send-rests, packet-rests, handed-day}
 use Rattle.relay.proofs.Halves.{AtSeat}
 use Rattle.relay.proofs.Sums.{bytes-append}
+use Rattle.std.specs.Prelude.{Some, Ok}
 
 -- ─── Series with their reserves, and what was published ───
 
@@ -98,7 +96,7 @@ opened-books (s ∷ ss) (r ∷ rs) d P q f =
 -- One is published.
 module _ (d s : ℕ) (m : Message) (P : List (Dated Message)) where
   abbrev Q : List (Dated Message)
-  Q = P ++ (dated s (At d) m ∷ [])
+  Q = P ++ (dated s (Some d) m ∷ [])
 
   abbrev size : ℕ
   size = 16 + length m.content
@@ -109,7 +107,7 @@ module _ (d s : ℕ) (m : Message) (P : List (Dated Message)) where
       ∙ bytes-append (of s d P) (m ∷ []) ∙ omega arith
 
   there : (u : ℕ) → (u ≡ s → ⊥) → bytes_of (of u d Q) ≡ bytes_of (of u d P)
-  there u n = ap bytes_of (of-else u s d (At d) P (m ∷ []) n)
+  there u n = ap bytes_of (of-else u s d (Some d) P (m ∷ []) n)
 
   others : (xs : List DaySeries) (rs : List ℕ) → member s (map number_in xs) ≡ false → Books xs rs d P → Books xs rs d Q
   others [] [] q h = tt
@@ -119,7 +117,7 @@ module _ (d s : ℕ) (m : Message) (P : List (Dated Message)) where
       let a = or-neither (eqb x.series s) (member s (map number_in xs)) q in
       (h.0, h.1 ∙ sym (there x.series (eqb-false x.series s a.0)), others xs rs a.1 h.2)
 
-  -- At the place of series s, with its bytes and those of the entry.
+  -- Some the place of series s, with its bytes and those of the entry.
   entry-books : (n : ℕ) (l : List DaySeries) (rs : List ℕ) (y : DaySeries)
       → differing (map number_in (take n l)) ≡ true → member s (map number_in (take n l)) ≡ true
       → y.series ≡ s → y.reserve ≡ (get_or l (index_of s (map number_in (take n l))) no_series).reserve
@@ -174,7 +172,7 @@ turn-kept o c e z after ms ks Turns.stays = inr refl
 turn-kept o c e z after ms ks (Turns.opens ss a b) = inl (none_kept e a)
 turn-kept o c e z after ms ks (Turns.connects x) = inr (connect-series e)
 turn-kept o c e z after ms ks (Turns.confirms t d r b x) =
-    inr (series-stay e z t r (At d) (last_after e t (At d)) logged_in)
+    inr (series-stay e z t r (Some d) (last_after e t (Some d)) logged_in)
 turn-kept o c e z after ms ks (Turns.receives {last} {live} t r h g) =
     inr (series-stay e z t r (kept_of e t).date last live)
 
@@ -267,7 +265,7 @@ reserves_at n = reserves_of n.receiving.end n.reserves
 
 pub record Booked (n : Node) : Type 0 where
   pub sum : Accounts (serving (box_of n))
-  pub books : (d : ℕ) → n.day.date ≡ At d
+  pub books : (d : ℕ) → n.day.date ≡ Some d
       → Books (take n.day.count n.day.series) (reserves_at n) d n.published
 
 none-member : (e : Receiver) (s : ℕ) → kept_series e ≡ [] → is_open e s ≡ false
@@ -279,7 +277,7 @@ module _ (w : BoxWorld) (g : AtSeat w) (h : Booked w.node) where
   abbrev K : Node
   K = w.node
 
-  at-day : (d : ℕ) → K.day.date ≡ At d → (m : Node) → Keeps K m → reserves_at m ≡ reserves_at K
+  at-day : (d : ℕ) → K.day.date ≡ Some d → (m : Node) → Keeps K m → reserves_at m ≡ reserves_at K
   at-day d q m (inl z) =
       let x = g.joint.0.someone d q in clash _ x.1 (none-member K.receiving.end x.0 z)
   at-day d q m (inr z) = rw (z.0, z.1)
@@ -290,7 +288,7 @@ module _ (w : BoxWorld) (g : AtSeat w) (h : Booked w.node) where
       record {
         sum = record { sum = rw a h.sum.sum };
         books = λ d q.
-            let f : K.day.date ≡ At d = ap (λ (D : Day). D.date) (sym a) ∙ q in
+            let f : K.day.date ≡ Some d = ap (λ (D : Day). D.date) (sym a) ∙ q in
             rw (a, b, at-day d f m k) (h.books d f);
       }
 
@@ -305,7 +303,7 @@ module _ (w : BoxWorld) (g : AtSeat w) (h : Booked w.node) where
       ∙ ap (messages_of u) (g.served.not-later d q)
 
   opened-booked : (s : ℕ) (p : List ℕ) (d : ℕ) → up_to d K.day.date ≡ false → (q : Left Sender Opened)
-      → OpenDone (serving (box_of K)) d (kept_series K.receiving.end) (reserves_at K) K.log q → q.answer ≡ Done
+      → OpenDone (serving (box_of K)) d (kept_series K.receiving.end) (reserves_at K) K.log q → q.answer ≡ (Ok tt)
       → (m : Node) → m.day ≡ q.end.day → m.published ≡ K.published → reserves_at m ≡ reserves_at K → Booked m
   opened-booked s p d u q (open-refused x) f m a b c = let z : ◌≡◌ {A = ℕ} 0 1 = cc in absurd (omega arith)
   opened-booked s p d u q (open-taken x y z k) f m a b c =
@@ -318,7 +316,7 @@ module _ (w : BoxWorld) (g : AtSeat w) (h : Booked w.node) where
             (opened-books ss (reserves_at K) d K.published k (nothing d u));
       }
     where
-      same_at : (o : TradeDate) (a b : ℕ) → o ≡ At a → o ≡ At b → a ≡ b
+      same_at : (o : TradeDate) (a b : ℕ) → o ≡ Some a → o ≡ Some b → a ≡ b
       same_at o a b p q = cc
 
   confirm-series : (s : ℕ) (p : List ℕ)
@@ -346,19 +344,19 @@ module _ (w : BoxWorld) (g : AtSeat w) (h : Booked w.node) where
   -- ─── Receive ───
 
   -- With one more published.
-  pub entered : (t : ℕ) (x : Message) (d : ℕ) → K.day.date ≡ At d → is_served (serving (box_of K)) t ≡ true
+  pub entered : (t : ℕ) (x : Message) (d : ℕ) → K.day.date ≡ Some d → is_served (serving (box_of K)) t ≡ true
       → differing (day_series (serving (box_of K))) ≡ true →
       let e = with_entry (serving (box_of K)) t (16 + length x.content) in
-      Books (take e.day.count e.day.series) (reserves_at K) d (K.published ++ (dated t (At d) x ∷ []))
+      Books (take e.day.count e.day.series) (reserves_at K) d (K.published ++ (dated t (Some d) x ∷ []))
   unfolding with_entry is_served day_series reserve_of used_of
   entered t x d q o f =
       entry-books d t x K.published K.day.count K.day.series (reserves_at K)
       (grown_series (serving (box_of K)) t (16 + length x.content)) f o refl refl refl (h.books d q)
 
-  published-booked : (t : ℕ) (x : Message) (d : ℕ) → K.day.date ≡ At d
+  published-booked : (t : ℕ) (x : Message) (d : ℕ) → K.day.date ≡ Some d
       → differing (day_series (serving (box_of K))) ≡ true → (q : Wrote Sender Published)
-      → PublishDone (serving (box_of K)) t x.tid x.content K.log q → (c : ℕ) → q.answer ≡ Number c
-      → (m : Node) → m.day ≡ q.end.day → m.published ≡ K.published ++ (dated t (At d) x ∷ [])
+      → PublishDone (serving (box_of K)) t x.tid x.content K.log q → (c : ℕ) → q.answer ≡ Ok c
+      → (m : Node) → m.day ≡ q.end.day → m.published ≡ K.published ++ (dated t (Some d) x ∷ [])
       → Keeps K m → q.end.day.date ≡ K.day.date → Booked m
   published-booked t x d u i q (publish-refused z) c f m a b k o = let z : ◌≡◌ {A = ℕ} 0 1 = cc in absurd (omega arith)
   published-booked t x d u i q (publish-taken z) c f m a b k o =
@@ -372,7 +370,7 @@ module _ (w : BoxWorld) (g : AtSeat w) (h : Booked w.node) where
             rw (a, b, at-day d u m k, y) (entered t x d u z.served i);
       }
     where
-      same_at : (o : TradeDate) (a b : ℕ) → o ≡ At a → o ≡ At b → a ≡ b
+      same_at : (o : TradeDate) (a b : ℕ) → o ≡ Some a → o ≡ Some b → a ≡ b
       same_at o a b p q = cc
 
 -- ─── The series of the receiving end are right ───
@@ -387,7 +385,7 @@ turn-right o c e z h after ms ks (Turns.opens ss a b) = λ s q. rw (opened-serie
 turn-right o c e z h after ms ks (Turns.connects x) =
     λ s q. rw (connect-series e) (h s (sym (connect-open e s) ∙ q))
 turn-right o c e z h after ms ks (Turns.confirms t d r b x) = λ s q.
-    rw (series-stay e z t r (At d) (last_after e t (At d)) logged_in) (h t r)
+    rw (series-stay e z t r (Some d) (last_after e t (Some d)) logged_in) (h t r)
 turn-right o c e z h after ms ks (Turns.receives {last} {live} t r l g) = λ s q.
     rw (series-stay e z t r (kept_of e t).date last live) (h t r)
 

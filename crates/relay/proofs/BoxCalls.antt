@@ -15,17 +15,10 @@ use Rattle.ftd.specs.declared.refusal.Refusal.{Refusal}
 use Rattle.ftd.specs.declared.refusal.Refusal.TheVariants.{Opening, NoSeat}
 use Rattle.flow.specs.declared.sender.Seat.{Seat}
 use Rattle.flow.specs.declared.sender.Sender.{Sender}
-use Rattle.flow.specs.declared.sender.Opened.{Opened}
-use Rattle.flow.specs.declared.sender.Opened.TheVariants.{Done}
-use Rattle.flow.specs.declared.sender.Opened.TheVariants.{Refused as NotOpened}
-use Rattle.flow.specs.declared.sender.LoggedIn.{LoggedIn}
-use Rattle.flow.specs.declared.sender.LoggedIn.TheVariants.{Refused as NotIn}
-use Rattle.flow.specs.declared.sender.Sent.{Sent}
-use Rattle.flow.specs.declared.sender.Sent.TheVariants.{Refused as NotSent}
-use Rattle.flow.specs.declared.sender.SentPacket.{SentPacket}
-use Rattle.flow.specs.declared.sender.SentPacket.TheVariants.{Refused as NotPacket}
+use Rattle.flow.specs.Types.{Opened}
+use Rattle.flow.specs.Types.{LoggedIn}
 use Rattle.flow.specs.declared.receiver.Receiver.{Receiver}
-use Rattle.flow.specs.declared.receiver.Confirmed.{Confirmed}
+use Rattle.flow.specs.Types.{Confirmed}
 use Rattle.flow.specs.declared.receiver.Received.TheVariants.{Idle, Duplicate, Partial, Complete}
 use Rattle.flow.specs.declared.receiver.Received.TheVariants.{Refused as NotTaken}
 use Rattle.flow.specs.Ends.{Left, left, Wrote, wrote, no_place}
@@ -60,6 +53,8 @@ use Rattle.relay.proofs.CallsAs.{sends-packet-as, no-login-as, no-send-as, no-pa
 use Rattle.relay.proofs.CallsAs.{opening-reserves-as}
 use Rattle.relay.proofs.Logged.{logged-run}
 use Rattle.relay.proofs.Together.{both-lines}
+use Rattle.std.specs.Prelude.{Ok, Err}
+use Rattle.flow.specs.Types.{SendAnswer, PacketSent}
 
 -- What wrote something was taken.
 pub wrote-taken : (a : Said) → any (off a).wrote ≡ true → is_taken a ≡ true
@@ -97,21 +92,21 @@ module _ (b : Box) (i s : ℕ) where
   pub login-left : (p content out : List ℕ) → SeatLeft login_said b i out (login_seat_of b i s p content out)
   unfolding login_seat_of
   login-left p content out =
-      by-when (SeatLeft login_said b i out) (no_such_seat i) (λ q. rested (NotIn NoSeat)) λ q.
+      by-when (SeatLeft login_said b i out) (no_such_seat i) (λ q. rested (Err NoSeat)) λ q.
       go (login_of e s p content out) (login-cases e s p content out)
     where
       go : (r : Wrote Sender LoggedIn) → LoginDone e s p content out r
           → SeatLeft login_said b i out (wrote (with_seat b i r.end.seat) r.answer r.bytes)
-      go r (login-refused x) = rw (seat-own b i) (rested (NotIn x))
+      go r (login-refused x) = rw (seat-own b i) (rested (Err x))
       go r (login-taken h x c a d g t) = moved _ _ _ refl
 
   pub send-left : (log out : List ℕ) → SeatLeft sent_said b i out (send_seat_of b i s log out)
   unfolding send_seat_of
   send-left log out =
-      by-when (SeatLeft sent_said b i out) (no_such_seat i) (λ q. rested (NotSent NoSeat)) λ q.
+      by-when (SeatLeft sent_said b i out) (no_such_seat i) (λ q. rested (Err NoSeat)) λ q.
       go (send_of e s log out) (send-cases e s log out)
     where
-      go : (r : Wrote Sender Sent) → SendDone e s log out r
+      go : (r : Wrote Sender SendAnswer) → SendDone e s log out r
           → SeatLeft sent_said b i out (wrote (with_seat b i r.end.seat) r.answer r.bytes)
       go r (send-unknown a) = rw (seat-own b i) (rested _)
       go r (send-outside a c) = rw (seat-own b i) (rested _)
@@ -123,10 +118,10 @@ module _ (b : Box) (i s : ℕ) where
   pub packet-left : (log out : List ℕ) → SeatLeft sent_packet_said b i out (send_packet_seat_of b i s log out)
   unfolding send_packet_seat_of
   packet-left log out =
-      by-when (SeatLeft sent_packet_said b i out) (no_such_seat i) (λ q. rested (NotPacket NoSeat)) λ q.
+      by-when (SeatLeft sent_packet_said b i out) (no_such_seat i) (λ q. rested (Err NoSeat)) λ q.
       go (send_packet_of e s log out) (packet-cases e s log out)
     where
-      go : (r : Wrote Sender SentPacket) → PacketDone e s log out r
+      go : (r : Wrote Sender PacketSent) → PacketDone e s log out r
           → SeatLeft sent_packet_said b i out (wrote (with_seat b i r.end.seat) r.answer r.bytes)
       go r (packet-unknown a) = rw (seat-own b i) (rested _)
       go r (packet-outside a c) = rw (seat-own b i) (rested _)
@@ -172,8 +167,8 @@ module _ {A : Type 0} (said : A → Said) (b : Box) (j : ℕ) (out : List ℕ) w
 -- ─── Opening: nothing changed, or the receiving end and its reserves set ───
 
 pub data OpenLeft (b : Box) : Left Box Opened → Type 0 where
-  rested : (x : Refusal) → OpenLeft b (left b (NotOpened x))
-  set-up : (e : Receiver) (rs : List ℕ) → Eight e → OpenLeft b (left (box e rs b.day b.seats) Done)
+  rested : (x : Refusal) → OpenLeft b (left b (Err x))
+  set-up : (e : Receiver) (rs : List ℕ) → Eight e → OpenLeft b (left (box e rs b.day b.seats) (Ok tt))
 
 pub open-left : (b : Box) (ss rs : List ℕ) → OpenLeft b (open_box_of b ss rs)
 unfolding open_box_of

@@ -16,14 +16,8 @@ use Rattle.ftd.specs.declared.refusal.Refusal.TheVariants.{UnknownSeries, Damage
 use Rattle.flow.specs.declared.sender.Day.{Day}
 use Rattle.flow.specs.declared.sender.Seat.{Seat}
 use Rattle.flow.specs.declared.sender.Sender.{Sender}
-use Rattle.flow.specs.declared.sender.Opened.TheVariants.{Done}
-use Rattle.flow.specs.declared.sender.Opened.TheVariants.{Refused as NotOpened}
-use Rattle.flow.specs.declared.sender.Published.{Published}
-use Rattle.flow.specs.declared.sender.Published.TheVariants.{Number}
-use Rattle.flow.specs.declared.sender.Published.TheVariants.{Refused as NotPublished}
-use Rattle.flow.specs.declared.sender.LoggedIn.{LoggedIn}
-use Rattle.flow.specs.declared.sender.Sent.{Sent}
-use Rattle.flow.specs.declared.sender.SentPacket.{SentPacket}
+use Rattle.flow.specs.Types.{Published}
+use Rattle.flow.specs.Types.{LoggedIn}
 use Rattle.flow.specs.Ends.{◌when◌else◌, left, Wrote, wrote, most_messages, is_served, day_series, published_of, with_entry}
 use Rattle.flow.specs.Ends.{with_place, reserve_of, used_of, shares_of, wrong_series, up_to}
 use Rattle.flow.specs.Log.{entry_bytes, log_short, entry_fits}
@@ -37,6 +31,8 @@ use Rattle.flow.proofs.calls.Serving.{send-damaged, send-small, send-taken, send
 use Rattle.flow.proofs.calls.Serving.{packet-outside, packet-drained, packet-damaged, packet-missing, packet-small}
 use Rattle.flow.proofs.calls.Serving.{packet-taken, packet-cases}
 use Rattle.relay.specs.Box.{server_of}
+use Rattle.std.specs.Prelude.{Ok, Err}
+use Rattle.flow.specs.Types.{SendAnswer, PacketSent}
 
 -- ─── Publish: looks at no seat, and leaves it ───
 
@@ -47,15 +43,15 @@ reseated x q = wrote (server_of q.end.day x) q.answer q.bytes
 abbrev row : Sender → ℕ → ℕ → List ℕ → List ℕ → Bool → Bool → Bool → Bool → Bool → Bool → Bool → Bool
     → Wrote Sender Published
 row e s tid content log a b c d f g h i =
-    wrote e (NotPublished FieldRun) log when a else
-    wrote e (NotPublished FieldLength) log when b else
-    wrote e (NotPublished Item) log when c else
-    wrote e (NotPublished Composition) log when d else
-    wrote e (NotPublished UnknownSeries) log when f else
-    wrote e (NotPublished DamagedLog) log when g else
-    wrote e (NotPublished TooSmall) log when h else
-    wrote e (NotPublished DayFull) log when i else
-    wrote (with_entry e s (16 + length content)) (Number (published_of e s + 1))
+    wrote e (Err FieldRun) log when a else
+    wrote e (Err FieldLength) log when b else
+    wrote e (Err Item) log when c else
+    wrote e (Err Composition) log when d else
+    wrote e (Err UnknownSeries) log when f else
+    wrote e (Err DamagedLog) log when g else
+    wrote e (Err TooSmall) log when h else
+    wrote e (Err DayFull) log when i else
+    wrote (with_entry e s (16 + length content)) (Ok (published_of e s + 1))
     (put log e.day.used (entry_bytes s tid (published_of e s + 1) content))
 
 module _ (D : Day) (X Y : Seat) (s tid : ℕ) (content log : List ℕ) where
@@ -99,13 +95,13 @@ publish-date e s tid content log = go (publish_of e s tid content log) (publish-
 
 module _ (D : Day) (X Y : Seat) (d : ℕ) (ss rs log : List ℕ) where
   open-rows : (b : Bool)
-      → (left (server_of D X) (NotOpened Opening) when b else left (opened_sender d ss rs) Done).answer ≡ Done
-      → (left (server_of D Y) (NotOpened Opening) when b else left (opened_sender d ss rs) Done)
-      ≡ (left (server_of D X) (NotOpened Opening) when b else left (opened_sender d ss rs) Done)
+      → (left (server_of D X) (Err Opening) when b else left (opened_sender d ss rs) (Ok (tt {0}))).answer ≡ (Ok (tt {0}))
+      → (left (server_of D Y) (Err Opening) when b else left (opened_sender d ss rs) (Ok (tt {0})))
+      ≡ (left (server_of D X) (Err Opening) when b else left (opened_sender d ss rs) (Ok (tt {0})))
   open-rows true q = let z : ◌≡◌ {A = ℕ} 0 1 = cc in absurd (omega arith)
   open-rows false q = refl
 
-  pub open-seat : (open_day_of (server_of D X) d ss rs log).answer ≡ Done
+  pub open-seat : (open_day_of (server_of D X) d ss rs log).answer ≡ (Ok (tt {0}))
       → open_day_of (server_of D Y) d ss rs log ≡ open_day_of (server_of D X) d ss rs log
   unfolding open_day_of
   open-seat q = open-rows (wrong_series ss || up_to d D.date || wrong_reserves ss rs log) q
@@ -132,7 +128,7 @@ module _ (e : Sender) (s : ℕ) where
   pub send-day : (log out : List ℕ) → (send_of e s log out).end.day ≡ e.day
   send-day log out = go (send_of e s log out) (send-cases e s log out)
     where
-      go : (r : Wrote Sender Sent) → SendDone e s log out r → r.end.day ≡ e.day
+      go : (r : Wrote Sender SendAnswer) → SendDone e s log out r → r.end.day ≡ e.day
       go r (send-unknown a) = refl
       go r (send-outside a b) = refl
       go r (send-drained a b) = refl
@@ -143,7 +139,7 @@ module _ (e : Sender) (s : ℕ) where
   pub packet-day : (log out : List ℕ) → (send_packet_of e s log out).end.day ≡ e.day
   packet-day log out = go (send_packet_of e s log out) (packet-cases e s log out)
     where
-      go : (r : Wrote Sender SentPacket) → PacketDone e s log out r → r.end.day ≡ e.day
+      go : (r : Wrote Sender PacketSent) → PacketDone e s log out r → r.end.day ≡ e.day
       go r (packet-unknown a) = refl
       go r (packet-outside a b) = refl
       go r (packet-drained a b) = refl

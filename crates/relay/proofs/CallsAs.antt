@@ -11,22 +11,12 @@ use lib.Dec.{eqb}
 use Rattle.ftd.specs.Packet.{dated_of}
 use Rattle.ftd.specs.declared.refusal.Refusal.{Refusal}
 use Rattle.ftd.specs.declared.refusal.Refusal.TheVariants.{Opening, OtherDay, NoSeat}
-use Rattle.ftd.specs.declared.tags.TradeDate.{TradeDate}
-use Rattle.ftd.specs.declared.tags.TradeDate.TheVariants.{None, At}
+use Rattle.ftd.specs.Types.{TradeDate}
 use Rattle.flow.specs.declared.sender.Seat.{Seat}
 use Rattle.flow.specs.declared.sender.Sender.{Sender}
-use Rattle.flow.specs.declared.sender.Opened.{Opened}
-use Rattle.flow.specs.declared.sender.Opened.TheVariants.{Done}
-use Rattle.flow.specs.declared.sender.Opened.TheVariants.{Refused as NotOpened}
-use Rattle.flow.specs.declared.sender.Published.TheVariants.{Number}
-use Rattle.flow.specs.declared.sender.Published.TheVariants.{Refused as NotPublished}
-use Rattle.flow.specs.declared.sender.LoggedIn.TheVariants.{Refused as NotIn}
-use Rattle.flow.specs.declared.sender.Sent.TheVariants.{Refused as NotSent}
-use Rattle.flow.specs.declared.sender.SentPacket.TheVariants.{Refused as NotPacket}
+use Rattle.flow.specs.Types.{Opened}
 use Rattle.flow.specs.declared.receiver.Receiver.{Receiver}
-use Rattle.flow.specs.declared.receiver.Confirmed.{Confirmed}
-use Rattle.flow.specs.declared.receiver.Confirmed.TheVariants.{Last}
-use Rattle.flow.specs.declared.receiver.Confirmed.TheVariants.{Refused as NotConfirmed}
+use Rattle.flow.specs.Types.{Confirmed}
 use Rattle.flow.specs.declared.receiver.Received.{Received}
 use Rattle.flow.specs.declared.receiver.Received.TheVariants.{Idle, Duplicate, Partial, Complete}
 use Rattle.flow.specs.declared.receiver.Received.TheVariants.{Refused as NotTaken}
@@ -50,12 +40,13 @@ use Rattle.relay.specs.Calls.{AnswerAs, ReceiveAs, SeatAs, left_by}
 use Rattle.relay.proofs.Calls.{login-end, send-end, packet-end}
 use Rattle.relay.proofs.Ways.{hands-past, past-online}
 use Rattle.relay.proofs.Effects.{Reached, dropped-kept, confirm-stays}
+use Rattle.std.specs.Prelude.{Some, None, Ok, Err}
 
 -- ─── Past row 15, by what is said and by the answer ───
 
 pub past-confirm : (a : Confirmed) → confirm_past a ≡ passes (confirmed_said a)
-past-confirm (Last n) = refl
-past-confirm (NotConfirmed x) = refl
+past-confirm (Ok n) = refl
+past-confirm (Err x) = refl
 
 pub past-receive : (p buffer : List ℕ) (a : Received) → receive_past a ≡ passes (received_said p buffer a)
 past-receive p buffer Idle = refl
@@ -89,20 +80,20 @@ only-chain b s log buffer h o =
 -- ─── Answer ───
 
 -- A day that was opened leaves an empty seat.
-opened-seat : (e : Sender) (d : ℕ) (ss rs log : List ℕ) → (open_day_of e d ss rs log).answer ≡ Done
+opened-seat : (e : Sender) (d : ℕ) (ss rs log : List ℕ) → (open_day_of e d ss rs log).answer ≡ (Ok tt)
     → (open_day_of e d ss rs log).end.seat ≡ record { places = replicate 8 no_place }
 opened-seat e d ss rs log q = go (open_day_of e d ss rs log) (open-cases e d ss rs log) q
   where
-    go : (r : Left Sender Opened) → OpenDone e d ss rs log r → r.answer ≡ Done
+    go : (r : Left Sender Opened) → OpenDone e d ss rs log r → r.answer ≡ (Ok tt)
         → r.end.seat ≡ record { places = replicate 8 no_place }
     go r (open-refused x) q = let z : ◌≡◌ {A = ℕ} 0 1 = cc in absurd (omega arith)
     go r (open-taken a b c k) q = refl
 
-above-not-before : (d : ℕ) (o : TradeDate) → up_to d o ≡ false → before (At d) o ≡ false
+above-not-before : (d : ℕ) (o : TradeDate) → up_to d o ≡ false → before (Some d) o ≡ false
 above-not-before d None q = refl
-above-not-before d (At e) q = let z = leb-false d e q in le-ltb d e (omega arith)
+above-not-before d (Some e) q = let z = leb-false d e q in le-ltb d e (omega arith)
 
-pub opening-seat : (b : Box) (d : ℕ) (log : List ℕ) → (opening_below b d log).answer ≡ Done
+pub opening-seat : (b : Box) (d : ℕ) (log : List ℕ) → (opening_below b d log).answer ≡ (Ok tt)
     → (opening_below b d log).end.seat ≡ record { places = replicate 8 no_place }
 opening-seat b d log q = opened-seat (serving b) d _ _ log q
 
@@ -111,34 +102,34 @@ module _ (b : Box) (s : ℕ) (p log : List ℕ) where
   r = confirm_login_of b.receiver s p
 
   late-so : passes (end_confirms b s p) ≡ true → before (dated_of p).date b.day.date ≡ true
-      → answer_of b s p log ≡ left b (NotConfirmed OtherDay)
+      → answer_of b s p log ≡ left b (Err OtherDay)
   unfolding answer_of answer_way
   late-so q f = let z : confirm_past r.answer ≡ true = past-confirm r.answer ∙ q in rw (z, f) refl
 
-  refused-so : (x : Refusal) → r.answer ≡ NotConfirmed x
+  refused-so : (x : Refusal) → r.answer ≡ Err x
       → (passes (end_confirms b s p) && before (dated_of p).date b.day.date) ≡ false
-      → answer_of b s p log ≡ left b (NotConfirmed x)
+      → answer_of b s p log ≡ left b (Err x)
   unfolding answer_of answer_way
   refused-so x q f = let z = confirm-stays b.receiver s p x q in rw (q, z, rw q at f) refl
 
-  same-so : (n d : ℕ) → r.answer ≡ Last n → (dated_of p).date ≡ At d → before (At d) b.day.date ≡ false
-      → up_to d b.day.date ≡ true → answer_of b s p log ≡ left (with_receiver b r.end) (Last n)
+  same-so : (n d : ℕ) → r.answer ≡ Ok n → (dated_of p).date ≡ Some d → before (Some d) b.day.date ≡ false
+      → up_to d b.day.date ≡ true → answer_of b s p log ≡ left (with_receiver b r.end) (Ok n)
   unfolding answer_of answer_way
   same-so n d q f l u = rw (q, f, l, u) refl
 
-  opens-so : (n d : ℕ) → r.answer ≡ Last n → (dated_of p).date ≡ At d
-      → up_to d b.day.date ≡ false → (opening_below b d log).answer ≡ Done
+  opens-so : (n d : ℕ) → r.answer ≡ Ok n → (dated_of p).date ≡ Some d
+      → up_to d b.day.date ≡ false → (opening_below b d log).answer ≡ (Ok tt)
       → answer_of b s p log ≡ left
       (box r.end b.reserves (opening_below b d log).end.day
-      (replicate 16 (record { places = replicate 8 no_place }))) (Last n)
+      (replicate 16 (record { places = replicate 8 no_place }))) (Ok n)
   unfolding answer_of answer_way
   opens-so n d q f u o =
       let l = above-not-before d b.day.date u in
       let z = opening-seat b d log o in
       rw (q, f, l, u, o, z) refl
 
-  not-opened-so : (n d : ℕ) → r.answer ≡ Last n → (dated_of p).date ≡ At d → up_to d b.day.date ≡ false
-      → (x : Refusal) → (opening_below b d log).answer ≡ NotOpened x → answer_of b s p log ≡ left b (NotConfirmed x)
+  not-opened-so : (n d : ℕ) → r.answer ≡ Ok n → (dated_of p).date ≡ Some d → up_to d b.day.date ≡ false
+      → (x : Refusal) → (opening_below b d log).answer ≡ Err x → answer_of b s p log ≡ left b (Err x)
   unfolding answer_of answer_way
   not-opened-so n d q f u x o = let l = above-not-before d b.day.date u in rw (q, f, l, u, o) refl
 
@@ -169,7 +160,7 @@ module _ (b : Box) (p log buffer : List ℕ) where
       rw (z, f) refl
 
   receive-publishes : earlier b p ≡ false → (m : Message) → message_in (end_says b p buffer) ≡ m ∷ [] → (k : ℕ)
-      → (publishing b p m log).answer ≡ Number k →
+      → (publishing b p m log).answer ≡ Ok k →
       let q = publishing b p m log in
       receive_box_of b p log buffer ≡ relayed (box w.end b.reserves q.end.day b.seats) w.answer q.bytes
       w.bytes
@@ -178,7 +169,7 @@ module _ (b : Box) (p log buffer : List ℕ) where
       let z = hands-past p w.bytes w.answer m [] q in rw (z, f, q, e) refl
 
   receive-refuses : earlier b p ≡ false → (m : Message) → message_in (end_says b p buffer) ≡ m ∷ [] → (x : Refusal)
-      → (publishing b p m log).answer ≡ NotPublished x
+      → (publishing b p m log).answer ≡ Err x
       → receive_box_of b p log buffer
       ≡ relayed (with_receiver b (dropped b.receiver (borne p))) (NotTaken x) log buffer
   unfolding receive_box_of receive_way
@@ -255,23 +246,23 @@ module _ (b : Box) (i s : ℕ) where
 
   module _ (l : 16 ≤ i) where
     pub no-login-as : (p content out : List ℕ)
-        → login_seat_of b i s p content out ≡ record { end = b; answer = NotIn NoSeat; bytes = out }
+        → login_seat_of b i s p content out ≡ record { end = b; answer = Err NoSeat; bytes = out }
     unfolding login_seat_of
     no-login-as p content out = rw (seat-missing i l) refl
 
-    pub no-send-as : (log out : List ℕ) → send_seat_of b i s log out ≡ record { end = b; answer = NotSent NoSeat; bytes = out }
+    pub no-send-as : (log out : List ℕ) → send_seat_of b i s log out ≡ record { end = b; answer = Err NoSeat; bytes = out }
     unfolding send_seat_of
     no-send-as log out = rw (seat-missing i l) refl
 
     pub no-packet-as : (log out : List ℕ)
-        → send_packet_seat_of b i s log out ≡ record { end = b; answer = NotPacket NoSeat; bytes = out }
+        → send_packet_seat_of b i s log out ≡ record { end = b; answer = Err NoSeat; bytes = out }
     unfolding send_packet_seat_of
     no-packet-as log out = rw (seat-missing i l) refl
 
 -- ─── Opening ───
 
 module _ (b : Box) (ss rs : List ℕ) where
-  pub opening-short-as : (length rs ≡ length ss → ⊥) → open_box_of b ss rs ≡ left b (NotOpened Opening)
+  pub opening-short-as : (length rs ≡ length ss → ⊥) → open_box_of b ss rs ≡ left b (Err Opening)
   unfolding open_box_of
   opening-short-as o = rw (ne_eqb (length rs) (length ss) o) refl
 
@@ -281,12 +272,12 @@ module _ (b : Box) (ss rs : List ℕ) where
   unfolding open_box_of
   opening-end q = let z = eq-eqb (length rs) (length ss) q in rw z (refl, refl)
 
-  pub opening-reserves-as : (open_box_of b ss rs).answer ≡ Done → (open_box_of b ss rs).end.reserves ≡ filled 0 rs
+  pub opening-reserves-as : (open_box_of b ss rs).answer ≡ (Ok tt) → (open_box_of b ss rs).end.reserves ≡ filled 0 rs
   unfolding open_box_of
   opening-reserves-as = go (not (eqb (length rs) (length ss))) (open_end_of b.receiver ss)
     where
       go : (c : Bool) (r : Left Receiver Opened)
-          → (left b (NotOpened Opening) when c else open_by b rs r).answer ≡ Done
-          → (left b (NotOpened Opening) when c else open_by b rs r).end.reserves ≡ filled 0 rs
+          → (left b (Err Opening) when c else open_by b rs r).answer ≡ (Ok tt)
+          → (left b (Err Opening) when c else open_by b rs r).end.reserves ≡ filled 0 rs
       go true r q = let z : ◌≡◌ {A = ℕ} 0 1 = cc in absurd (omega arith)
       go false r q = rw q refl

@@ -16,17 +16,13 @@ use Rattle.ftd.specs.declared.refusal.Refusal.{Refusal}
 use Rattle.ftd.specs.declared.refusal.Refusal.TheVariants.{UnknownSeries, NotLoggedIn, OtherDay}
 use Rattle.ftd.specs.declared.packet.Span.{Span}
 use Rattle.ftd.specs.declared.packet.Header.{Header}
-use Rattle.ftd.specs.declared.tags.PacketPlace.{PacketPlace}
-use Rattle.ftd.specs.declared.tags.TradeDate.{TradeDate}
-use Rattle.ftd.specs.declared.tags.TradeDate.TheVariants.{At}
+use Rattle.ftd.specs.Types.{PacketPlace}
+use Rattle.ftd.specs.Types.{TradeDate}
 use Rattle.flow.specs.declared.sender.Day.{Day}
-use Rattle.flow.specs.declared.sender.Opened.TheVariants.{Done}
 use Rattle.flow.specs.declared.receiver.KeptSeries.{KeptSeries}
 use Rattle.flow.specs.declared.receiver.LiveSeries.{LiveSeries}
 use Rattle.flow.specs.declared.receiver.Receiver.{Receiver}
-use Rattle.flow.specs.declared.receiver.Confirmed.{Confirmed}
-use Rattle.flow.specs.declared.receiver.Confirmed.TheVariants.{Last}
-use Rattle.flow.specs.declared.receiver.Confirmed.TheVariants.{Refused as NotConfirmed}
+use Rattle.flow.specs.Types.{Confirmed}
 use Rattle.flow.specs.declared.receiver.Origin.{Origin}
 use Rattle.flow.specs.declared.receiver.Received.{Received}
 use Rattle.flow.specs.declared.receiver.Received.TheVariants.{Idle, Duplicate, Partial, Complete}
@@ -47,6 +43,7 @@ use Rattle.relay.specs.Box.{receive_way, Relayed, relayed, receive_by, receive_b
 use Rattle.relay.specs.Calls.{any, borne, end_says}
 use Rattle.relay.proofs.Ways.{opening_of, AnswerDone, comes-late, not_taken, same-day, not_opened, opened, answer-done}
 use Rattle.relay.proofs.Ways.{ReceiveDone, hands_none, not-published, published, receive-done, hands-past, past-online}
+use Rattle.std.specs.Prelude.{Some, Ok, Err}
 
 -- ─── A place set to what it has ───
 
@@ -58,7 +55,7 @@ set_own (a ∷ l) (suc i) d = ap (λ (k : List _). a ∷ k) (set_own l i d)
 abbrev names : List KeptSeries → List ℕ
 names l = map (λ (x : KeptSeries). x.series) l
 
--- At a series' place stands that series.
+-- Some a series' place stands that series.
 name-at : (n : ℕ) (l : List KeptSeries) (s : ℕ) (d : KeptSeries) → member s (names (take n l)) ≡ true
     → (get_or l (index_of s (names (take n l))) d).series ≡ s
 name-at zero l s d h = clash false h refl
@@ -84,23 +81,23 @@ dropped-kept e s o =
 
 -- ─── Answer ───
 
-pub confirm-stays : (e : Receiver) (s : ℕ) (p : List ℕ) (x : Refusal) → (confirm_login_of e s p).answer ≡ NotConfirmed x
+pub confirm-stays : (e : Receiver) (s : ℕ) (p : List ℕ) (x : Refusal) → (confirm_login_of e s p).answer ≡ Err x
     → (confirm_login_of e s p).end ≡ e
 confirm-stays e s p x q = go (confirm_login_of e s p) (confirm-as e s p) q
   where
-    go : (r : Left Receiver Confirmed) → Confirmed-as e s (dated_of p).date r → r.answer ≡ NotConfirmed x → r.end ≡ e
+    go : (r : Left Receiver Confirmed) → Confirmed-as e s (dated_of p).date r → r.answer ≡ Err x → r.end ≡ e
     go r (refuses y) q = refl
     go r (confirms d i o b) q = let z : ◌≡◌ {A = ℕ} 0 1 = cc in absurd (omega arith)
 
 -- Refused, nothing changed; taken with the open day; taken, and a day opened.
 pub data AnswerEffect (b : Box) (s : ℕ) (p log : List ℕ) : Left Box Confirmed → Type 0 where
-  turned : (x : Refusal) → AnswerEffect b s p log (left b (NotConfirmed x))
-  stayed : (n d : ℕ) → (confirm_login_of b.receiver s p).answer ≡ Last n → (dated_of p).date ≡ At d
+  turned : (x : Refusal) → AnswerEffect b s p log (left b (Err x))
+  stayed : (n d : ℕ) → (confirm_login_of b.receiver s p).answer ≡ Ok n → (dated_of p).date ≡ Some d
       → up_to d b.day.date ≡ true
-      → AnswerEffect b s p log (left (with_receiver b (confirm_login_of b.receiver s p).end) (Last n))
-  turns : (n d : ℕ) → (confirm_login_of b.receiver s p).answer ≡ Last n → (dated_of p).date ≡ At d
-      → up_to d b.day.date ≡ false → (opening_of b d log).answer ≡ Done
-      → AnswerEffect b s p log (answer_by b (left (confirm_login_of b.receiver s p).end (Last n))
+      → AnswerEffect b s p log (left (with_receiver b (confirm_login_of b.receiver s p).end) (Ok n))
+  turns : (n d : ℕ) → (confirm_login_of b.receiver s p).answer ≡ Ok n → (dated_of p).date ≡ Some d
+      → up_to d b.day.date ≡ false → (opening_of b d log).answer ≡ (Ok tt)
+      → AnswerEffect b s p log (answer_by b (left (confirm_login_of b.receiver s p).end (Ok n))
       (AnswerWay.opens (opening_of b d log)))
 
 pub answer-effect : (b : Box) (s : ℕ) (p log : List ℕ) → AnswerEffect b s p log (answer_of b s p log)

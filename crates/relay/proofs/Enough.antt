@@ -17,17 +17,11 @@ use Rattle.ftd.specs.Composition.{composed}
 use Rattle.ftd.proofs.bytes.Put.{length-put}
 use Rattle.ftd.specs.declared.composition.Direction.TheVariants.{Down}
 use Rattle.ftd.specs.declared.refusal.Refusal.{Refusal}
-use Rattle.ftd.specs.declared.tags.TradeDate.{TradeDate}
-use Rattle.ftd.specs.declared.tags.TradeDate.TheVariants.{None, At}
+use Rattle.ftd.specs.Types.{TradeDate}
 use Rattle.flow.specs.declared.sender.Sender.{Sender}
-use Rattle.flow.specs.declared.sender.Opened.TheVariants.{Done}
-use Rattle.flow.specs.declared.sender.Opened.TheVariants.{Refused as NotOpened}
-use Rattle.flow.specs.declared.sender.Published.{Published}
-use Rattle.flow.specs.declared.sender.Published.TheVariants.{Number}
-use Rattle.flow.specs.declared.sender.Published.TheVariants.{Refused as NotPublished}
+use Rattle.flow.specs.Types.{Published}
 use Rattle.flow.specs.declared.receiver.Receiver.{Receiver}
-use Rattle.flow.specs.declared.receiver.Confirmed.{Confirmed}
-use Rattle.flow.specs.declared.receiver.Confirmed.TheVariants.{Last}
+use Rattle.flow.specs.Types.{Confirmed}
 use Rattle.flow.specs.Ends.{Left, Wrote, most_messages, wrong_series, up_to, is_served, is_open, kept_of, kept_series, day_series}
 use Rattle.flow.specs.Ends.{published_of, with_entry, shares_of, sum_of, before, is_day, fresh_receiver}
 use Rattle.flow.specs.Log.{entry_bytes, log_short, entry_fits}
@@ -71,6 +65,7 @@ use Rattle.relay.proofs.Numbers.{served-open, seat-last}
 use Rattle.relay.proofs.Sums.{needed-starts, needed-more, reserves-needed}
 use Rattle.relay.proofs.Books.{Books, books-shares, Booked, booked-step, start-booked, reserves_at, entered, RightSeries}
 use Rattle.relay.proofs.Books.{turn-right, right-differing, right-few, Keeps, keeps-step, EightReserves, eight-step}
+use Rattle.std.specs.Prelude.{Some, None, Ok, Err}
 
 -- ─── What passes Publish's checks is published ───
 
@@ -83,7 +78,7 @@ pub record Checks (m : Message) : Type 0 where
 publish-passes : (e : Sender) (s : ℕ) (m : Message) (log : List ℕ) → Checks m → is_served e s ≡ true
     → e.day.used + (16 + length m.content) ≤ length log
     → shares_of (with_entry e s (16 + length m.content)) ≤ length log → published_of e s < most_messages
-    → (publish_of e s m.tid m.content log).answer ≡ Number (published_of e s + 1)
+    → (publish_of e s m.tid m.content log).answer ≡ Ok (published_of e s + 1)
 unfolding publish_of log_short entry_fits
 publish-passes e s m log c q f h n =
     rw (
@@ -137,11 +132,11 @@ every-last (x ∷ l) m h = every-last l m h.1
 -- ─── A message of the day is published, if the log is long enough ───
 
 handed-one : (H : List (Dated Message)) (t : ℕ) (date kept : TradeDate) (d : ℕ) (x : Message) (xs ms : List Message)
-    → date ≡ At d → ms ≡ x ∷ xs → xs ≡ []
-    → H ++ map (dated t (borne date kept)) ms ≡ H ++ (dated t (At d) x ∷ [])
+    → date ≡ Some d → ms ≡ x ∷ xs → xs ≡ []
+    → H ++ map (dated t (borne date kept)) ms ≡ H ++ (dated t (Some d) x ∷ [])
 handed-one H t date kept d x xs ms a b c = rw (a, b, c)
 
-same_at : (o : TradeDate) (a b : ℕ) → o ≡ At a → o ≡ At b → a ≡ b
+same_at : (o : TradeDate) (a b : ℕ) → o ≡ Some a → o ≡ Some b → a ≡ b
 same_at o a b p q = cc
 
 -- The shares behind an entry, by the node's books.
@@ -168,7 +163,7 @@ module _ (w : BoxWorld) (g : AtSeat w) (right : RightSeries w.node.receiving.end
       (q : message_in (received_said p (receive_of R p N.receiving.buffer).bytes
       (receive_of R p N.receiving.buffer).answer) ≡ x ∷ xs)
       (l : before (kept_of R (series_in (dated_of p).packet)).date N.day.date ≡ false)
-      (d : ℕ) (kept : (kept_of R (series_in (dated_of p).packet)).date ≡ At d)
+      (d : ℕ) (kept : (kept_of R (series_in (dated_of p).packet)).date ≡ Some d)
       (room : needed_by N d w.exchange.published ≤ length N.log)
     where
       abbrev t : ℕ
@@ -188,7 +183,7 @@ module _ (w : BoxWorld) (g : AtSeat w) (right : RightSeries w.node.receiving.end
           subst SafeWorld step_is
           (line-safe {w = above w} (calls (World.receive i j)) g.above-timely.source.begun g.above-safe)
 
-      facts : ((dated_of p).date ≡ At d) × (N.day.date ≡ At d)
+      facts : ((dated_of p).date ≡ Some d) × (N.day.date ≡ Some d)
       facts =
           let z =
           handed-day w.exchange g.above-timely.source.begun N g.above-timely.receiving g.joint i j m p at
@@ -197,7 +192,7 @@ module _ (w : BoxWorld) (g : AtSeat w) (right : RightSeries w.node.receiving.end
           (rw (← f) z.1, rw (← f) z.3)
 
       abbrev H : List (Dated Message)
-      H = N.receiving.handed ++ (dated t (At d) x ∷ [])
+      H = N.receiving.handed ++ (dated t (Some d) x ∷ [])
 
       handed-is : own.receiving.handed ≡ H
       handed-is =
@@ -233,11 +228,11 @@ module _ (w : BoxWorld) (g : AtSeat w) (right : RightSeries w.node.receiving.end
       shares : shares_of E ≤ length N.log
       shares =
           let a =
-          entry-shares E (reserves_at N) d (N.published ++ (dated t (At d) x ∷ [])) ss
+          entry-shares E (reserves_at N) d (N.published ++ (dated t (Some d) x ∷ [])) ss
           (series-entry (serving (box_of N)) t served _ ∙ series)
           (entered w g booked t x d facts.1 served (rw series (right-differing ss (right t o)))) in
-          let b : needed ss (reserves_at N) d (N.published ++ (dated t (At d) x ∷ [])) ≡ needed ss (reserves_at N) d H =
-          ap (λ (P : List (Dated Message)). needed ss (reserves_at N) d (P ++ (dated t (At d) x ∷ []))) g.joint.1 in
+          let b : needed ss (reserves_at N) d (N.published ++ (dated t (Some d) x ∷ [])) ≡ needed ss (reserves_at N) d H =
+          ap (λ (P : List (Dated Message)). needed ss (reserves_at N) d (P ++ (dated t (Some d) x ∷ []))) g.joint.1 in
           let c = needed-starts d ss (reserves_at N) H w.exchange.published starts in
           omega arith
 
@@ -255,18 +250,18 @@ module _ (w : BoxWorld) (g : AtSeat w) (right : RightSeries w.node.receiving.end
           omega arith
 
       pub never-refused : (z : Refusal)
-          → (publish_of (serving (box_of N)) t x.tid x.content N.log).answer ≡ NotPublished z → ⊥
+          → (publish_of (serving (box_of N)) t x.tid x.content N.log).answer ≡ Err z → ⊥
       never-refused z e =
           let a = publish-passes (serving (box_of N)) t x N.log checks served fits shares few in
           other-answer z _ (sym e ∙ a)
         where
-          other-answer : (z : Refusal) (k : ℕ) → NotPublished z ≡ Number k → ⊥
+          other-answer : (z : Refusal) (k : ℕ) → Err z ≡ Ok k → ⊥
           other-answer z k q = let y : ◌≡◌ {A = ℕ} 0 1 = cc in omega arith
 
 -- ─── An opening below is never refused ───
 
 open-passes : (e : Sender) (d : ℕ) (ss rs log : List ℕ) → wrong_series ss ≡ false → up_to d e.day.date ≡ false
-    → length rs ≡ length ss → sum_of rs ≤ length log → (open_day_of e d ss rs log).answer ≡ Done
+    → length rs ≡ length ss → sum_of rs ≤ length log → (open_day_of e d ss rs log).answer ≡ (Ok (tt {0}))
 unfolding open_day_of
 open-passes e d ss rs log a b c f =
     rw (a, b, eq-eqb (length rs) (length ss) c, le-ltb (length log) (sum_of rs) f)
@@ -280,30 +275,30 @@ reserves-each n h q =
     length-take (length (kept_series n.receiving.end)) n.reserves in
     omega arith
 
-taken-open : (e : Receiver) (s : ℕ) (p : List ℕ) (n : ℕ) → (confirm_login_of e s p).answer ≡ Last n → is_open e s ≡ true
+taken-open : (e : Receiver) (s : ℕ) (p : List ℕ) (n : ℕ) → (confirm_login_of e s p).answer ≡ Ok n → is_open e s ≡ true
 taken-open e s p n q = go (confirm_login_of e s p) (confirm-as e s p) q
   where
-    go : (r : Left Receiver Confirmed) → Confirmed-as e s (dated_of p).date r → r.answer ≡ Last n → is_open e s ≡ true
+    go : (r : Left Receiver Confirmed) → Confirmed-as e s (dated_of p).date r → r.answer ≡ Ok n → is_open e s ≡ true
     go r (refuses x) q = let z : ◌≡◌ {A = ℕ} 0 1 = cc in absurd (omega arith)
     go r (confirms d i o b) q = o
 
-other-opening : (x : Refusal) → NotOpened x ≡ Done → ⊥
+other-opening : (x : Refusal) → Err x ≡ (Ok (tt {0})) → ⊥
 other-opening x q = let z : ◌≡◌ {A = ℕ} 0 1 = cc in omega arith
 
 -- An answer that the receiving end takes is taken, if the reserves are within the log's length.
 module _ (m : Node) (right : RightSeries m.receiving.end) (eight : EightReserves m) (s : ℕ) (p log : List ℕ) (n d : ℕ)
-    (taken : (confirm_login_of m.receiving.end s p).answer ≡ Last n) (date : (dated_of p).date ≡ At d)
+    (taken : (confirm_login_of m.receiving.end s p).answer ≡ Ok n) (date : (dated_of p).date ≡ Some d)
     (up : up_to d m.day.date ≡ false)
     (room : sum_of (reserves_at m) ≤ length log)
   where
-    not_late : (o : TradeDate) → up_to d o ≡ false → before (At d) o ≡ false
+    not_late : (o : TradeDate) → up_to d o ≡ false → before (Some d) o ≡ false
     not_late None q = refl
-    not_late (At e) q = le-ltb d e (let l = leb-false d e q in omega arith)
+    not_late (Some e) q = le-ltb d e (let l = leb-false d e q in omega arith)
 
     way-admits : (y : AnswerWay) → AnswerDone (box_of m) s p log y
-        → (answer_by (box_of m) (confirm_login_of m.receiving.end s p) y).answer ≡ Last n
+        → (answer_by (box_of m) (confirm_login_of m.receiving.end s p) y).answer ≡ Ok n
     way-admits y (comes-late l) =
-        clash (before (At d) m.day.date) (rw date at l) (not_late m.day.date up)
+        clash (before (Some d) m.day.date) (rw date at l) (not_late m.day.date up)
     way-admits y (not_taken x q) = taken
     way-admits y (same-day k c q f l u) = taken
     way-admits y (not_opened k c q f u x e) =
@@ -313,7 +308,7 @@ module _ (m : Node) (right : RightSeries m.receiving.end) (eight : EightReserves
         (reserves-each m eight z) room))
     way-admits y (opened k c q f u e) = taken
 
-    pub admits : (answer_of (box_of m) s p log).answer ≡ Last n
+    pub admits : (answer_of (box_of m) s p log).answer ≡ Ok n
     unfolding answer_of
     admits = way-admits (answer_way (box_of m) s p log) (answer-done (box_of m) s p log)
 
@@ -323,7 +318,7 @@ module _ (s d : ℕ) where
   pub no_more : (a b : List (Dated Refusal)) → b ≡ a → of s d (since a b) ≡ []
   no_more a b q = ap (of s d) (since-is a b [] (q ∙ sym (append-nil a)))
 
-  none_of : (t : ℕ) (o : TradeDate) (z : Refusal) → (o ≡ At d → ⊥) → of s d (dated t o z ∷ []) ≡ []
+  none_of : (t : ℕ) (o : TradeDate) (z : Refusal) → (o ≡ Some d → ⊥) → of s d (dated t o z ∷ []) ≡ []
   none_of t o z n = go (eqb t s) (is_day d o) refl
     where
       go : (a b : Bool) → is_day d o ≡ b → cond (a && b) (z ∷ []) [] ≡ []
@@ -560,8 +555,8 @@ log-enough l es fs s d room =
 
 pub admitted : (l : Lent) (es : List BoxEvent) (s : ℕ) (p log : List ℕ) (n d : ℕ) →
     let m = (box_run (start_box l) es).node in
-    (confirm_login_of m.receiving.end s p).answer ≡ Last n → (dated_of p).date ≡ At d → up_to d m.day.date ≡ false
-    → sum_of (reserves_at m) ≤ length log → (answer_of (box_of m) s p log).answer ≡ Last n
+    (confirm_login_of m.receiving.end s p).answer ≡ Ok n → (dated_of p).date ≡ Some d → up_to d m.day.date ≡ false
+    → sum_of (reserves_at m) ≤ length log → (answer_of (box_of m) s p log).answer ≡ Ok n
 admitted l es s p log n d =
     let f = fine-run (start_box l) (good_start l) (start_fine l) es in
     admits (box_run (start_box l) es).node f.right f.eight s p log n d

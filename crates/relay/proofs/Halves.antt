@@ -6,8 +6,7 @@ use mathlib.Core.Path.{◌≡◌, refl, sym, ap, ◌∙◌, subst}
 use mathlib.Core.List.{List, [], ◌∷◌}
 use lib.ListN.{get_elem?, get_or-replicate}
 use Rattle.flow.specs.declared.sender.Seat.{Seat}
-use Rattle.ftd.specs.declared.tags.TradeDate.{TradeDate}
-use Rattle.ftd.specs.declared.tags.TradeDate.TheVariants.{None, At}
+use Rattle.ftd.specs.Types.{TradeDate}
 use Rattle.flow.specs.Ends.{fresh_sender, fresh_receiver, kept_of, kept_series}
 use Rattle.flow.specs.World.{SenderSide, World, start}
 use Rattle.flow.specs.Agreement.{of, since, CaughtUp}
@@ -33,6 +32,7 @@ use Rattle.relay.proofs.Above.{above_step, by-box}
 use Rattle.relay.proofs.Below.{Sixteen, sixteen-step, below_step}
 use Rattle.relay.proofs.Join.{DayJoin}
 use Rattle.relay.proofs.Joint.{Joint, joint-step}
+use Rattle.std.specs.Prelude.{Some, None}
 
 pub record Good (w : BoxWorld) : Type 0 where
   pub sixteen : Sixteen w.node
@@ -125,7 +125,7 @@ pub start-join : DayJoin fresh_sender.day fresh_receiver
 unfolding fresh_sender fresh_receiver kept_of kept_series
 start-join = record { behind = λ s. tt; series = λ d q. none-at d q; someone = λ d q. none-at d q }
   where
-    none-at : {A : Type 0} (d : ℕ) → None ≡ At d → A
+    none-at : {A : Type 0} (d : ℕ) → None ≡ Some d → A
     none-at d q = let z : ◌≡◌ {A = ℕ} 0 1 = cc in absurd (omega arith)
 
 start-joint : (l : Lent) → Joint (start_box l).node
@@ -154,7 +154,7 @@ ahead w g = go w.node.day.date refl
   where
     go : (o : TradeDate) → w.node.day.date ≡ o → Upto o w.exchange.day
     go None q = tt
-    go (At d) q =
+    go (Some d) q =
         let x = g.joint.0.someone d q in rw x.2 at (g.above-timely.behind x.0)
 
 -- Over a list of steps the serving day rises, and stays while no opening comes.
@@ -234,7 +234,7 @@ takes-parts w e es s d t =
 
 pub record AboveRun (w v : BoxWorld) : Type 0 where
   pub steps : Steps (above w) (above v)
-  pub spares : (s d : ℕ) → v.exchange.day ≡ At d → LogTakes w.node v.node s d → SparesAll s d steps
+  pub spares : (s d : ℕ) → v.exchange.day ≡ Some d → LogTakes w.node v.node s d → SparesAll s d steps
 
 pub above-run : (w : BoxWorld) → Good w → (es : List BoxEvent) → AboveRun w (box_run w es)
 above-run w g [] = record { steps = none; spares = λ s d q t. tt }
@@ -248,7 +248,7 @@ above-run w g (e ∷ es) =
           let up = rises (then x.step_of r.steps) g.above-timely.source in (
             x.spares s d
                 (record {
-                  ahead = upto-along w.node.day.date w.exchange.day (At d) (ahead w g) (rw q at up);
+                  ahead = upto-along w.node.day.date w.exchange.day (Some d) (ahead w g) (rw q at up);
                   takes = p.0;
                 }),
             r.spares s d q p.1,

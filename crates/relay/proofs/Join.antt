@@ -11,19 +11,15 @@ use Rattle.ftd.specs.Packet.{dated_of}
 use Rattle.ftd.specs.declared.refusal.Refusal.{Refusal}
 use Rattle.ftd.specs.declared.packet.Span.{Span}
 use Rattle.ftd.specs.declared.packet.Header.{Header}
-use Rattle.ftd.specs.declared.tags.PacketPlace.{PacketPlace}
-use Rattle.ftd.specs.declared.tags.TradeDate.{TradeDate}
-use Rattle.ftd.specs.declared.tags.TradeDate.TheVariants.{None, At}
+use Rattle.ftd.specs.Types.{PacketPlace}
+use Rattle.ftd.specs.Types.{TradeDate}
 use Rattle.flow.specs.declared.sender.Day.{Day}
 use Rattle.flow.specs.declared.sender.Seat.{Seat}
 use Rattle.flow.specs.declared.sender.Sender.{Sender}
-use Rattle.flow.specs.declared.sender.Opened.{Opened}
-use Rattle.flow.specs.declared.sender.Opened.TheVariants.{Done}
-use Rattle.flow.specs.declared.sender.Published.{Published}
+use Rattle.flow.specs.Types.{Opened}
+use Rattle.flow.specs.Types.{Published}
 use Rattle.flow.specs.declared.receiver.Receiver.{Receiver}
-use Rattle.flow.specs.declared.receiver.Confirmed.{Confirmed}
-use Rattle.flow.specs.declared.receiver.Confirmed.TheVariants.{Last}
-use Rattle.flow.specs.declared.receiver.Confirmed.TheVariants.{Refused as NotConfirmed}
+use Rattle.flow.specs.Types.{Confirmed}
 use Rattle.flow.specs.declared.receiver.Received.{Received}
 use Rattle.flow.specs.Ends.{Left, Wrote, before, up_to, differs, is_open, kept_of, kept_series, day_series, day_of, last_of}
 use Rattle.flow.specs.Ends.{logged_in}
@@ -47,13 +43,14 @@ use Rattle.flow.proofs.steps.Turns
 use Rattle.flow.proofs.steps.Moves
 use Rattle.flow.proofs.logins.Consistent.{Consistent, Turned, turned, turn-behind}
 use Rattle.relay.specs.Box.{server_of, no_seat}
+use Rattle.std.specs.Prelude.{Some, None, Ok, Err}
 
 -- ─── The day below and what is kept ───
 
 pub record DayJoin (D : Day) (e : Receiver) : Type 0 where
   pub behind : (s : ℕ) → Upto (kept_of e s).date D.date
-  pub series : (d : ℕ) → D.date ≡ At d → day_series (server_of D no_seat) ≡ kept_series e
-  pub someone : (d : ℕ) → D.date ≡ At d → (s : ℕ) × (is_open e s ≡ true) × ((kept_of e s).date ≡ At d)
+  pub series : (d : ℕ) → D.date ≡ Some d → day_series (server_of D no_seat) ≡ kept_series e
+  pub someone : (d : ℕ) → D.date ≡ Some d → (s : ℕ) × (is_open e s ≡ true) × ((kept_of e s).date ≡ Some d)
 
 -- The series are the day's.
 pub seat-series : (D : Day) (X Y : Seat) → day_series (server_of D X) ≡ day_series (server_of D Y)
@@ -71,13 +68,13 @@ module _ (o : TradeDate) (c : Bool) (e : Receiver) (eight : Eight e) (u : ℕ) (
   turn-series after ms ks Turns.stays = refl
   turn-series after ms ks (Turns.opens ss z r) = clash _ q (none_open e z u)
   turn-series after ms ks (Turns.connects x) = connect-series e
-  turn-series after ms ks (Turns.confirms t d r b x) = series-stay e eight t r (At d) (last_after e t (At d)) logged_in
+  turn-series after ms ks (Turns.confirms t d r b x) = series-stay e eight t r (Some d) (last_after e t (Some d)) logged_in
   turn-series after ms ks (Turns.receives {last} {live} t r l g) = series-stay e eight t r (kept_of e t).date last live
 
 kept-day : (e : Receiver) (s : ℕ) → is_open e s ≡ true → day_of e s ≡ (kept_of e s).date
 kept-day e s q = rw q
 
-not-above : (x d : ℕ) (o : TradeDate) → o ≡ At x → Upto o (At d) → d < x → ⊥
+not-above : (x d : ℕ) (o : TradeDate) → o ≡ Some x → Upto o (Some d) → d < x → ⊥
 not-above x d o q u l = let v : x ≤ d = rw q at u in omega arith
 
 -- A step of the receiving end, of answers not above the open day.
@@ -86,7 +83,7 @@ module _ (D : Day) (e : Receiver) (h : Consistent e) (j : DayJoin D e) (c : Bool
   behind-after : (s : ℕ) → Upto (kept_of after s).date D.date
   behind-after = turn-behind D.date c e h j.behind after _ _ t.turn
 
-  someone-after : (d : ℕ) → D.date ≡ At d → (s : ℕ) × (is_open after s ≡ true) × ((kept_of after s).date ≡ At d)
+  someone-after : (d : ℕ) → D.date ≡ Some d → (s : ℕ) × (is_open after s ≡ true) × ((kept_of after s).date ≡ Some d)
   someone-after d q =
       let x = j.someone d q in
       let s = x.0 in
@@ -97,8 +94,8 @@ module _ (D : Day) (e : Receiver) (h : Consistent e) (j : DayJoin D e) (c : Bool
             (turn-onward D.date c e h.eight after _ _ t.turn s),
       )
     where
-      on : (s : ℕ) → is_open e s ≡ true → (kept_of e s).date ≡ At d → is_open after s ≡ true
-          → Onward (day_of e s) (last_of e s) (day_of after s) (last_of after s) → day_of after s ≡ At d
+      on : (s : ℕ) → is_open e s ≡ true → (kept_of e s).date ≡ Some d → is_open after s ≡ true
+          → Onward (day_of e s) (last_of e s) (day_of after s) (last_of after s) → day_of after s ≡ Some d
       on s a b o (Turns.same-day f l) = f ∙ kept-day e s a ∙ b
       on s a b o (later-day x f l) =
           let y : d < x = rw (kept-day e s a ∙ b) at l in
@@ -127,49 +124,49 @@ join-day D E e j f g =
 
 -- ─── An answer that opens a day ───
 
-above-upto : (d : ℕ) (o : TradeDate) → up_to d o ≡ false → Upto o (At d)
+above-upto : (d : ℕ) (o : TradeDate) → up_to d o ≡ false → Upto o (Some d)
 above-upto d None q = tt
-above-upto d (At c) q = let l = leb-false d c q in omega arith
+above-upto d (Some c) q = let l = leb-false d c q in omega arith
 
 module _ (D : Day) (e : Receiver) (h : Consistent e) (j : DayJoin D e) (s : ℕ) (p : List ℕ) (n d : ℕ)
-    (taken : (confirm_login_of e s p).answer ≡ Last n) (date : (dated_of p).date ≡ At d)
+    (taken : (confirm_login_of e s p).answer ≡ Ok n) (date : (dated_of p).date ≡ Some d)
     (above : up_to d D.date ≡ false) where
   abbrev after : Receiver
   after = (confirm_login_of e s p).end
 
-  t : Turned (At d) false e after
-  t = turned (confirm-turn (At d) false e s p (rw date (upto-same (At d))))
+  t : Turned (Some d) false e after
+  t = turned (confirm-turn (Some d) false e s p (rw date (upto-same (Some d))))
 
-  here : (is_open e s ≡ true) × (day_of after s ≡ At d)
+  here : (is_open e s ≡ true) × (day_of after s ≡ Some d)
   here = go (confirm_login_of e s p) (confirm-as e s p) taken
     where
-      go : (r : Left Receiver Confirmed) → Confirmed-as e s (dated_of p).date r → r.answer ≡ Last n
-          → (is_open e s ≡ true) × (day_of r.end s ≡ At d)
+      go : (r : Left Receiver Confirmed) → Confirmed-as e s (dated_of p).date r → r.answer ≡ Ok n
+          → (is_open e s ≡ true) × (day_of r.end s ≡ Some d)
       go r (refuses x) q = let z : ◌≡◌ {A = ℕ} 0 1 = cc in absurd (omega arith)
       go r (confirms x i o b) q =
           (o, (Moves.moves-with e h.eight s o (dated_of p).date _ logged_in).date ∙ date)
 
   pub join-opens : (rs log : List ℕ) (q : Left Sender Opened) → OpenDone (server_of D no_seat) d (kept_series e) rs log q
-      → q.answer ≡ Done → DayJoin q.end.day after
+      → q.answer ≡ (Ok tt) → DayJoin q.end.day after
   join-opens rs log q (open-refused x) f = let z : ◌≡◌ {A = ℕ} 0 1 = cc in absurd (omega arith)
   join-opens rs log q (open-taken a b c z) f =
-      let o = turn-open (At d) false e h.eight after _ _ t.turn s here.0 in
+      let o = turn-open (Some d) false e h.eight after _ _ t.turn s here.0 in
       record {
         behind =
-            turn-behind (At d) false e h (λ u. upto-along (kept_of e u).date D.date (At d) (j.behind u)
+            turn-behind (Some d) false e h (λ u. upto-along (kept_of e u).date D.date (Some d) (j.behind u)
             (above-upto d D.date above)) after _ _ t.turn;
         series = λ c y.
             seat-series q.end.day no_seat q.end.seat ∙ opened-series d (kept_series e) rs
-            ∙ sym (turn-series (At d) false e h.eight s here.0 after _ _ t.turn);
+            ∙ sym (turn-series (Some d) false e h.eight s here.0 after _ _ t.turn);
         someone = λ c y. (s, o, sym (kept-day after s o) ∙ here.1 ∙ y);
       }
 
 -- An answer that was refused leaves the end.
-pub refused_end : (e : Receiver) (s : ℕ) (p : List ℕ) (x : Refusal) → (confirm_login_of e s p).answer ≡ NotConfirmed x
+pub refused_end : (e : Receiver) (s : ℕ) (p : List ℕ) (x : Refusal) → (confirm_login_of e s p).answer ≡ Err x
     → (confirm_login_of e s p).end ≡ e
 refused_end e s p x q = go (confirm_login_of e s p) (confirm-as e s p) q
   where
-    go : (r : Left Receiver Confirmed) → Confirmed-as e s (dated_of p).date r → r.answer ≡ NotConfirmed x → r.end ≡ e
+    go : (r : Left Receiver Confirmed) → Confirmed-as e s (dated_of p).date r → r.answer ≡ Err x → r.end ≡ e
     go r (refuses y) q = refl
     go r (confirms d i o b) q = let z : ◌≡◌ {A = ℕ} 0 1 = cc in absurd (omega arith)
 
@@ -237,14 +234,14 @@ module _ (e : Receiver) (p buffer : List ℕ) (m : Message) (ms : List Message) 
       go r (reads h extension c z t) q = took_one h (dated_of p).place c (rw z) (part p c.start c.len) r t q
 
 -- The kept day that is neither above nor below the open one is it.
-pub same_kept : (d : ℕ) (o c : TradeDate) → o ≡ At d → Upto o c → before o c ≡ false → c ≡ At d
+pub same_kept : (d : ℕ) (o c : TradeDate) → o ≡ Some d → Upto o c → before o c ≡ false → c ≡ Some d
 same_kept d None c q u b = let z : ◌≡◌ {A = ℕ} 0 1 = cc in absurd (omega arith)
-same_kept d (At x) None q u b = absurd u
-same_kept d (At x) (At y) q u b =
+same_kept d (Some x) None q u b = absurd u
+same_kept d (Some x) (Some y) q u b =
     let l = ltb-false x y b in
     let f : y ≡ x = omega arith in
-    ap At f ∙ q
+    ap Some f ∙ q
 
 -- A packet of day d that is handed on is of the kept day.
-pub kept-dated : (d : ℕ) (date kept : TradeDate) → date ≡ At d → differs date kept ≡ false → kept ≡ At d
+pub kept-dated : (d : ℕ) (date kept : TradeDate) → date ≡ Some d → differs date kept ≡ false → kept ≡ Some d
 kept-dated d date kept q b = day-same d kept (rw q at b)

@@ -7,8 +7,7 @@ use mathlib.Core.Option.{some}
 use lib.ListN.{length, get_elem?}
 use lib.Dec.{eqb}
 use Rattle.ftd.specs.Packet.{dated_of}
-use Rattle.ftd.specs.declared.tags.TradeDate.{TradeDate}
-use Rattle.ftd.specs.declared.tags.TradeDate.TheVariants.{At}
+use Rattle.ftd.specs.Types.{TradeDate}
 use Rattle.flow.specs.declared.receiver.Receiver.{Receiver}
 use Rattle.flow.specs.Ends.{before, kept_of, kept_series}
 use Rattle.flow.specs.Answers.{Message, received_said, message_in}
@@ -36,13 +35,14 @@ use Rattle.relay.proofs.Ways.{past-online}
 use Rattle.relay.proofs.Above.{by-box, packet-of}
 use Rattle.relay.proofs.Join.{DayJoin, join-turn, join-day, join-opens, refused_end, publish-series, seat-series}
 use Rattle.relay.proofs.Join.{hands-one, same_kept, kept-dated}
+use Rattle.std.specs.Prelude.{Some}
 
 -- The day below fits what is kept; what was published below is what was handed on, in one order.
 abbrev pub Joint : Node → Type 0
 Joint n = DayJoin n.day n.receiving.end × (n.published ≡ n.receiving.handed)
 
 one_more : (P H : List (Dated Message)) (t : ℕ) (day date kept : TradeDate) (d : ℕ) (x : Message)
-    (xs ms : List Message) → P ≡ H → day ≡ At d → date ≡ At d → ms ≡ x ∷ xs → xs ≡ []
+    (xs ms : List Message) → P ≡ H → day ≡ Some d → date ≡ Some d → ms ≡ x ∷ xs → xs ≡ []
     → P ++ (dated t day x ∷ []) ≡ H ++ map (dated t (borne date kept)) ms
 one_more P H t day date kept d x xs ms a b c e f = rw (a, b, c, e, f)
 
@@ -132,7 +132,7 @@ module _ (v : SenderSide) (begun : AllBegun v) (n : Node) (h : Consistent n.rece
         → message_in (received_said p (receive_of R p n.receiving.buffer).bytes
         (receive_of R p n.receiving.buffer).answer) ≡ x ∷ xs
         → before (kept_of R t).date n.day.date ≡ false
-        → (d : ℕ) × ((dated_of p).date ≡ At d) × ((kept_of R t).date ≡ At d) × (n.day.date ≡ At d)
+        → (d : ℕ) × ((dated_of p).date ≡ Some d) × ((kept_of R t).date ≡ Some d) × (n.day.date ≡ Some d)
     handed-day x xs q l =
         let o = hands-one R p n.receiving.buffer x xs q in
         let z = (packet-of v begun n i k m p at here).1 in

@@ -10,7 +10,6 @@ use lib.Dec.{eqb}
 use Rattle.ftd.specs.Bytes.{joined}
 use Rattle.ftd.specs.Runs.{Run, run_of}
 use Rattle.ftd.proofs.runs.Joined.{Entries, run-of}
-use Rattle.ftd.specs.declared.tags.TradeDate.TheVariants.{At}
 use Rattle.flow.specs.declared.sender.Sender.{Sender}
 use Rattle.flow.specs.Log.{entry, times, entries_of}
 use Rattle.flow.specs.Answers.{Message}
@@ -21,6 +20,7 @@ use Rattle.relay.specs.World.{Lent, Node, SeatLine, BoxEvent, box_of, serving_at
 use Rattle.relay.specs.Agreement.{ran}
 use Rattle.relay.specs.Calls.{messages_in, numbers_in, counting, LogHolds}
 use Rattle.relay.proofs.Halves.{good_start, good-run}
+use Rattle.std.specs.Prelude.{Some}
 
 -- ─── Entries laid out ───
 
@@ -94,7 +94,7 @@ module _ (n : Node) (i : ℕ) (x : SeatLine) (s d : ℕ) where
             ∙ ap (λ (l : List Message). counting 1 (length l)) (sym o);
       }
 
-pub logged-run : (l : Lent) (es : List BoxEvent) (s d : ℕ) → (ran l es).node.day.date ≡ At d
+pub logged-run : (l : Lent) (es : List BoxEvent) (s d : ℕ) → (ran l es).node.day.date ≡ Some d
     → LogHolds (ran l es).node s d
 logged-run l es s d q =
     let w = ran l es in

@@ -8,13 +8,11 @@ use mathlib.Core.Bool.{true}
 use borrow.Author.Tests.{le-leb}
 use lib.ListN.{length, take, length-take}
 use Rattle.ftd.specs.Packet.{dated_of}
-use Rattle.ftd.specs.declared.tags.TradeDate.{TradeDate}
-use Rattle.ftd.specs.declared.tags.TradeDate.TheVariants.{None, At}
+use Rattle.ftd.specs.Types.{TradeDate}
 use Rattle.flow.specs.declared.sender.Day.{Day}
 use Rattle.flow.specs.declared.sender.Seat.{Seat}
 use Rattle.flow.specs.declared.sender.Sender.{Sender}
-use Rattle.flow.specs.declared.sender.Published.{Published}
-use Rattle.flow.specs.declared.sender.Published.TheVariants.{Number}
+use Rattle.flow.specs.Types.{Published}
 use Rattle.flow.specs.declared.receiver.Receiver.{Receiver}
 use Rattle.flow.specs.declared.receiver.Received.{Received}
 use Rattle.flow.specs.Ends.{Wrote, up_to, member, is_served, is_open, kept_of, kept_series, day_series, published_of}
@@ -34,6 +32,7 @@ use Rattle.relay.proofs.Ways.{ReceiveDone, hands_none, not-published, published,
 use Rattle.relay.proofs.Join.{hands-one}
 use Rattle.relay.proofs.Joint.{handed-day}
 use Rattle.relay.proofs.Halves.{Good, AtSeat, first-seat}
+use Rattle.std.specs.Prelude.{Some, None, Ok}
 
 -- ─── Counts and series are the day's, whatever the seat ───
 
@@ -55,7 +54,7 @@ served-open D X e s q = ap (member s) q
 pub seat-last : (w : BoxWorld) → AtSeat w → (s d : ℕ) →
     let n = w.node in
     is_served (serving (box_of n)) s ≡ true → is_open n.receiving.end s ≡ true
-    → (kept_of n.receiving.end s).date ≡ At d → n.day.date ≡ At d
+    → (kept_of n.receiving.end s).date ≡ Some d → n.day.date ≡ Some d
     → published_of (serving (box_of n)) s ≡ (kept_of n.receiving.end s).last
 seat-last w g s d q o k f =
     let n = w.node in
@@ -88,31 +87,31 @@ module _ (w : BoxWorld) (g : Good w) where
   N = w.node
 
   published-last : (s d : ℕ) → is_served (serving (box_of N)) s ≡ true → is_open N.receiving.end s ≡ true
-      → (kept_of N.receiving.end s).date ≡ At d → N.day.date ≡ At d
+      → (kept_of N.receiving.end s).date ≡ Some d → N.day.date ≡ Some d
       → published_of (serving (box_of N)) s ≡ (kept_of N.receiving.end s).last
   published-last s d q o k f = seat-last w (first-seat w g) s d q o k f
 
-  pub counts : (s d : ℕ) → N.day.date ≡ At d → is_open N.receiving.end s ≡ true → Counts N s d
+  pub counts : (s d : ℕ) → N.day.date ≡ Some d → is_open N.receiving.end s ≡ true → Counts N s d
   counts s d f o =
       let served : is_served (serving (box_of N)) s ≡ true =
       served-open N.day no_seat N.receiving.end s (g.joint.0.series d f) ∙ o in
       record { same = λ k. published-last s d served o k f; none = λ k. empty served k }
     where
-      earlier : (kept : TradeDate) → Upto kept (At d) → (kept ≡ At d → ⊥) → Above d kept
+      earlier : (kept : TradeDate) → Upto kept (Some d) → (kept ≡ Some d → ⊥) → Above d kept
       earlier None u n = tt
-      earlier (At c) u n = less c d u (λ q. n (ap At q))
+      earlier (Some c) u n = less c d u (λ q. n (ap Some q))
         where
           less : (a b : ℕ) → a ≤ b → (a ≡ b → ⊥) → a < b
           less a b l n = omega arith
 
-      empty : is_served (serving (box_of N)) s ≡ true → ((kept_of N.receiving.end s).date ≡ At d → ⊥)
+      empty : is_served (serving (box_of N)) s ≡ true → ((kept_of N.receiving.end s).date ≡ Some d → ⊥)
           → published_of (serving (box_of N)) s ≡ 0
       empty q k =
           let X = seat_of (box_of N) 0 in
           let count =
           published-count (serving_at N 0 (w.lines 0)) (g.below-timely 0 (omega arith)).source.served s d f
           (seat-served N.day X no_seat s ∙ q) in
-          let up : Upto (kept_of N.receiving.end s).date (At d) = rw f at (g.joint.0.behind s) in
+          let up : Upto (kept_of N.receiving.end s).date (Some d) = rw f at (g.joint.0.behind s) in
           let later = rw o at (g.above-safe.right.right s d).later in
           let none = later (earlier (kept_of N.receiving.end s).date up k) in
           seat-published N.day no_seat X s ∙ count
@@ -120,12 +119,12 @@ module _ (w : BoxWorld) (g : Good w) where
 
   -- The number that Publish gives.
   published-number : (s tid : ℕ) (content log : List ℕ) (k : ℕ)
-      → (publish_of (serving (box_of N)) s tid content log).answer ≡ Number k
+      → (publish_of (serving (box_of N)) s tid content log).answer ≡ Ok k
       → (is_served (serving (box_of N)) s ≡ true) × (k ≡ published_of (serving (box_of N)) s + 1)
   published-number s tid content log k q =
       go (publish_of (serving (box_of N)) s tid content log) (publish-cases (serving (box_of N)) s tid content log) q
     where
-      go : (r : Wrote Sender Published) → PublishDone (serving (box_of N)) s tid content log r → r.answer ≡ Number k
+      go : (r : Wrote Sender Published) → PublishDone (serving (box_of N)) s tid content log r → r.answer ≡ Ok k
           → (is_served (serving (box_of N)) s ≡ true) × (k ≡ published_of (serving (box_of N)) s + 1)
       go r (publish-refused x) q = let z : ◌≡◌ {A = ℕ} 0 1 = cc in absurd (omega arith)
       go r (publish-taken t) q = (t.served, cc)
@@ -139,7 +138,7 @@ module _ (w : BoxWorld) (g : Good w) where
       r = receive_of N.receiving.end p N.receiving.buffer
 
       go : (y : ReceiveWay) → ReceiveDone (box_of N) p N.log N.receiving.buffer y → y ≡ publishes x q
-          → (k : ℕ) × (q.answer ≡ Number k) × (report_in (received_said p r.bytes r.answer) ≡ k ∷ [])
+          → (k : ℕ) × (q.answer ≡ Ok k) × (report_in (received_said p r.bytes r.answer) ≡ k ∷ [])
       go y (ReceiveDone.comes-late a b) e = let z : ◌≡◌ {A = ℕ} 0 1 = cc in absurd (omega arith)
       go y (hands_none a) e = let z : ◌≡◌ {A = ℕ} 0 1 = cc in absurd (omega arith)
       go y (not-published a xs b c d f) e = let z : ◌≡◌ {A = ℕ} 0 1 = cc in absurd (omega arith)
@@ -159,9 +158,9 @@ module _ (w : BoxWorld) (g : Good w) where
 
   -- ─── The day below ───
 
-  upto_true : (d : ℕ) (o : TradeDate) → Upto (At d) o → up_to d o ≡ true
+  upto_true : (d : ℕ) (o : TradeDate) → Upto (Some d) o → up_to d o ≡ true
   upto_true d None u = absurd u
-  upto_true d (At e) u = le-leb d e u
+  upto_true d (Some e) u = le-leb d e u
 
   pub day-below : DayBelow N
   day-below =

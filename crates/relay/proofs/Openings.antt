@@ -10,18 +10,14 @@ use lib.ListN.{length, get_elem?, get_or, replicate}
 use lib.Dec.{eqb}
 use Rattle.ftd.specs.Packet.{dated_of}
 use Rattle.ftd.specs.declared.refusal.Refusal.TheVariants.{Opening}
-use Rattle.ftd.specs.declared.tags.TradeDate.{TradeDate}
-use Rattle.ftd.specs.declared.tags.TradeDate.TheVariants.{None, At}
+use Rattle.ftd.specs.Types.{TradeDate}
 use Rattle.flow.specs.declared.sender.Day.{Day}
 use Rattle.flow.specs.declared.sender.DaySeries.{DaySeries}
 use Rattle.flow.specs.declared.sender.Seat.{Seat}
 use Rattle.flow.specs.declared.sender.Sender.{Sender}
-use Rattle.flow.specs.declared.sender.Opened.{Opened}
-use Rattle.flow.specs.declared.sender.Opened.TheVariants.{Done}
+use Rattle.flow.specs.Types.{Opened}
 use Rattle.flow.specs.declared.receiver.Receiver.{Receiver}
-use Rattle.flow.specs.declared.receiver.Confirmed.{Confirmed}
-use Rattle.flow.specs.declared.receiver.Confirmed.TheVariants.{Last}
-use Rattle.flow.specs.declared.receiver.Confirmed.TheVariants.{Refused as NotConfirmed}
+use Rattle.flow.specs.Types.{Confirmed}
 use Rattle.flow.specs.Ends.{◌when◌else◌, Left, before, up_to, wrong_series, opened_series, fresh_sender, day_series, published_of, place_of}
 use Rattle.flow.specs.Ends.{kept_series, sum_of}
 use Rattle.flow.specs.Answers.{is_taken, confirmed_said}
@@ -48,6 +44,7 @@ use Rattle.relay.proofs.Ways.{opening_of, ReceiveDone, hands_none, not-published
 use Rattle.relay.proofs.Above.{by-box}
 use Rattle.relay.proofs.Join.{seat-series, publish-series, refused_end}
 use Rattle.relay.proofs.Joint.{Rests, login-rests, send-rests, packet-rests}
+use Rattle.std.specs.Prelude.{Some, None, Ok, Err}
 
 -- ─── A day that was opened ───
 
@@ -56,7 +53,7 @@ all_same zero i x = refl
 all_same (suc n) zero x = refl
 all_same (suc n) (suc i) x = all_same n i x
 
-same-dates : (o : TradeDate) (a b : ℕ) → o ≡ At a → o ≡ At b → a ≡ b
+same-dates : (o : TradeDate) (a b : ℕ) → o ≡ Some a → o ≡ Some b → a ≡ b
 same-dates o a b p q = cc
 
 -- Counts and places are those of the day with its seat.
@@ -104,7 +101,7 @@ module _ (w : BoxWorld) (s : ℕ) (p : List ℕ) where
   said y = (answer_by (box_of N) (confirm_login_of N.receiving.end s p) y).answer
 
   opened-day : (d : ℕ) (q : Left Sender Opened) → OpenDone (serving (box_of N)) d ss rs N.log q
-      → q.answer ≡ Done → OpenedBelow w (after (AnswerWay.opens q)) d
+      → q.answer ≡ (Ok tt) → OpenedBelow w (after (AnswerWay.opens q)) d
   opened-day d q (open-refused x) f = let z : ◌≡◌ {A = ℕ} 0 1 = cc in absurd (omega arith)
   opened-day d q (open-taken a b c k) f =
       let day = q.end.day in
@@ -122,7 +119,7 @@ module _ (w : BoxWorld) (s : ℕ) (p : List ℕ) where
         broken = λ i. refl;
       }
 
-  answer-opens : (d : ℕ) → (dated_of p).date ≡ At d → up_to d N.day.date ≡ false → (y : AnswerWay)
+  answer-opens : (d : ℕ) → (dated_of p).date ≡ Some d → up_to d N.day.date ≡ false → (y : AnswerWay)
       → AnswerDone (box_of N) s p N.log y → is_taken (confirmed_said (said y)) ≡ true → OpenedBelow w (after y) d
   answer-opens d f u y (comes-late l) t = clash false t refl
   answer-opens d f u y (not_taken x q) t = clash false (rw q at t) refl
@@ -133,7 +130,7 @@ module _ (w : BoxWorld) (s : ℕ) (p : List ℕ) where
       rw (same-dates (dated_of p).date d c f g)
       (opened-day c (opening_of (box_of N) c N.log) (open-cases (serving (box_of N)) c ss rs N.log) e)
 
-  answer_keeps : (d : ℕ) → (dated_of p).date ≡ At d → up_to d N.day.date ≡ true → (y : AnswerWay)
+  answer_keeps : (d : ℕ) → (dated_of p).date ≡ Some d → up_to d N.day.date ≡ true → (y : AnswerWay)
       → AnswerDone (box_of N) s p N.log y → SameDay N (after y).node
   answer_keeps d f u y (comes-late l) = record { day = refl; series = refl; counted = refl }
   answer_keeps d f u y (not_taken x q) = record { day = refl; series = refl; counted = refl }
@@ -152,18 +149,18 @@ module _ (w : BoxWorld) (s : ℕ) (p : List ℕ) where
 
 -- ─── 11: the opening that the reserves forbid ───
 
-not_late : (d : ℕ) (o : TradeDate) → up_to d o ≡ false → before (At d) o ≡ false
+not_late : (d : ℕ) (o : TradeDate) → up_to d o ≡ false → before (Some d) o ≡ false
 not_late d None q = refl
-not_late d (At e) q = le-ltb d e (let l = leb-false d e q in omega arith)
+not_late d (Some e) q = le-ltb d e (let l = leb-false d e q in omega arith)
 
 some_or : (b : Bool) → (b || true) ≡ true
 some_or true = refl
 some_or false = refl
 
-forbids : (b : Box) (s : ℕ) (p log : List ℕ) (n d : ℕ) → (confirm_login_of b.receiver s p).answer ≡ Last n
-    → (dated_of p).date ≡ At d → up_to d b.day.date ≡ false
+forbids : (b : Box) (s : ℕ) (p log : List ℕ) (n d : ℕ) → (confirm_login_of b.receiver s p).answer ≡ Ok n
+    → (dated_of p).date ≡ Some d → up_to d b.day.date ≡ false
     → length log < sum_of (reserves_of b.receiver b.reserves)
-    → (answer_of b s p log).answer ≡ NotConfirmed Opening
+    → (answer_of b s p log).answer ≡ Err Opening
 unfolding answer_of answer_way open_day_of
 forbids b s p log n d q f u l =
     rw (
@@ -185,14 +182,14 @@ module _ (log more : List ℕ) (q : length log ≡ length more) where
   taken-length : (e : Receiver) (rs : List ℕ) (day : Day) (date : TradeDate)
       → taken_way e rs day log date ≡ taken_way e rs day more date
   taken-length e rs day None = refl
-  taken-length e rs day (At d) =
+  taken-length e rs day (Some d) =
       ap (λ (o : Left Sender Opened). AnswerWay.through when up_to d day.date else opening_way o o.answer)
       (open-length (server_of day no_seat) d (kept_series e) (reserves_of e rs))
 
   confirmed-length : (e : Receiver) (rs : List ℕ) (day : Day) (date : TradeDate) (a : Confirmed)
       → confirmed_way e rs day log date a ≡ confirmed_way e rs day more date a
-  confirmed-length e rs day date (Last n) = taken-length e rs day date
-  confirmed-length e rs day date (NotConfirmed x) = refl
+  confirmed-length e rs day date (Ok n) = taken-length e rs day date
+  confirmed-length e rs day date (Err x) = refl
 
   way-length : (b : Box) (s : ℕ) (p : List ℕ) → answer_way b s p log ≡ answer_way b s p more
   unfolding answer_way

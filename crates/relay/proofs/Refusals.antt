@@ -9,20 +9,10 @@ use borrow.Author.Tests.{le-leb, lt-leb}
 use lib.ListN.{set}
 use lib.Dec.{leb}
 use Rattle.ftd.specs.Refusal.{number_of}
-use Rattle.flow.specs.declared.sender.LoggedIn.{LoggedIn}
-use Rattle.flow.specs.declared.sender.LoggedIn.TheVariants.{Wrote as Answered}
-use Rattle.flow.specs.declared.sender.LoggedIn.TheVariants.{Refused as NotIn}
-use Rattle.flow.specs.declared.sender.Sent.{Sent}
-use Rattle.flow.specs.declared.sender.Sent.TheVariants.{Drained}
-use Rattle.flow.specs.declared.sender.Sent.TheVariants.{Wrote as MessageSent}
-use Rattle.flow.specs.declared.sender.Sent.TheVariants.{Refused as NotSent}
-use Rattle.flow.specs.declared.sender.SentPacket.{SentPacket}
-use Rattle.flow.specs.declared.sender.SentPacket.TheVariants.{Drained as NoPacket}
-use Rattle.flow.specs.declared.sender.SentPacket.TheVariants.{Wrote as PacketSent}
-use Rattle.flow.specs.declared.sender.SentPacket.TheVariants.{Refused as NotPacket}
+use Rattle.flow.specs.Types.{LoggedIn}
 use Rattle.flow.specs.declared.receiver.Kept.{Kept}
 use Rattle.flow.specs.declared.receiver.Receiver.{Receiver}
-use Rattle.flow.specs.declared.receiver.Requested.{Requested}
+use Rattle.flow.specs.Types.{Requested}
 use Rattle.flow.specs.declared.receiver.Received.{Received}
 use Rattle.flow.specs.Ends.{Wrote, index_of, is_open, kept_series, with_series, logged_in}
 use Rattle.flow.specs.Answers.{Said, refused, is_taken, message_in, opened_said, requested_said, confirmed_said, received_said}
@@ -50,6 +40,8 @@ use Rattle.relay.proofs.Effects.{dropped-kept, answer-effect, ReceiveEffect, rec
 use Rattle.relay.proofs.CallsAs.{only-chain}
 use Rattle.relay.proofs.BoxCalls.{SeatLeft, rested, moved, login-left, send-left, packet-left, wrote-taken}
 use Rattle.relay.proofs.BoxCalls.{open-left, open-refused, answer-refused, same_number, small-refused, refused_all}
+use Rattle.std.specs.Prelude.{Some, None, Ok, Err}
+use Rattle.flow.specs.Types.{SendAnswer, PacketSent}
 
 -- ─── Outputs ───
 
@@ -192,24 +184,24 @@ module _ (b : Relay) (seats : List ℕ) where
   login-stays : (i s : ℕ) (p content out : List ℕ) (r : LoggedIn) (later_seats later : List ℕ)
       → LogsInSeat b seats i s p content out r later_seats later
       → is_taken (login_said r) ≡ false → (later_seats ≡ seats) × (later ≡ out)
-  login-stays i s p content out (Answered n) later_seats later h q = clash true refl q
-  login-stays i s p content out (NotIn x) later_seats later h q =
+  login-stays i s p content out (Ok n) later_seats later h q = clash true refl q
+  login-stays i s p content out (Err x) later_seats later h q =
       (h.2, h.3 ∙ left-bytes login_said B i out _ (login-left B i s p content out) (not-taken-so _ _ h.1.0 q))
 
-  send-stays : (i s : ℕ) (log out : List ℕ) (r : Sent) (later_seats later : List ℕ)
+  send-stays : (i s : ℕ) (log out : List ℕ) (r : SendAnswer) (later_seats later : List ℕ)
       → SendsSeat b seats i s log out r later_seats later
       → is_taken (sent_said r) ≡ false → (later_seats ≡ seats) × (later ≡ out)
-  send-stays i s log out Drained later_seats later h q = clash true refl q
-  send-stays i s log out (MessageSent k n) later_seats later h q = clash true refl q
-  send-stays i s log out (NotSent x) later_seats later h q =
+  send-stays i s log out (Ok None) later_seats later h q = clash true refl q
+  send-stays i s log out (Ok (Some found)) later_seats later h q = clash true refl q
+  send-stays i s log out (Err x) later_seats later h q =
       (h.2, h.3 ∙ left-bytes sent_said B i out _ (send-left B i s log out) (not-taken-so _ _ h.1.0 q))
 
-  packet-stays : (i s : ℕ) (log out : List ℕ) (r : SentPacket) (later_seats later : List ℕ)
+  packet-stays : (i s : ℕ) (log out : List ℕ) (r : PacketSent) (later_seats later : List ℕ)
       → SendsPacketSeat b seats i s log out r later_seats later
       → is_taken (sent_packet_said r) ≡ false → (later_seats ≡ seats) × (later ≡ out)
-  packet-stays i s log out NoPacket later_seats later h q = clash true refl q
-  packet-stays i s log out (PacketSent k n last) later_seats later h q = clash true refl q
-  packet-stays i s log out (NotPacket x) later_seats later h q =
+  packet-stays i s log out (Ok None) later_seats later h q = clash true refl q
+  packet-stays i s log out (Ok (Some found)) later_seats later h q = clash true refl q
+  packet-stays i s log out (Err x) later_seats later h q =
       (h.2, h.3 ∙ left-bytes sent_packet_said B i out _ (packet-left B i s log out) (not-taken-so _ _ h.1.0 q))
 
 module _ (b : Relay) (p log buffer : List ℕ) where

@@ -8,8 +8,7 @@ use mathlib.Core.Option.{some}
 use mathlib.Core.Logic.{◌⊎◌}
 use borrow.Author.Tests.{le-leb}
 use lib.ListN.{length, take, get_elem?}
-use Rattle.ftd.specs.declared.tags.TradeDate.{TradeDate}
-use Rattle.ftd.specs.declared.tags.TradeDate.TheVariants.{None, At}
+use Rattle.ftd.specs.Types.{TradeDate}
 use Rattle.flow.specs.declared.order.Order.TheVariants.{Same}
 use Rattle.flow.specs.Ends.{up_to, is_served}
 use Rattle.flow.specs.Answers.{Message}
@@ -33,6 +32,7 @@ use Rattle.relay.proofs.RowOrder.{above-begins, lists-order, order-start, order-
 use Rattle.relay.proofs.RowEnough.{row-enough}
 use Rattle.relay.proofs.RowCovers.{boxes-called, no-box, no-box-returns, one-box}
 use Rattle.relay.proofs.RowHalves.{row-append, same-day, line-whole, There, one-day-at}
+use Rattle.std.specs.Prelude.{Some, None}
 
 good : (l : LentRow) (es : List RowEvent) → Good (ran_row l es)
 good l es = good-run (start_row l) (good_start l) es
@@ -75,13 +75,13 @@ either-begins a b p q f e g = let c = begins-along a p q f e in two-starts a c.0
 
 -- ─── Days ───
 
-upto_is : (d : ℕ) (a b : TradeDate) → a ≡ At d → Upto a b → up_to d b ≡ true
+upto_is : (d : ℕ) (a b : TradeDate) → a ≡ Some d → Upto a b → up_to d b ≡ true
 upto_is d None b q u = let z : ◌≡◌ {A = ℕ} 0 1 = cc in absurd (omega arith)
-upto_is d (At c) None q u = absurd u
-upto_is d (At c) (At e) q u = let f : c ≡ d = cc in le-leb d e (omega arith)
+upto_is d (Some c) None q u = absurd u
+upto_is d (Some c) (Some e) q u = let f : c ≡ d = cc in le-leb d e (omega arith)
 
-same_at : (a : TradeDate) (c d : ℕ) → a ≡ At c → a ≡ At d → c ≡ d
-same_at a c d p q = let z : At c ≡ At d = sym p ∙ q in cc
+same_at : (a : TradeDate) (c d : ℕ) → a ≡ Some c → a ≡ Some d → c ≡ d
+same_at a c d p q = let z : Some c ≡ Some d = sym p ∙ q in cc
 
 -- ─── The second half ───
 
@@ -106,11 +106,11 @@ up_at l es k s c =
     (record { there = (c.day, today, done.1); up = done.0 })
 
 module _ (l : LentRow) (es : List RowEvent) (n s d : ℕ) (c : CaughtUpTo l es n s)
-    (q : (ran_row l es).exchange.day ≡ At d) where
+    (q : (ran_row l es).exchange.day ≡ Some d) where
   abbrev w : RowWorld
   w = ran_row l es
 
-  one-day : (k : ℕ) → k ≤ suc n → (line_at w k).serving.day ≡ At d
+  one-day : (k : ℕ) → k ≤ suc n → (line_at w k).serving.day ≡ Some d
   one-day =
       one-day-at s d w.exchange w.boxes w.last (good l es) n (λ k f. (up_at l es k s (c k f)).there) q
 
@@ -153,10 +153,10 @@ same-order l es n s d f c x y =
     let a = node_at w (suc n) in
     let h = served l es (suc n) in
     let i = served-exchange l es in
-    let today : w.exchange.day ≡ At d = sym i.same-day ∙ x.0 in
+    let today : w.exchange.day ≡ Some d = sym i.same-day ∙ x.0 in
     let long = boxes-long l es in
     let there = joined_at s d w.exchange w.boxes w.last (good l es) n (omega (arith, long, f)) in
-    let day : a.end.day.date ≡ At d = h.same-day ∙ one-day l es n s d c today (suc n) (omega arith) in
+    let day : a.end.day.date ≡ Some d = h.same-day ∙ one-day l es n s d c today (suc n) (omega arith) in
     lists-order a w.exchange h i s d (day, y) x
     ∙ (order-laws.same_lists (of s d a.published) (exchanged w s d)).1 (there ∙ completes l es n s d c today)
 

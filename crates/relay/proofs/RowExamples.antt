@@ -8,7 +8,6 @@ use mathlib.Core.Logic.{inl}
 use lib.Dec.{T, eqb, eqb→eq}
 use Rattle.ftd.specs.Login.{login_bytes}
 use Rattle.ftd.specs.Bench.{all_same}
-use Rattle.ftd.specs.declared.tags.TradeDate.TheVariants.{At}
 use Rattle.flow.specs.Agreement.{of, since}
 use Rattle.flow.specs.Bench.{rsp_login}
 use Rattle.flow.specs.Checkpoints.{fresh_checkpoints}
@@ -20,6 +19,7 @@ use Rattle.relay.specs.RowExamples.{lent_two, passing, passed_rows, lent_one, on
 use Rattle.relay.specs.RowExamples.{caught_up, late_rows, opens, first_login, behind_first, to_first, second_login}
 use Rattle.relay.specs.RowExamples.{behind_second, to_second, third_login, to_last, RowExamples}
 use Rattle.relay.proofs.Together.{open-all}
+use Rattle.std.specs.Prelude.{Some}
 
 unfoldable open_row : Unit {0}
 unfolding open-all logged order_of fresh_checkpoints lent_two lent_one
@@ -47,7 +47,7 @@ module _ (before : List RowEvent) (login : RowEvent) (behind : List RowEvent) (k
 
   abbrev tests : List Bool
   tests =
-      is_caught_up (line_at u k) (line_at v k) (line_at w k) 1 7 (login_bytes (At 7) rsp_login) []
+      is_caught_up (line_at u k) (line_at v k) (line_at w k) 1 7 (login_bytes (Some 7) rsp_login) []
       ∷ eqb (asked_at u k) 0
       ∷ is_empty (of 1 7 (since (refused_in v.boxes k) (refused_in w.boxes k)))
       ∷ []
@@ -61,9 +61,9 @@ module _ (before : List RowEvent) (login : RowEvent) (behind : List RowEvent) (k
         behind = behind;
         parts = q;
         day = 7;
-        answer = login_bytes (At 7) rsp_login;
+        answer = login_bytes (Some 7) rsp_login;
         out = [];
-        caught = caught-up (line_at u k) (line_at v k) (line_at w k) 1 7 (login_bytes (At 7) rsp_login) [] h.0;
+        caught = caught-up (line_at u k) (line_at v k) (line_at w k) 1 7 (login_bytes (Some 7) rsp_login) [] h.0;
         asked = inl (eqb→eq (asked_at u k) 0 h.1.0);
         takes = is-empty _ h.1.1.0;
       }

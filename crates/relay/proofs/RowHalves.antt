@@ -6,8 +6,7 @@ use mathlib.Core.List.{List, [], ◌∷◌, ◌++◌}
 use mathlib.Core.Logic.{inl, inr}
 use lib.ListN.{length, take}
 use Rattle.ftd.specs.declared.refusal.Refusal.{Refusal}
-use Rattle.ftd.specs.declared.tags.TradeDate.{TradeDate}
-use Rattle.ftd.specs.declared.tags.TradeDate.TheVariants.{None, At}
+use Rattle.ftd.specs.Types.{TradeDate}
 use Rattle.flow.specs.Answers.{Message}
 use Rattle.flow.specs.World.{in_series, Dated, login, SenderSide, World, step}
 use Rattle.flow.specs.Agreement.{of, since, published_on, handed_on, reported, Agreed, CaughtUp}
@@ -34,6 +33,7 @@ use Rattle.relay.proofs.Numbers.{take-take, enough, take_whole}
 use Rattle.relay.proofs.Nodes.{GoodLine, Whole, under}
 use Rattle.relay.proofs.Rows.{GoodRow, Good, LineMoved, goes, returns, Moved, ends, joins, row-moves}
 use Rattle.relay.proofs.Rows.{good-step, good-run}
+use Rattle.std.specs.Prelude.{Some, None}
 
 -- ─── Line by line ───
 
@@ -111,7 +111,7 @@ ahead-node x n h g = go n.node.day.date refl
   where
     go : (o : TradeDate) → n.node.day.date ≡ o → Upto o x.day
     go None q = tt
-    go (At d) q = let y = h.joint.0.someone d q in rw y.2 at (g.timely.behind y.0)
+    go (Some d) q = let y = h.joint.0.someone d q in rw y.2 at (g.timely.behind y.0)
 
 pub ahead-at : (x : SenderSide) (ns : List RowBox) (r : LastEnd) → GoodRow x ns r → (k : ℕ)
     → Upto (line_in x ns r (suc k)).serving.day (line_in x ns r k).serving.day
@@ -131,27 +131,27 @@ behind-top x (n ∷ ns) r g (suc k) =
 
 -- A box whose receiving end keeps the upper end's day has opened it: where this is so on each line, the day is one.
 abbrev pub There : World → ℕ → Type 0
-There w s = (d : ℕ) × (w.serving.day ≡ At d) × AllThere w s d
+There w s = (d : ℕ) × (w.serving.day ≡ Some d) × AllThere w s d
 
-upto-both : (d : ℕ) (o : TradeDate) → Upto (At d) o → Upto o (At d) → o ≡ At d
+upto-both : (d : ℕ) (o : TradeDate) → Upto (Some d) o → Upto o (Some d) → o ≡ Some d
 upto-both d None a b = absurd a
-upto-both d (At c) a b = ap At (same c d a b)
+upto-both d (Some c) a b = ap Some (same c d a b)
   where
     same : (c d : ℕ) → d ≤ c → c ≤ d → c ≡ d
     same c d a b = omega arith
 
 opened-node : (s d : ℕ) (x : SenderSide) (n : RowBox) → Whole n → GoodLine (line x n.node.receiving)
-    → There (line x n.node.receiving) s → x.day ≡ At d → n.node.day.date ≡ At d
+    → There (line x n.node.receiving) s → x.day ≡ Some d → n.node.day.date ≡ Some d
 opened-node s d x n h g y q =
-    let up : Upto n.node.day.date (At d) = rw q at (ahead-node x n h g) in
-    let same : At y.0 ≡ At d = sym y.1 ∙ q in
-    let down : Upto (At d) n.node.day.date =
+    let up : Upto n.node.day.date (Some d) = rw q at (ahead-node x n h g) in
+    let same : Some y.0 ≡ Some d = sym y.1 ∙ q in
+    let down : Upto (Some d) n.node.day.date =
     subst (λ (c : TradeDate). Upto c n.node.day.date) (y.2.date ∙ same) (h.joint.0.behind s) in
     upto-both d n.node.day.date down up
 
 pub one-day-at : (s d : ℕ) (x : SenderSide) (ns : List RowBox) (r : LastEnd) → GoodRow x ns r → (m : ℕ)
-    → ((k : ℕ) → k ≤ m → There (line_in x ns r k) s) → x.day ≡ At d → (k : ℕ) → k ≤ suc m
-    → (line_in x ns r k).serving.day ≡ At d
+    → ((k : ℕ) → k ≤ m → There (line_in x ns r k) s) → x.day ≡ Some d → (k : ℕ) → k ≤ suc m
+    → (line_in x ns r k).serving.day ≡ Some d
 one-day-at s d x [] r g m t q k l = q
 one-day-at s d x (n ∷ ns) r g m t q zero l = q
 one-day-at s d x (n ∷ ns) r g zero t q (suc zero) l =
@@ -166,7 +166,7 @@ one-day-at s d x (n ∷ ns) r g (suc m) t q (suc k) l =
 
 -- No day below it is above d, and no message of series s and day d was turned away by the box below.
 pub record FairAt (x : SenderSide) (ns ms : List RowBox) (r : LastEnd) (k s d : ℕ) : Type 0 where
-  pub ahead : Upto (line_in x ns r (suc k)).serving.day (At d)
+  pub ahead : Upto (line_in x ns r (suc k)).serving.day (Some d)
   pub takes : of s d (since (refused_in ns k) (refused_in ms k)) ≡ []
 
 moved-under : {w v : World} {C D : ℕ → ℕ → Type 0} → ((s d : ℕ) → D s d → C s d) → LineMoved w v C → LineMoved w v D
@@ -208,7 +208,7 @@ pub record LineRun (w v : RowWorld) (k : ℕ) : Type 0 where
   -- While no return is taken.
   pub steps : (line_at v k).receiving.restarts ≡ (line_at w k).receiving.restarts
       → (ls : Steps (line_at w k) (line_at v k))
-      × ((s d : ℕ) → (line_at v k).serving.day ≡ At d → TakesAt w v k s d → SparesAll s d ls)
+      × ((s d : ℕ) → (line_at v k).serving.day ≡ Some d → TakesAt w v k s d → SparesAll s d ls)
 
 -- None in all: none in the first part, none behind it.
 none-parts : (a b c : List (Dated Refusal)) → Extends a b → Extends b c → (s d : ℕ) → of s d (since a c) ≡ []
@@ -244,7 +244,7 @@ module _ (w v u : RowWorld) (k : ℕ) (g : Good w) (f : Extends (refused_in w.bo
                     x.spares s d
                         (record {
                           ahead =
-                              upto-along (line_at w (suc k)).serving.day (line_at w k).serving.day (At d)
+                              upto-along (line_at w (suc k)).serving.day (line_at w k).serving.day (Some d)
                               (ahead-at w.exchange w.boxes w.last g k) (rw day at up);
                           takes = p.0;
                         }),
@@ -328,7 +328,7 @@ module _ (o : RowWorld) (g : Good o) (es fs : List RowEvent) (e : RowEvent) (k s
   good-v = good-step u good-u e
 
   -- No opening came since: the day is the login's still.
-  pub same-day : CaughtUp (line_at u k) (line_at v k) (line_at w k) s d a out → (line_at w k).serving.day ≡ At d
+  pub same-day : CaughtUp (line_at u k) (line_at v k) (line_at w k) s d a out → (line_at w k).serving.day ≡ Some d
   same-day c = steps-day ((line-run v good-v fs k).steps c.no-restart).0 c.no-opening ∙ c.day
 
   pub line-whole : CaughtUp (line_at u k) (line_at v k) (line_at w k) s d a out → AskedSince u v k s → TakesAt v w k s d

@@ -8,7 +8,7 @@ use mathlib.Core.Option.{Option, none, some}
 use lib.ListN.{get_elem?, get_or-replicate}
 use Rattle.flow.specs.declared.sender.Seat.{Seat}
 use Rattle.flow.specs.declared.receiver.Receiver.{Receiver}
-use Rattle.flow.specs.declared.checkpoint.Restored.{Restored}
+use Rattle.flow.specs.Types.{Restored}
 use Rattle.flow.specs.Ends.{Left, fresh_sender, fresh_receiver, is_open, kept_series}
 use Rattle.flow.specs.World
 use Rattle.flow.specs.World.{Event, SenderSide, ReceiverSide, World, start, step}

@@ -11,20 +11,13 @@ use Rattle.ftd.specs.Refusal.{number_of}
 use Rattle.ftd.specs.declared.refusal.Refusal.{Refusal}
 use Rattle.ftd.specs.declared.packet.Span.{Span}
 use Rattle.ftd.specs.declared.packet.Header.{Header}
-use Rattle.ftd.specs.declared.tags.PacketPlace.{PacketPlace}
-use Rattle.ftd.specs.declared.tags.TradeDate.{TradeDate}
-use Rattle.ftd.specs.declared.tags.TradeDate.TheVariants.{None, At}
+use Rattle.ftd.specs.Types.{PacketPlace}
+use Rattle.ftd.specs.Types.{TradeDate}
 use Rattle.flow.specs.declared.sender.Sender.{Sender}
-use Rattle.flow.specs.declared.sender.Opened.{Opened}
-use Rattle.flow.specs.declared.sender.Opened.TheVariants.{Done}
-use Rattle.flow.specs.declared.sender.Opened.TheVariants.{Refused as NotOpened}
-use Rattle.flow.specs.declared.sender.Published.{Published}
-use Rattle.flow.specs.declared.sender.Published.TheVariants.{Number}
-use Rattle.flow.specs.declared.sender.Published.TheVariants.{Refused as NotPublished}
+use Rattle.flow.specs.Types.{Opened}
+use Rattle.flow.specs.Types.{Published}
 use Rattle.flow.specs.declared.receiver.Receiver.{Receiver}
-use Rattle.flow.specs.declared.receiver.Confirmed.{Confirmed}
-use Rattle.flow.specs.declared.receiver.Confirmed.TheVariants.{Last}
-use Rattle.flow.specs.declared.receiver.Confirmed.TheVariants.{Refused as NotConfirmed}
+use Rattle.flow.specs.Types.{Confirmed}
 use Rattle.flow.specs.declared.receiver.Received.{Received}
 use Rattle.flow.specs.declared.receiver.Received.TheVariants.{Idle, Duplicate, Partial, Complete}
 use Rattle.flow.specs.declared.receiver.Received.TheVariants.{Refused as NotTaken}
@@ -42,15 +35,16 @@ use Rattle.flow.specs.Deciding.{past_day, receive_past}
 use Rattle.relay.specs.State.{Box}
 use Rattle.relay.specs.Box.{serving, confirm_past, AnswerWay, ReceiveWay, opening_way, taken_way}
 use Rattle.relay.specs.Box.{reserves_of, confirmed_way, answer_way, published_way, handed_way, receive_way}
+use Rattle.std.specs.Prelude.{Some, None, Ok, Err}
 
 -- ─── Answer ───
 
-pub taken-dated : (e : Receiver) (s : ℕ) (p : List ℕ) (n : ℕ) → (confirm_login_of e s p).answer ≡ Last n
-    → (d : ℕ) × ((dated_of p).date ≡ At d)
+pub taken-dated : (e : Receiver) (s : ℕ) (p : List ℕ) (n : ℕ) → (confirm_login_of e s p).answer ≡ Ok n
+    → (d : ℕ) × ((dated_of p).date ≡ Some d)
 taken-dated e s p n q = go (confirm_login_of e s p) (confirm-as e s p) q
   where
-    go : (r : Left Receiver Confirmed) → Confirmed-as e s (dated_of p).date r → r.answer ≡ Last n
-        → (d : ℕ) × ((dated_of p).date ≡ At d)
+    go : (r : Left Receiver Confirmed) → Confirmed-as e s (dated_of p).date r → r.answer ≡ Ok n
+        → (d : ℕ) × ((dated_of p).date ≡ Some d)
     go r (refuses x) q = let z : ◌≡◌ {A = ℕ} 0 1 = cc in absurd (omega arith)
     go r (confirms d i o b) q = (d, i)
 
@@ -61,28 +55,28 @@ opening_of b d log =
 
 pub data AnswerDone (b : Box) (s : ℕ) (p log : List ℕ) : AnswerWay → Type 0 where
   comes-late : before (dated_of p).date b.day.date ≡ true → AnswerDone b s p log AnswerWay.late
-  not_taken : (x : Refusal) → (confirm_login_of b.receiver s p).answer ≡ NotConfirmed x
+  not_taken : (x : Refusal) → (confirm_login_of b.receiver s p).answer ≡ Err x
       → AnswerDone b s p log AnswerWay.through
-  same-day : (n d : ℕ) → (confirm_login_of b.receiver s p).answer ≡ Last n → (dated_of p).date ≡ At d
-      → before (At d) b.day.date ≡ false → up_to d b.day.date ≡ true → AnswerDone b s p log AnswerWay.through
-  not_opened : (n d : ℕ) → (confirm_login_of b.receiver s p).answer ≡ Last n → (dated_of p).date ≡ At d
-      → up_to d b.day.date ≡ false → (x : Refusal) → (opening_of b d log).answer ≡ NotOpened x
+  same-day : (n d : ℕ) → (confirm_login_of b.receiver s p).answer ≡ Ok n → (dated_of p).date ≡ Some d
+      → before (Some d) b.day.date ≡ false → up_to d b.day.date ≡ true → AnswerDone b s p log AnswerWay.through
+  not_opened : (n d : ℕ) → (confirm_login_of b.receiver s p).answer ≡ Ok n → (dated_of p).date ≡ Some d
+      → up_to d b.day.date ≡ false → (x : Refusal) → (opening_of b d log).answer ≡ Err x
       → AnswerDone b s p log (AnswerWay.refuses x)
-  opened : (n d : ℕ) → (confirm_login_of b.receiver s p).answer ≡ Last n → (dated_of p).date ≡ At d
-      → up_to d b.day.date ≡ false → (opening_of b d log).answer ≡ Done
+  opened : (n d : ℕ) → (confirm_login_of b.receiver s p).answer ≡ Ok n → (dated_of p).date ≡ Some d
+      → up_to d b.day.date ≡ false → (opening_of b d log).answer ≡ (Ok tt)
       → AnswerDone b s p log (AnswerWay.opens (opening_of b d log))
 
 module _ (b : Box) (s : ℕ) (p log : List ℕ) where
   abbrev P : AnswerWay → Type 0
   P = AnswerDone b s p log
 
-  opening-done : (n d : ℕ) → (confirm_login_of b.receiver s p).answer ≡ Last n → (dated_of p).date ≡ At d
+  opening-done : (n d : ℕ) → (confirm_login_of b.receiver s p).answer ≡ Ok n → (dated_of p).date ≡ Some d
       → up_to d b.day.date ≡ false → (a : Opened) → (opening_of b d log).answer ≡ a
       → P (opening_way (opening_of b d log) a)
-  opening-done n d q f u Done e = opened n d q f u e
-  opening-done n d q f u (NotOpened x) e = not_opened n d q f u x e
+  opening-done n d q f u (Ok tt) e = opened n d q f u e
+  opening-done n d q f u (Err x) e = not_opened n d q f u x e
 
-  taken-done : (n : ℕ) → (confirm_login_of b.receiver s p).answer ≡ Last n → (date : TradeDate)
+  taken-done : (n : ℕ) → (confirm_login_of b.receiver s p).answer ≡ Ok n → (date : TradeDate)
       → (dated_of p).date ≡ date → before date b.day.date ≡ false
       → P (taken_way b.receiver b.reserves b.day log date)
   taken-done n q None f l =
@@ -90,17 +84,17 @@ module _ (b : Box) (s : ℕ) (p log : List ℕ) where
       let g = z.1 in
       absurd (none-at (dated_of p).date z.0 f g)
     where
-      none-at : (o : TradeDate) (d : ℕ) → o ≡ None → o ≡ At d → ⊥
+      none-at : (o : TradeDate) (d : ℕ) → o ≡ None → o ≡ Some d → ⊥
       none-at o d p q = let z : ◌≡◌ {A = ℕ} 0 1 = cc in omega arith
-  taken-done n q (At d) f l =
+  taken-done n q (Some d) f l =
       by-when P (up_to d b.day.date) (λ u. same-day n d q f l u) λ u.
       opening-done n d q f u (opening_of b d log).answer refl
 
   confirmed-done : (a : Confirmed) → (confirm_login_of b.receiver s p).answer ≡ a
       → (confirm_past a && before (dated_of p).date b.day.date) ≡ false
       → P (confirmed_way b.receiver b.reserves b.day log (dated_of p).date a)
-  confirmed-done (Last n) q l = taken-done n q (dated_of p).date refl l
-  confirmed-done (NotConfirmed x) q l = not_taken x q
+  confirmed-done (Ok n) q l = taken-done n q (dated_of p).date refl l
+  confirmed-done (Err x) q l = not_taken x q
 
   pub answer-done : AnswerDone b s p log (answer_way b s p log)
   unfolding answer_way
@@ -161,14 +155,14 @@ pub data ReceiveDone (b : Box) (p log buffer : List ℕ) : ReceiveWay → Type 0
       ≡ m ∷ ms
       → before (kept_of b.receiver (series_in (dated_of p).packet)).date b.day.date ≡ false
       → (x : Refusal)
-      → (publish_of (serving b) (series_in (dated_of p).packet) m.tid m.content log).answer ≡ NotPublished x
+      → (publish_of (serving b) (series_in (dated_of p).packet) m.tid m.content log).answer ≡ Err x
       → ReceiveDone b p log buffer (ReceiveWay.refuses x)
   published : (m : Message) (ms : List Message)
       → message_in (received_said p (receive_of b.receiver p buffer).bytes (receive_of b.receiver p buffer).answer)
       ≡ m ∷ ms
       → before (kept_of b.receiver (series_in (dated_of p).packet)).date b.day.date ≡ false
       → (k : ℕ)
-      → (publish_of (serving b) (series_in (dated_of p).packet) m.tid m.content log).answer ≡ Number k
+      → (publish_of (serving b) (series_in (dated_of p).packet) m.tid m.content log).answer ≡ Ok k
       → ReceiveDone b p log buffer
       (ReceiveWay.publishes m (publish_of (serving b) (series_in (dated_of p).packet) m.tid m.content log))
 
@@ -186,8 +180,8 @@ module _ (b : Box) (p log buffer : List ℕ) where
       → before (kept_of b.receiver t).date b.day.date ≡ false
       → (a : Published) → (publish_of (serving b) t m.tid m.content log).answer ≡ a
       → Q (published_way m (publish_of (serving b) t m.tid m.content log) a)
-  published-done m ms q f (Number k) e = published m ms q f k e
-  published-done m ms q f (NotPublished x) e = not-published m ms q f x e
+  published-done m ms q f (Ok k) e = published m ms q f k e
+  published-done m ms q f (Err x) e = not-published m ms q f x e
 
   handed-done : (ms : List Message) → message_in (received_said p r.bytes r.answer) ≡ ms
       → (receive_past r.answer && before (kept_of b.receiver t).date b.day.date) ≡ false

@@ -7,12 +7,6 @@ use Rattle.std.proofs.Math.Option.{some}
 use Rattle.std.proofs.Math.ListN.{get_elem?}
 use Rattle.ftd.specs.Packet.{dated_of}
 use Rattle.ftd.specs.declared.refusal.Refusal.TheVariants.{Opening, DamagedLog}
-use Rattle.ftd.specs.declared.tags.TradeDate.TheVariants.{At}
-use Rattle.flow.specs.declared.sender.Published.TheVariants.{Number}
-use Rattle.flow.specs.declared.sender.Sent.TheVariants.{Refused as NotSent}
-use Rattle.flow.specs.declared.sender.SentPacket.TheVariants.{Refused as NotPacket}
-use Rattle.flow.specs.declared.receiver.Confirmed.TheVariants.{Last}
-use Rattle.flow.specs.declared.receiver.Confirmed.TheVariants.{Refused as NotConfirmed}
 use Rattle.flow.specs.Ends.{up_to, is_open, kept_of, kept_series, day_series, published_of, place_of, no_place, sum_of, larger}
 use Rattle.flow.specs.Answers.{Message, is_taken, confirmed_said, received_said, report_in}
 use Rattle.flow.specs.Receiving.{confirm_login_of, receive_of}
@@ -27,6 +21,7 @@ use Rattle.relay.specs.World.{publish_exchange, login_exchange, send_exchange, s
 use Rattle.relay.specs.World.{ask_box, answer_box, receive_box, login_seat, send_seat, send_packet_seat, open_end}
 use Rattle.relay.specs.World.{connect_end, ask_end, answer_end, receive_end, box_step, box_run}
 use Rattle.relay.specs.Seats.{Independence}
+use Rattle.std.specs.Prelude.{Some, Ok, Err}
 
 -- The whole after a list of events, "refused ones included".
 abbrev pub ran : Lent → List BoxEvent → BoxWorld
@@ -45,21 +40,21 @@ SameNumber v n =
     → get_elem? m.packets j ≡ some p → (x : Message) (q : _)
     → receive_way (box_of n) p n.log n.receiving.buffer ≡ publishes x q
     → let r = receive_of n.receiving.end p n.receiving.buffer in
-    (k : ℕ) × (q.answer ≡ Number k) × (report_in (received_said p r.bytes r.answer) ≡ k ∷ [])
+    (k : ℕ) × (q.answer ≡ Ok k) × (report_in (received_said p r.bytes r.answer) ≡ k ∷ [])
 
 -- So the count below of a series is its last number on the open day, and 0 while it is of an earlier one or of none.
 pub record Counts (n : Node) (s d : ℕ) : Type 0 where
-  pub same : (kept_of n.receiving.end s).date ≡ At d
+  pub same : (kept_of n.receiving.end s).date ≡ Some d
       → published_of (serving (box_of n)) s ≡ (kept_of n.receiving.end s).last
-  pub none : ((kept_of n.receiving.end s).date ≡ At d → ⊥) → published_of (serving (box_of n)) s ≡ 0
+  pub none : ((kept_of n.receiving.end s).date ≡ Some d → ⊥) → published_of (serving (box_of n)) s ≡ 0
 
 -- The day below has the receiving end's series, in its order, and is of the highest trade date that is kept.
 pub record DayBelow (n : Node) : Type 0 where
-  pub series : (d : ℕ) → n.day.date ≡ At d → day_series (serving (box_of n)) ≡ kept_series n.receiving.end
-  pub highest : (s d : ℕ) → is_open n.receiving.end s ≡ true → (kept_of n.receiving.end s).date ≡ At d
+  pub series : (d : ℕ) → n.day.date ≡ Some d → day_series (serving (box_of n)) ≡ kept_series n.receiving.end
+  pub highest : (s d : ℕ) → is_open n.receiving.end s ≡ true → (kept_of n.receiving.end s).date ≡ Some d
       → up_to d n.day.date ≡ true
-  pub someone : (d : ℕ) → n.day.date ≡ At d
-      → (s : ℕ) × (is_open n.receiving.end s ≡ true) × ((kept_of n.receiving.end s).date ≡ At d)
+  pub someone : (d : ℕ) → n.day.date ≡ Some d
+      → (s : ℕ) × (is_open n.receiving.end s ≡ true) × ((kept_of n.receiving.end s).date ≡ Some d)
 
 -- ─── "an answer's mark above the day open below, or the first, opens its day there .., and nothing else publishes or
 -- opens there" ───
@@ -67,7 +62,7 @@ pub record DayBelow (n : Node) : Type 0 where
 -- A day d was opened: no place of any seat is logged in, the series have the box's reserves, and what was unfinished on
 -- the lines is broken off.
 pub record OpenedBelow (w v : BoxWorld) (d : ℕ) : Type 0 where
-  pub day : v.node.day.date ≡ At d
+  pub day : v.node.day.date ≡ Some d
   pub series : day_series (serving (box_of v.node)) ≡ kept_series w.node.receiving.end
   pub shares : reserves (serving (box_of v.node)) ≡ reserves_of w.node.receiving.end w.node.reserves
   pub empty : (s : ℕ) → published_of (serving (box_of v.node)) s ≡ 0
@@ -126,11 +121,11 @@ is_receive (receive_end i k j) = false
 pub record Openings : Type 0 where
   -- An answer that was taken opens its day exactly if its trade date is above the open day's, or there is none;
   pub opens : (w : BoxWorld) (k : ℕ) (a : InSeries (List ℕ)) (d : ℕ) → get_elem? w.exchange.answers k ≡ some a
-      → (dated_of a.what).date ≡ At d
+      → (dated_of a.what).date ≡ Some d
       → is_taken (confirmed_said (answer_of (box_of w.node) a.series a.what w.node.log).answer) ≡ true
       → up_to d w.node.day.date ≡ false → OpenedBelow w (box_step w (answer_box k)) d
   pub keeps : (w : BoxWorld) (k : ℕ) (a : InSeries (List ℕ)) (d : ℕ) → get_elem? w.exchange.answers k ≡ some a
-      → (dated_of a.what).date ≡ At d → up_to d w.node.day.date ≡ true
+      → (dated_of a.what).date ≡ Some d → up_to d w.node.day.date ≡ true
       → SameDay w.node (box_step w (answer_box k)).node
   -- one that was refused opens none, and changes no part of the box nor of a line to a seat;
   pub refuses : (w : BoxWorld) (k : ℕ) (a : InSeries (List ℕ)) → get_elem? w.exchange.answers k ≡ some a
@@ -138,10 +133,10 @@ pub record Openings : Type 0 where
       → (box_of (box_step w (answer_box k)).node ≡ box_of w.node)
       × ((i : ℕ) → (box_step w (answer_box k)).lines i ≡ w.lines i)
   -- one that the receiving end takes, whose opening the reserves forbid, is refused 11;
-  pub forbids : (b : Box) (s : ℕ) (p log : List ℕ) (n d : ℕ) → (confirm_login_of b.receiver s p).answer ≡ Last n
-      → (dated_of p).date ≡ At d → up_to d b.day.date ≡ false
+  pub forbids : (b : Box) (s : ℕ) (p log : List ℕ) (n d : ℕ) → (confirm_login_of b.receiver s p).answer ≡ Ok n
+      → (dated_of p).date ≡ Some d → up_to d b.day.date ≡ false
       → length log < sum_of (reserves_of b.receiver b.reserves)
-      → (answer_of b s p log).answer ≡ NotConfirmed Opening
+      → (answer_of b s p log).answer ≡ Err Opening
   -- of the log its length counts, and nothing else.
   pub length-only : (b : Box) (s : ℕ) (p log more : List ℕ) → length log ≡ length more
       → answer_of b s p log ≡ answer_of b s p more
@@ -204,20 +199,20 @@ pub record BoxAgreement : Type 0 where
   pub numbered : (l : Lent) (es : List BoxEvent) → SameNumber (ran l es).exchange (ran l es).node
   pub counts : (l : Lent) (es : List BoxEvent) (s d : ℕ) →
       let n = (ran l es).node in
-      n.day.date ≡ At d → is_open n.receiving.end s ≡ true → Counts n s d
+      n.day.date ≡ Some d → is_open n.receiving.end s ≡ true → Counts n s d
   pub day-below : (l : Lent) (es : List BoxEvent) → DayBelow (ran l es).node
   pub openings : Openings
   -- An answer that the receiving end takes, of a day above the open one, is refused by nothing but the reserves: if they
   -- are within the log's length, it is taken.
   pub admitted : (l : Lent) (es : List BoxEvent) (s : ℕ) (p log : List ℕ) (n d : ℕ) →
       let m = (ran l es).node in
-      (confirm_login_of m.receiving.end s p).answer ≡ Last n → (dated_of p).date ≡ At d → up_to d m.day.date ≡ false
-      → sum_of (reserves_of m.receiving.end m.reserves) ≤ length log → (answer_of (box_of m) s p log).answer ≡ Last n
+      (confirm_login_of m.receiving.end s p).answer ≡ Ok n → (dated_of p).date ≡ Some d → up_to d m.day.date ≡ false
+      → sum_of (reserves_of m.receiving.end m.reserves) ≤ length log → (answer_of (box_of m) s p log).answer ≡ Ok n
   -- The log is sound: neither Send of a seat finds it damaged.
   pub undamaged : (l : Lent) (es : List BoxEvent) (i s : ℕ) (out : List ℕ) → i < 16 →
       let n = (ran l es).node in
-      ((send_seat_of (box_of n) i s n.log out).answer ≡ NotSent DamagedLog → ⊥)
-      × ((send_packet_seat_of (box_of n) i s n.log out).answer ≡ NotPacket DamagedLog → ⊥)
+      ((send_seat_of (box_of n) i s n.log out).answer ≡ Err DamagedLog → ⊥)
+      × ((send_packet_seat_of (box_of n) i s n.log out).answer ≡ Err DamagedLog → ⊥)
   -- Second half: u is the whole before a login, v behind it, w at the list's end.
   pub above-complete : (l : Lent) (es fs : List BoxEvent) (e : BoxEvent) (s d : ℕ) (a out : List ℕ) →
       let u = ran l es in

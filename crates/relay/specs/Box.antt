@@ -4,28 +4,16 @@ use Rattle.std.specs.Prelude.{ℕ, List, [], ◌∷◌, Bool, true, not, ◌&&�
 use Rattle.ftd.specs.Packet.{dated_of}
 use Rattle.ftd.specs.declared.refusal.Refusal.{Refusal}
 use Rattle.ftd.specs.declared.refusal.Refusal.TheVariants.{Opening, OtherDay, NoSeat}
-use Rattle.ftd.specs.declared.tags.TradeDate.{TradeDate}
-use Rattle.ftd.specs.declared.tags.TradeDate.TheVariants.{None, At}
+use Rattle.ftd.specs.Types.{TradeDate}
 use Rattle.flow.specs.declared.sender.Day.{Day}
 use Rattle.flow.specs.declared.sender.Seat.{Seat}
 use Rattle.flow.specs.declared.sender.Sender.{Sender}
-use Rattle.flow.specs.declared.sender.Opened.{Opened}
-use Rattle.flow.specs.declared.sender.Opened.TheVariants.{Done}
-use Rattle.flow.specs.declared.sender.Opened.TheVariants.{Refused as NotOpened}
-use Rattle.flow.specs.declared.sender.Published.{Published}
-use Rattle.flow.specs.declared.sender.Published.TheVariants.{Number}
-use Rattle.flow.specs.declared.sender.Published.TheVariants.{Refused as NotPublished}
-use Rattle.flow.specs.declared.sender.LoggedIn.{LoggedIn}
-use Rattle.flow.specs.declared.sender.LoggedIn.TheVariants.{Refused as NotIn}
-use Rattle.flow.specs.declared.sender.Sent.{Sent}
-use Rattle.flow.specs.declared.sender.Sent.TheVariants.{Refused as NotSent}
-use Rattle.flow.specs.declared.sender.SentPacket.{SentPacket}
-use Rattle.flow.specs.declared.sender.SentPacket.TheVariants.{Refused as NotPacket}
+use Rattle.flow.specs.Types.{Opened}
+use Rattle.flow.specs.Types.{Published}
+use Rattle.flow.specs.Types.{LoggedIn}
 use Rattle.flow.specs.declared.receiver.Receiver.{Receiver}
-use Rattle.flow.specs.declared.receiver.Requested.{Requested}
-use Rattle.flow.specs.declared.receiver.Confirmed.{Confirmed}
-use Rattle.flow.specs.declared.receiver.Confirmed.TheVariants.{Last}
-use Rattle.flow.specs.declared.receiver.Confirmed.TheVariants.{Refused as NotConfirmed}
+use Rattle.flow.specs.Types.{Requested}
+use Rattle.flow.specs.Types.{Confirmed}
 use Rattle.flow.specs.declared.receiver.Received.{Received}
 use Rattle.flow.specs.declared.receiver.Received.TheVariants.{Refused as NotTaken}
 use Rattle.flow.specs.Ends.{◌when◌else◌, Left, Wrote, left, wrote, before, up_to, fresh_sender, fresh_receiver, kept_series}
@@ -36,6 +24,8 @@ use Rattle.flow.specs.Receiving.{open_end_of, connect_of, request_login_of, conf
 use Rattle.flow.specs.Deciding.{past_day, receive_past}
 use Rattle.flow.specs.World.{series_in}
 use Rattle.relay.specs.State.{Box, most_seats}
+use Rattle.std.specs.Prelude.{Some, None, Ok, Err}
+use Rattle.flow.specs.Types.{SendAnswer, PacketSent}
 
 -- ─── The state ───
 
@@ -82,8 +72,8 @@ with_seat b i x = box b.receiver b.reserves b.day (set b.seats i x)
 
 -- Series and reserves; an opening that was taken sets them.
 abbrev pub reserves_by : List ℕ → List ℕ → Opened → List ℕ
-reserves_by rs old Done = filled 0 rs
-reserves_by rs old (NotOpened x) = old
+reserves_by rs old (Ok tt) = filled 0 rs
+reserves_by rs old (Err x) = old
 
 abbrev pub open_by : Box → List ℕ → Left Receiver Opened → Left Box Opened
 open_by b rs r = left (box r.end (reserves_by rs b.reserves r.answer) b.day b.seats) r.answer
@@ -91,7 +81,7 @@ open_by b rs r = left (box r.end (reserves_by rs b.reserves r.answer) b.day b.se
 -- 11 also: not one reserve for each series. The day below stays, and no log is looked at.
 unfoldable pub open_box_of : Box → List ℕ → List ℕ → Left Box Opened
 open_box_of b ss rs =
-    left b (NotOpened Opening) when not (eqb (length rs) (length ss)) else
+    left b (Err Opening) when not (eqb (length rs) (length ss)) else
     open_by b rs (open_end_of b.receiver ss)
 
 -- Day, log and seats stay: the seats go on.
@@ -107,8 +97,8 @@ ask_of b s content out =
 
 -- The receiving end came past its row 15: it took the packet, or refused it with a number above 15.
 abbrev pub confirm_past : Confirmed → Bool
-confirm_past (Last n) = true
-confirm_past (NotConfirmed x) = past_day x
+confirm_past (Ok n) = true
+confirm_past (Err x) = past_day x
 
 -- ─── Answer: of the log only the length counts (02, No. 11) ───
 
@@ -122,19 +112,19 @@ pub data AnswerWay : Type 0 where
 
 -- Opening below was tried: "an answer whose opening they forbid is refused" too (02, No. 11).
 abbrev pub opening_way : Left Sender Opened → Opened → AnswerWay
-opening_way q Done = AnswerWay.opens q
-opening_way q (NotOpened x) = refuses x
+opening_way q (Ok tt) = AnswerWay.opens q
+opening_way q (Err x) = refuses x
 
 -- Taken: it opens with a trade date above the day open below, or where none is.
 abbrev pub taken_way : Receiver → List ℕ → Day → List ℕ → TradeDate → AnswerWay
 taken_way e reserves day log None = through
-taken_way e reserves day log (At d) =
+taken_way e reserves day log (Some d) =
     through when up_to d day.date else
     (let q = open_day_of (server_of day no_seat) d (kept_series e) (reserves_of e reserves) log in opening_way q q.answer)
 
 abbrev pub confirmed_way : Receiver → List ℕ → Day → List ℕ → TradeDate → Confirmed → AnswerWay
-confirmed_way e reserves day log date (Last n) = taken_way e reserves day log date
-confirmed_way e reserves day log date (NotConfirmed x) = through
+confirmed_way e reserves day log date (Ok n) = taken_way e reserves day log date
+confirmed_way e reserves day log date (Err x) = through
 
 -- 15 for a trade date below the open day stands at row 15: before 16 and before the opening's 11.
 unfoldable pub answer_way : Box → ℕ → List ℕ → List ℕ → AnswerWay
@@ -145,8 +135,8 @@ answer_way b s p log =
 
 -- A refusal changes nothing. An opening empties the places of all seats; the log's bytes stay.
 abbrev pub answer_by : Box → Left Receiver Confirmed → AnswerWay → Left Box Confirmed
-answer_by b r late = left b (NotConfirmed OtherDay)
-answer_by b r (refuses x) = left b (NotConfirmed x)
+answer_by b r late = left b (Err OtherDay)
+answer_by b r (refuses x) = left b (Err x)
 answer_by b r through = left (with_receiver b r.end) r.answer
 answer_by b r (opens q) = left (box r.end b.reserves q.end.day (replicate most_seats q.end.seat)) r.answer
 
@@ -164,8 +154,8 @@ pub data ReceiveWay : Type 0 where
   publishes : Message → Wrote Sender Published → ReceiveWay
 
 abbrev pub published_way : Message → Wrote Sender Published → Published → ReceiveWay
-published_way m q (Number k) = publishes m q
-published_way m q (NotPublished x) = refuses x
+published_way m q (Ok k) = publishes m q
+published_way m q (Err x) = refuses x
 
 abbrev pub handed_way : Day → ℕ → List ℕ → List Message → ReceiveWay
 handed_way day s log [] = through
@@ -209,16 +199,16 @@ no_such_seat i = not (ltb i most_seats)
 
 unfoldable pub login_seat_of : Box → ℕ → ℕ → List ℕ → List ℕ → List ℕ → Wrote Box LoggedIn
 login_seat_of b i s p content out =
-    wrote b (NotIn NoSeat) out when no_such_seat i else
+    wrote b (Err NoSeat) out when no_such_seat i else
     (let r = login_of (server_at b i) s p content out in wrote (with_seat b i r.end.seat) r.answer r.bytes)
 
-unfoldable pub send_seat_of : Box → ℕ → ℕ → List ℕ → List ℕ → Wrote Box Sent
+unfoldable pub send_seat_of : Box → ℕ → ℕ → List ℕ → List ℕ → Wrote Box SendAnswer
 send_seat_of b i s log out =
-    wrote b (NotSent NoSeat) out when no_such_seat i else
+    wrote b (Err NoSeat) out when no_such_seat i else
     (let r = send_of (server_at b i) s log out in wrote (with_seat b i r.end.seat) r.answer r.bytes)
 
 -- One packet (02, No. 4).
-unfoldable pub send_packet_seat_of : Box → ℕ → ℕ → List ℕ → List ℕ → Wrote Box SentPacket
+unfoldable pub send_packet_seat_of : Box → ℕ → ℕ → List ℕ → List ℕ → Wrote Box PacketSent
 send_packet_seat_of b i s log out =
-    wrote b (NotPacket NoSeat) out when no_such_seat i else
+    wrote b (Err NoSeat) out when no_such_seat i else
     (let r = send_packet_of (server_at b i) s log out in wrote (with_seat b i r.end.seat) r.answer r.bytes)

@@ -6,21 +6,11 @@ use Rattle.ftd.specs.Bytes.{joined}
 use Rattle.ftd.specs.Packet.{dated_of}
 use Rattle.ftd.specs.declared.refusal.Refusal.{Refusal}
 use Rattle.ftd.specs.declared.refusal.Refusal.TheVariants.{Opening, OtherDay, NoSeat}
-use Rattle.ftd.specs.declared.tags.TradeDate.{TradeDate}
-use Rattle.ftd.specs.declared.tags.TradeDate.TheVariants.{None, At}
+use Rattle.ftd.specs.Types.{TradeDate}
 use Rattle.flow.specs.declared.sender.Sender.{Sender}
-use Rattle.flow.specs.declared.sender.Opened.{Opened}
-use Rattle.flow.specs.declared.sender.Opened.TheVariants.{Done}
-use Rattle.flow.specs.declared.sender.Opened.TheVariants.{Refused as NotOpened}
-use Rattle.flow.specs.declared.sender.Published.{Published}
-use Rattle.flow.specs.declared.sender.Published.TheVariants.{Number}
-use Rattle.flow.specs.declared.sender.Published.TheVariants.{Refused as NotPublished}
-use Rattle.flow.specs.declared.sender.LoggedIn.TheVariants.{Refused as NotIn}
-use Rattle.flow.specs.declared.sender.Sent.TheVariants.{Refused as NotSent}
-use Rattle.flow.specs.declared.sender.SentPacket.TheVariants.{Refused as NotPacket}
+use Rattle.flow.specs.Types.{Opened}
+use Rattle.flow.specs.Types.{Published}
 use Rattle.flow.specs.declared.receiver.Receiver.{Receiver}
-use Rattle.flow.specs.declared.receiver.Confirmed.TheVariants.{Last}
-use Rattle.flow.specs.declared.receiver.Confirmed.TheVariants.{Refused as NotConfirmed}
 use Rattle.flow.specs.declared.receiver.Received.TheVariants.{Refused as NotTaken}
 use Rattle.flow.specs.Ends.{Left, Wrote, left, before, up_to, no_place, no_live, logged_in, is_open, kept_of, live_of, kept_series}
 use Rattle.flow.specs.Ends.{filled}
@@ -40,6 +30,7 @@ use Rattle.relay.specs.Seats.{standing, after, shows}
 use Rattle.relay.specs.World.{Lent, Node, box_of, BoxEvent}
 use Rattle.relay.specs.Agreement.{ran}
 use Rattle.relay.specs.Together.{Together}
+use Rattle.std.specs.Prelude.{Some, None, Ok, Err}
 
 -- Each array has its places, as in every value of the types.
 pub record Shaped (b : Box) : Type 0 where
@@ -56,7 +47,7 @@ any (x ∷ l) = true
 -- A trade date above the day's, or any where no day is open.
 abbrev pub higher : TradeDate → TradeDate → Bool
 higher None e = false
-higher (At d) e = not (up_to d e)
+higher (Some d) e = not (up_to d e)
 
 -- Answer was taken, with a mark above the day open below: it opens a day.
 abbrev pub opens_day : Standing → BoxCall → Bool
@@ -181,25 +172,25 @@ opening_below b d log = open_day_of (serving b) d (kept_series b.receiver) (rese
 
 pub record AnswerAs (b : Box) (s : ℕ) (p log : List ℕ) : Type 0 where
   pub late : passes (end_confirms b s p) ≡ true → before (dated_of p).date b.day.date ≡ true
-      → answer_of b s p log ≡ left b (NotConfirmed OtherDay)
+      → answer_of b s p log ≡ left b (Err OtherDay)
   -- In all other cases as the receiving end: refused,
-  pub refuses : (x : Refusal) → (confirm_login_of b.receiver s p).answer ≡ NotConfirmed x
+  pub refuses : (x : Refusal) → (confirm_login_of b.receiver s p).answer ≡ Err x
       → (passes (end_confirms b s p) && before (dated_of p).date b.day.date) ≡ false
-      → answer_of b s p log ≡ left b (NotConfirmed x)
+      → answer_of b s p log ≡ left b (Err x)
   -- taken with the open day,
-  pub same-day : (n d : ℕ) → (confirm_login_of b.receiver s p).answer ≡ Last n → (dated_of p).date ≡ At d
-      → before (At d) b.day.date ≡ false → up_to d b.day.date ≡ true
-      → answer_of b s p log ≡ left (box (confirm_login_of b.receiver s p).end b.reserves b.day b.seats) (Last n)
+  pub same-day : (n d : ℕ) → (confirm_login_of b.receiver s p).answer ≡ Ok n → (dated_of p).date ≡ Some d
+      → before (Some d) b.day.date ≡ false → up_to d b.day.date ≡ true
+      → answer_of b s p log ≡ left (box (confirm_login_of b.receiver s p).end b.reserves b.day b.seats) (Ok n)
   -- taken with a higher one: the day is the one that the opening makes, and all seats are empty;
-  pub opens : (n d : ℕ) → (confirm_login_of b.receiver s p).answer ≡ Last n → (dated_of p).date ≡ At d
-      → up_to d b.day.date ≡ false → (opening_below b d log).answer ≡ Done
+  pub opens : (n d : ℕ) → (confirm_login_of b.receiver s p).answer ≡ Ok n → (dated_of p).date ≡ Some d
+      → up_to d b.day.date ≡ false → (opening_below b d log).answer ≡ (Ok tt)
       → answer_of b s p log ≡ left
       (box (confirm_login_of b.receiver s p).end b.reserves (opening_below b d log).end.day
-      (replicate 16 (record { places = replicate 8 no_place }))) (Last n)
+      (replicate 16 (record { places = replicate 8 no_place }))) (Ok n)
   -- or its opening is refused.
-  pub not_opened : (n d : ℕ) → (confirm_login_of b.receiver s p).answer ≡ Last n → (dated_of p).date ≡ At d
-      → up_to d b.day.date ≡ false → (x : Refusal) → (opening_below b d log).answer ≡ NotOpened x
-      → answer_of b s p log ≡ left b (NotConfirmed x)
+  pub not_opened : (n d : ℕ) → (confirm_login_of b.receiver s p).answer ≡ Ok n → (dated_of p).date ≡ Some d
+      → up_to d b.day.date ≡ false → (x : Refusal) → (opening_below b d log).answer ≡ Err x
+      → answer_of b s p log ≡ left b (Err x)
 
 -- ─── Receive: the receiving end's checks, 15 for the day below, then Publish's ───
 
@@ -220,14 +211,14 @@ pub record ReceiveAs (b : Box) (p log buffer : List ℕ) : Type 0 where
       receive_box_of b p log buffer ≡ relayed (box r.end b.reserves b.day b.seats) r.answer log r.bytes
   -- a message is published below, in day and log as Publish does it,
   pub publishes : earlier b p ≡ false → (m : Message) → message_in (end_says b p buffer) ≡ m ∷ [] → (k : ℕ)
-      → (publishing b p m log).answer ≡ Number k →
+      → (publishing b p m log).answer ≡ Ok k →
       let r = receive_of b.receiver p buffer in
       let q = publishing b p m log in
       receive_box_of b p log buffer ≡ relayed (box r.end b.reserves q.end.day b.seats) r.answer q.bytes
       r.bytes
   -- or refused with Publish's own refusal.
   pub refuses : earlier b p ≡ false → (m : Message) → message_in (end_says b p buffer) ≡ m ∷ [] → (x : Refusal)
-      → (publishing b p m log).answer ≡ NotPublished x →
+      → (publishing b p m log).answer ≡ Err x →
       let r = receive_box_of b p log buffer in
       (r.answer ≡ NotTaken x) × OnlyChain (standing b log buffer) (left_by r) (borne p)
 
@@ -303,18 +294,18 @@ pub record BoxCalls : Type 0 where
   pub sends-packet : (b : Box) (i s : ℕ) (log out : List ℕ) → Shaped b → i < 16
       → SeatAs b i (send_packet_seat_of b i s log out) (send_packet_of (server_at b i) s log out)
   pub no-login : (b : Box) (i s : ℕ) (p content out : List ℕ) → 16 ≤ i
-      → login_seat_of b i s p content out ≡ record { end = b; answer = NotIn NoSeat; bytes = out }
+      → login_seat_of b i s p content out ≡ record { end = b; answer = Err NoSeat; bytes = out }
   pub no-send : (b : Box) (i s : ℕ) (log out : List ℕ) → 16 ≤ i
-      → send_seat_of b i s log out ≡ record { end = b; answer = NotSent NoSeat; bytes = out }
+      → send_seat_of b i s log out ≡ record { end = b; answer = Err NoSeat; bytes = out }
   pub no-packet : (b : Box) (i s : ℕ) (log out : List ℕ) → 16 ≤ i
-      → send_packet_seat_of b i s log out ≡ record { end = b; answer = NotPacket NoSeat; bytes = out }
+      → send_packet_seat_of b i s log out ≡ record { end = b; answer = Err NoSeat; bytes = out }
   -- Opening, Ask, Connect.
   pub opening-short : (b : Box) (ss rs : List ℕ) → (length rs ≡ length ss → ⊥)
-      → open_box_of b ss rs ≡ left b (NotOpened Opening)
+      → open_box_of b ss rs ≡ left b (Err Opening)
   pub opening-as : (b : Box) (ss rs : List ℕ) → length rs ≡ length ss →
       let r = open_box_of b ss rs in
       (r.answer ≡ (open_end_of b.receiver ss).answer) × (r.end.receiver ≡ (open_end_of b.receiver ss).end)
-  pub opening-reserves : (b : Box) (ss rs : List ℕ) → (open_box_of b ss rs).answer ≡ Done
+  pub opening-reserves : (b : Box) (ss rs : List ℕ) → (open_box_of b ss rs).answer ≡ (Ok tt)
       → (open_box_of b ss rs).end.reserves ≡ filled 0 rs
   pub ask-stays : (x : Standing) (s : ℕ) (content out : List ℕ) → after x (ask s content out) ≡ x
   pub ask-as : (b : Box) (s : ℕ) (content out : List ℕ) →
@@ -333,6 +324,6 @@ pub record BoxCalls : Type 0 where
   pub refused-handed : (x : Standing) (p : List ℕ) (n : ℕ) → Shaped x.box → (shows x (receive p)).said ≡ refused n
       → any (message_in (end_says x.box p x.buffer)) ≡ true → OnlyChain x (after x (receive p)) (borne p)
   -- After every list: the log is what was published.
-  pub logged : (l : Lent) (es : List BoxEvent) (s d : ℕ) → (ran l es).node.day.date ≡ At d → LogHolds (ran l es).node s d
+  pub logged : (l : Lent) (es : List BoxEvent) (s d : ℕ) → (ran l es).node.day.date ≡ Some d → LogHolds (ran l es).node s d
   -- The conditions of both second halves can be met at once.
   pub together : Together

@@ -1,18 +1,17 @@
 -- Definitions of private contracts: what the helpers of the box's calls promise each other. No call's promise names them.
 use Rattle.std.specs.Prelude.{ℕ, ◌≡◌, List, Bool, cond, ◌&&◌}
-use Rattle.ftd.specs.declared.tags.TradeDate.{TradeDate}
+use Rattle.ftd.specs.Types.{TradeDate}
 use Rattle.ftd.specs.declared.packet.Span.{Span}
 use Rattle.flow.specs.declared.sender.Day.{Day}
 use Rattle.flow.specs.declared.sender.Sender.{Sender}
-use Rattle.flow.specs.declared.sender.Opened.{Opened}
+use Rattle.flow.specs.Types.{Opened}
 use Rattle.flow.specs.declared.receiver.Receiver.{Receiver}
 use Rattle.flow.specs.declared.receiver.Origin.{Origin}
 use Rattle.flow.specs.declared.receiver.Received.{Received}
 use Rattle.flow.specs.declared.receiver.Received.TheVariants.{Idle, Duplicate, Partial, Complete}
 use Rattle.flow.specs.declared.receiver.Received.TheVariants.{Refused as NotTaken}
 use Rattle.flow.specs.declared.receiver.Decision.{Decision}
-use Rattle.flow.specs.declared.receiver.Confirmed.{Confirmed}
-use Rattle.flow.specs.declared.receiver.Confirmed.TheVariants.{Last}
+use Rattle.flow.specs.Types.{Confirmed}
 use Rattle.flow.specs.Ends.{Left, left, before, index_of, day_series, is_served, place_of}
 use Rattle.flow.specs.Answers.{content_in}
 use Rattle.flow.specs.Deciding.{copied_to, span_of}
@@ -22,6 +21,7 @@ use Rattle.relay.specs.declared.relay.ReceiveStep.{ReceiveStep}
 use Rattle.relay.specs.State.{box_for, place_written}
 use Rattle.relay.specs.Box.{AnswerWay, opening_way, answer_by, confirm_past}
 use Rattle.relay.specs.Promises.{answered_numbers}
+use Rattle.std.specs.Prelude.{Ok}
 
 -- The way of an opening below that was tried.
 abbrev pub opening_by : Left Sender Opened → AnswerWay
@@ -31,7 +31,7 @@ opening_by q = opening_way q q.answer
 -- takes it.
 abbrev pub AnsweredBy : Relay → List ℕ → Receiver → ℕ → AnswerWay → ConfirmStep → List ℕ → Type 0
 AnsweredBy b seats end last way r after =
-    let meant = answer_by (box_for b seats) (left end (Last last)) way in
+    let meant = answer_by (box_for b seats) (left end (Ok last)) way in
     (box_for r.end after ≡ meant.end) × (r.answer ≡ meant.answer) × (after ≡ answered_numbers seats way)
 
 -- The place of a seat in an open series, as a serving end has it, is written.

@@ -3,18 +3,8 @@
 -- what the code's state and the numbers of the seats are (`box_for`); where a call isn't lent the seats' numbers, it says
 -- this of any numbers. `Whole`: there are 384 of them, as the array's type says.
 use Rattle.std.specs.Prelude.{ℕ, ◌≡◌, List, length}
-use Rattle.flow.specs.declared.sender.LoggedIn.{LoggedIn}
-use Rattle.flow.specs.declared.sender.LoggedIn.TheVariants.{Wrote as Answered}
-use Rattle.flow.specs.declared.sender.LoggedIn.TheVariants.{Refused as NotIn}
-use Rattle.flow.specs.declared.sender.Sent.{Sent}
-use Rattle.flow.specs.declared.sender.Sent.TheVariants.{Drained}
-use Rattle.flow.specs.declared.sender.Sent.TheVariants.{Wrote as MessageSent}
-use Rattle.flow.specs.declared.sender.Sent.TheVariants.{Refused as NotSent}
-use Rattle.flow.specs.declared.sender.SentPacket.{SentPacket}
-use Rattle.flow.specs.declared.sender.SentPacket.TheVariants.{Drained as NoPacket}
-use Rattle.flow.specs.declared.sender.SentPacket.TheVariants.{Wrote as PacketSent}
-use Rattle.flow.specs.declared.sender.SentPacket.TheVariants.{Refused as NotPacket}
-use Rattle.flow.specs.declared.receiver.Requested.{Requested}
+use Rattle.flow.specs.Types.{LoggedIn}
+use Rattle.flow.specs.Types.{Requested}
 use Rattle.flow.specs.Ends.{index_of, day_series, place_of}
 use Rattle.flow.specs.Answers.{opened_said, login_said, sent_said, sent_packet_said, requested_said, confirmed_said}
 use Rattle.flow.specs.Answers.{received_said}
@@ -26,6 +16,8 @@ use Rattle.relay.specs.declared.relay.ReceiveStep.{ReceiveStep}
 use Rattle.relay.specs.State.{Box, box_for, place_written, no_numbers, all_numbers}
 use Rattle.relay.specs.Box.{open_box_of, connect_box_of, ask_of, AnswerWay, late, refuses, through, opens, answer_way}
 use Rattle.relay.specs.Box.{answer_of, receive_box_of, login_seat_of, send_seat_of, send_packet_seat_of, server_at, fresh_box}
+use Rattle.std.specs.Prelude.{Some, None, Ok, Err}
+use Rattle.flow.specs.Types.{SendAnswer, PacketSent}
 
 -- As many numbers as the array's type says.
 abbrev pub Whole : List ℕ → Type 0
@@ -83,18 +75,18 @@ seat_written seats i s b = place_written seats i (index_of s (day_series (server
 
 -- A call that wrote nothing leaves all numbers.
 abbrev pub login_numbers : List ℕ → ℕ → ℕ → Box → LoggedIn → List ℕ
-login_numbers seats i s b (Answered n) = seat_written seats i s b
-login_numbers seats i s b (NotIn x) = seats
+login_numbers seats i s b (Ok n) = seat_written seats i s b
+login_numbers seats i s b (Err x) = seats
 
-abbrev pub sent_numbers : List ℕ → ℕ → ℕ → Box → Sent → List ℕ
-sent_numbers seats i s b Drained = seats
-sent_numbers seats i s b (MessageSent number n) = seat_written seats i s b
-sent_numbers seats i s b (NotSent x) = seats
+abbrev pub sent_numbers : List ℕ → ℕ → ℕ → Box → SendAnswer → List ℕ
+sent_numbers seats i s b (Ok None) = seats
+sent_numbers seats i s b (Ok (Some found)) = seat_written seats i s b
+sent_numbers seats i s b (Err x) = seats
 
-abbrev pub packet_numbers : List ℕ → ℕ → ℕ → Box → SentPacket → List ℕ
-packet_numbers seats i s b NoPacket = seats
-packet_numbers seats i s b (PacketSent number n last) = seat_written seats i s b
-packet_numbers seats i s b (NotPacket x) = seats
+abbrev pub packet_numbers : List ℕ → ℕ → ℕ → Box → PacketSent → List ℕ
+packet_numbers seats i s b (Ok None) = seats
+packet_numbers seats i s b (Ok (Some found)) = seat_written seats i s b
+packet_numbers seats i s b (Err x) = seats
 
 abbrev pub LogsInSeat : Relay → List ℕ → ℕ → ℕ → List ℕ → List ℕ → List ℕ → LoggedIn → List ℕ → List ℕ → Type 0
 LogsInSeat b seats i series packet content out r after_seats after =
@@ -104,7 +96,7 @@ LogsInSeat b seats i series packet content out r after_seats after =
     × (after_seats ≡ login_numbers seats i series meant.end r)
     × (after ≡ meant.bytes)
 
-abbrev pub SendsSeat : Relay → List ℕ → ℕ → ℕ → List ℕ → List ℕ → Sent → List ℕ → List ℕ → Type 0
+abbrev pub SendsSeat : Relay → List ℕ → ℕ → ℕ → List ℕ → List ℕ → SendAnswer → List ℕ → List ℕ → Type 0
 SendsSeat b seats i series log out r after_seats after =
     let meant = send_seat_of (box_for b seats) i series log out in
     (Whole seats → box_for b after_seats ≡ meant.end)
@@ -112,7 +104,7 @@ SendsSeat b seats i series log out r after_seats after =
     × (after_seats ≡ sent_numbers seats i series meant.end r)
     × (after ≡ meant.bytes)
 
-abbrev pub SendsPacketSeat : Relay → List ℕ → ℕ → ℕ → List ℕ → List ℕ → SentPacket → List ℕ → List ℕ → Type 0
+abbrev pub SendsPacketSeat : Relay → List ℕ → ℕ → ℕ → List ℕ → List ℕ → PacketSent → List ℕ → List ℕ → Type 0
 SendsPacketSeat b seats i series log out r after_seats after =
     let meant = send_packet_seat_of (box_for b seats) i series log out in
     (Whole seats → box_for b after_seats ≡ meant.end)

@@ -5,11 +5,9 @@
 use Rattle.std.specs.Prelude.{ℕ, ◌≡◌, List, [], Bool, true, false, ◌||◌, set, leb}
 use Rattle.ftd.specs.Runs.{run_of}
 use Rattle.ftd.specs.Chain.Laws.{packet_form}
-use Rattle.flow.specs.declared.sender.LoggedIn.{LoggedIn}
-use Rattle.flow.specs.declared.sender.Sent.{Sent}
-use Rattle.flow.specs.declared.sender.SentPacket.{SentPacket}
+use Rattle.flow.specs.Types.{LoggedIn}
 use Rattle.flow.specs.declared.receiver.Receiver.{Receiver}
-use Rattle.flow.specs.declared.receiver.Requested.{Requested}
+use Rattle.flow.specs.Types.{Requested}
 use Rattle.flow.specs.Ends.{index_of, is_open, live_of, kept_series, logged_in}
 use Rattle.flow.specs.Answers.{refused, is_taken, message_in, opened_said, requested_said, confirmed_said, received_said}
 use Rattle.flow.specs.Answers.{login_said, sent_said, sent_packet_said}
@@ -26,6 +24,7 @@ use Rattle.relay.specs.Seats.{standing, after, shows}
 use Rattle.relay.specs.Calls.{Shaped, any, is_receiving, borne, end_says, OnlyChain}
 use Rattle.relay.specs.Promises.{OpensBox, AsksBox, ConfirmsBox, ReceivesBox, LogsInSeat, SendsSeat, SendsPacketSeat}
 use Rattle.relay.specs.Bufferful.{logged, relaying, receive_several_box_of}
+use Rattle.flow.specs.Types.{SendAnswer, PacketSent}
 
 -- ─── The output that a call is lent ───
 
@@ -112,9 +111,9 @@ pub record RefusalsLeave : Type 0 where
   pub login-code : (b : Relay) (seats : List ℕ) (i s : ℕ) (p content out : List ℕ) (r : LoggedIn)
       (later_seats later : List ℕ) → LogsInSeat b seats i s p content out r later_seats later
       → is_taken (login_said r) ≡ false → (later_seats ≡ seats) × (later ≡ out)
-  pub send-code : (b : Relay) (seats : List ℕ) (i s : ℕ) (log out : List ℕ) (r : Sent) (later_seats later : List ℕ)
+  pub send-code : (b : Relay) (seats : List ℕ) (i s : ℕ) (log out : List ℕ) (r : SendAnswer) (later_seats later : List ℕ)
       → SendsSeat b seats i s log out r later_seats later
       → is_taken (sent_said r) ≡ false → (later_seats ≡ seats) × (later ≡ out)
-  pub send-packet-code : (b : Relay) (seats : List ℕ) (i s : ℕ) (log out : List ℕ) (r : SentPacket)
+  pub send-packet-code : (b : Relay) (seats : List ℕ) (i s : ℕ) (log out : List ℕ) (r : PacketSent)
       (later_seats later : List ℕ) → SendsPacketSeat b seats i s log out r later_seats later
       → is_taken (sent_packet_said r) ≡ false → (later_seats ≡ seats) × (later ≡ out)

@@ -5,7 +5,6 @@
 use Rattle.std.specs.Prelude.{ℕ, suc, ◌<◌, ◌≤◌, ◌≡◌, List, [], ◌∷◌, ◌++◌, true, ◌⊎◌, length, take}
 use Rattle.std.proofs.Math.Option.{some}
 use Rattle.std.proofs.Math.ListN.{get_elem?}
-use Rattle.ftd.specs.declared.tags.TradeDate.TheVariants.{At}
 use Rattle.ftd.specs.declared.refusal.Refusal.TheVariants.{DamagedLog}
 use Rattle.flow.specs.declared.order.Order.{Order}
 use Rattle.flow.specs.declared.order.Order.TheVariants.{Same, FirstStarts, SecondStarts, Refused}
@@ -22,6 +21,7 @@ use Rattle.relay.specs.Agreement.{needed, ran}
 use Rattle.relay.specs.Row.{RowWorld, LentNode, LentRow, start_row, RowEvent, row_step, row_run, line_at, last_line}
 use Rattle.relay.specs.Row.{refused_in, reserves_in, asked_at, last_returns, at_box, at_last, RowBox, NodeCall}
 use Rattle.relay.specs.Row.{node_step}
+use Rattle.std.specs.Prelude.{Some}
 
 -- The row after a list of events, refused ones included.
 abbrev pub ran_row : LentRow → List RowEvent → RowWorld
@@ -90,7 +90,7 @@ node_at w k = (line_at w k).serving
 
 -- Day d is open there, and series s in it.
 abbrev pub OpenAt : SenderSide → ℕ → ℕ → Type 0
-OpenAt v s d = (v.end.day.date ≡ At d) × (is_served v.end s ≡ true)
+OpenAt v s d = (v.end.day.date ≡ Some d) × (is_served v.end s ≡ true)
 
 -- The order of two, each with its own log.
 abbrev pub order_at : ℕ → SenderSide → SenderSide → Order
@@ -133,22 +133,22 @@ pub record RowAgreement : Type 0 where
   -- Days never run ahead: from line to line, and so against the exchange's.
   pub days : (l : LentRow) (es : List RowEvent) (k d : ℕ) →
       let w = ran_row l es in
-      (line_at w (suc k)).serving.day ≡ At d → up_to d (line_at w k).serving.day ≡ true
+      (line_at w (suc k)).serving.day ≡ Some d → up_to d (line_at w k).serving.day ≡ true
   pub days-exchange : (l : LentRow) (es : List RowEvent) (k d : ℕ) →
       let w = ran_row l es in
-      (line_at w k).serving.day ≡ At d → up_to d w.exchange.day ≡ true
+      (line_at w k).serving.day ≡ Some d → up_to d w.exchange.day ≡ true
   -- Second half. With these conditions the exchange's day is open at every box between (so it needs not be asked for);
   pub one-day : (l : LentRow) (es : List RowEvent) (n s d : ℕ) → CaughtUpTo l es n s →
       let w = ran_row l es in
-      w.exchange.day ≡ At d → (k : ℕ) → k ≤ suc n → (line_at w k).serving.day ≡ At d
+      w.exchange.day ≡ Some d → (k : ℕ) → k ≤ suc n → (line_at w k).serving.day ≡ Some d
   -- and a node's list is the whole;
   pub complete : (l : LentRow) (es : List RowEvent) (n s d : ℕ) → CaughtUpTo l es n s →
       let w = ran_row l es in
-      w.exchange.day ≡ At d → handed_on (line_at w n) s d ≡ exchanged w s d
+      w.exchange.day ≡ Some d → handed_on (line_at w n) s d ≡ exchanged w s d
   -- at the last end.
   pub row-complete : (l : LentRow) (es : List RowEvent) (s d : ℕ) → CaughtUpTo l es (length l.boxes) s →
       let w = ran_row l es in
-      w.exchange.day ≡ At d → handed_on (last_line w) s d ≡ exchanged w s d
+      w.exchange.day ≡ Some d → handed_on (last_line w) s d ≡ exchanged w s d
   -- A log of this length takes each message of the day, and its opening: what the box's series take of what the node
   -- above published of that day.
   pub log-enough : (l : LentRow) (es fs : List RowEvent) (k s d : ℕ) (b : LentNode)

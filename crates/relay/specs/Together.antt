@@ -2,13 +2,13 @@
 -- the calls of both mixed: what `above-complete` and `below-complete` ask can be met together.
 use Rattle.std.specs.Prelude.{◌≡◌, List, [], ◌∷◌, ◌++◌}
 use Rattle.ftd.specs.Login.{login_bytes}
-use Rattle.ftd.specs.declared.tags.TradeDate.TheVariants.{At}
 use Rattle.flow.specs.Bench.{req_login, rsp_login, tid, note, space}
 use Rattle.flow.specs.Agreement.{CaughtUp}
 use Rattle.relay.specs.World.{Lent, BoxWorld, above, below, BoxEvent, open_exchange, publish_exchange, login_exchange}
 use Rattle.relay.specs.World.{send_exchange, open_box, ask_box, answer_box, receive_box, login_seat, send_seat}
 use Rattle.relay.specs.World.{send_packet_seat, open_end, ask_end, answer_end, receive_end, box_step, box_run}
 use Rattle.relay.specs.Agreement.{ran, LogTakes}
+use Rattle.std.specs.Prelude.{Some}
 
 -- Logs of 100 bytes; chain buffers with the one part that one series needs.
 abbrev pub lends : Lent
@@ -56,6 +56,6 @@ at_end = box_run behind_below finishing
 pub record Together : Type 0 where
   pub whole : box_run behind_above (relaying ++ (login_below ∷ finishing)) ≡ at_end
   pub seat : ran lends (asking ++ (login_above ∷ relaying)) ≡ before_below
-  pub on-above : CaughtUp (above before_above) (above behind_above) (above at_end) 1 7 (login_bytes (At 7) rsp_login) []
+  pub on-above : CaughtUp (above before_above) (above behind_above) (above at_end) 1 7 (login_bytes (Some 7) rsp_login) []
   pub log-takes : LogTakes behind_above.node at_end.node 1 7
-  pub on_below : CaughtUp (below before_below 0) (below behind_below 0) (below at_end 0) 1 7 (login_bytes (At 7) rsp_login) []
+  pub on_below : CaughtUp (below before_below 0) (below behind_below 0) (below at_end 0) 1 7 (login_bytes (Some 7) rsp_login) []

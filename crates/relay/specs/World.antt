@@ -9,7 +9,7 @@ use Rattle.ftd.specs.Packet.{dated_of}
 use Rattle.ftd.specs.declared.refusal.Refusal.{Refusal}
 use Rattle.flow.specs.declared.sender.Day.{Day}
 use Rattle.flow.specs.declared.sender.Seat.{Seat}
-use Rattle.flow.specs.declared.receiver.Confirmed.{Confirmed}
+use Rattle.flow.specs.Types.{Confirmed}
 use Rattle.flow.specs.Ends.{Left, left, wrote, fresh_sender, kept_of}
 use Rattle.flow.specs.Answers.{Message}
 use Rattle.flow.specs.Serving.{open_day_of, publish_of, login_of, send_of, send_packet_of}

@@ -43,10 +43,7 @@ pub(crate) fn seat_at(numbers: &[u64; 384], at: usize) -> Seat
 fn flag_of(b: bool) -> u64
     ensures { result ≡ flag_of b }
 {
-    if b {
-        return 1;
-    }
-    0
+    if b { 1 } else { 0 }
 }
 
 // One place is written; every other number stays.

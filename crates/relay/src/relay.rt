@@ -17,18 +17,13 @@ ghost use Rattle.relay.specs.Helpers.{handed_content, Hands};
 use crate::places::{clear, put_place, seat_at};
 use flow::days::{before, is_up_to};
 use flow::order::{Order, order_of};
-use flow::receiver::{
-    Confirmed, Decision, Origin, Received, Receiver, Requested, Target, copy_piece,
-};
-use flow::sender::{
-    Day, LoggedIn, Opened, Place, PublishStep, Published, Seat, Sender, Sent, SentPacket,
-};
-use flow::series::SeriesPlace;
+use flow::receiver::{Decision, Origin, Received, Receiver, copy_piece};
+use flow::sender::{Day, Place, PublishStep, Seat, Sender, Sent, SentPacket};
 use ftd::packet::{Span, read_dated};
 use ftd::refusal::{Refusal, number};
-use ftd::tags::TradeDate;
 
 // The box: the receiving end towards above with the reserves of its series (02, No. 11), and the day below.
+// Stays: the reserves beside the end, not in its places: the receiving end (specs/Ends) has none, and Box takes both.
 #[derive(Clone, Copy)]
 pub struct Relay {
     pub receiver: Receiver,
@@ -40,13 +35,13 @@ pub struct Relay {
 #[derive(Clone, Copy)]
 pub struct OpenStep {
     pub end: Relay,
-    pub answer: Opened,
+    pub answer: Result<(), Refusal>,
 }
 
 #[derive(Clone, Copy)]
 pub struct ConfirmStep {
     pub end: Relay,
-    pub answer: Confirmed,
+    pub answer: Result<u32, Refusal>,
 }
 
 #[derive(Clone, Copy)]
@@ -61,70 +56,38 @@ fn all_reserves(reserves: &[usize]) -> [usize; 8]
     ensures { result ≡ filled 0 reserves.now }
 {
     let mut all = [0; 8];
-    let mut i: usize = 0;
-    while i < reserves.len() {
-        all[i] = reserves[i];
-        i += 1;
-    }
+    all[..reserves.len()].copy_from_slice(reserves);
     all
 }
 
-// A seat that has nothing.
-fn no_seat() -> Seat
-    ensures { result ≡ no_seat }
-{
-    Seat {
-        places: [Place {
-            login: false,
-            next: 0,
-            piece: 0,
-        }; 8],
-    }
-}
-
 // Answer: the receiving end came past its row 15.
-fn confirm_past(answer: Confirmed) -> bool
+fn confirm_past(answer: Result<u32, Refusal>) -> bool
     ensures { result ≡ confirm_past answer }
 {
     match answer {
-        Confirmed::Last(_) => true,
-        Confirmed::Refused(r) => 15 < number(r),
+        Ok(_) => true,
+        Err(r) => 15 < number(r),
     }
 }
 
 // Answer: 15 for a trade date before the day open below.
-fn is_late(answer: Confirmed, date: TradeDate, today: TradeDate) -> bool
+fn is_late(answer: Result<u32, Refusal>, date: Option<u32>, today: Option<u32>) -> bool
     ensures { result ≡ late_answer answer date today }
 {
-    if confirm_past(answer) {
-        return before(date, today);
-    }
-    false
+    confirm_past(answer) && before(date, today)
 }
 
 // The open series of a receiving end, as an array, and how many they are.
 fn series_names(e: Receiver) -> [u16; 8]
     ensures { result ≡ map (λ (x : KeptSeries). x.series) e.kept.series }
 {
-    let kept = e.kept;
-    let mut all: [u16; 8] = [0; 8];
-    let mut i: usize = 0;
-    while i < 8 {
-        let one = kept.series[i];
-        all[i] = one.series;
-        i += 1;
-    }
-    all
+    e.kept.series.map(|one| one.series)
 }
 
 fn series_count(e: Receiver) -> usize
     ensures { (result ≡ length (kept_series e)) × (result ≤ 8) }
 {
-    let kept = e.kept;
-    if kept.count < 8 {
-        return kept.count;
-    }
-    8
+    e.kept.count.min(8)
 }
 
 // What a seat's call left of its place in a series is written; every other number stays.
@@ -132,13 +95,8 @@ fn keep_place(places: &mut [u64; 384], seat: usize, series: u16, end: Sender)
     requires { seat < 16 }
     ensures { places.new ≡ kept_at places.old seat series end }
 {
-    match end.find(series) {
-        SeriesPlace::Unknown => {}
-        SeriesPlace::At(i) => {
-            let own = end.seat;
-            let place = own.places[i];
-            put_place(places, seat, i, place);
-        }
+    if let Some(i) = end.find(series) {
+        put_place(places, seat, i, end.seat.places[i]);
     }
 }
 
@@ -150,12 +108,10 @@ impl Relay {
     pub fn fresh() -> Relay
         ensures { IsFresh result }
     {
-        let below = Sender::fresh();
-        let day = below.day;
         Relay {
             receiver: Receiver::fresh(),
             reserves: [0; 8],
-            day: day,
+            day: Sender::fresh().day,
         }
     }
 
@@ -163,12 +119,9 @@ impl Relay {
     fn with_receiver(self, end: Receiver) -> Relay
         ensures { result ≡ record { receiver = end; reserves = self.reserves; day = self.day } }
     {
-        let reserves = self.reserves;
-        let day = self.day;
         Relay {
             receiver: end,
-            reserves: reserves,
-            day: day,
+            ..self
         }
     }
 
@@ -176,10 +129,9 @@ impl Relay {
     fn server(self, seat: Seat) -> Sender
         ensures { result ≡ server_of self.day seat }
     {
-        let day = self.day;
         Sender {
-            day: day,
-            seat: seat,
+            day: self.day,
+            seat,
         }
     }
 
@@ -191,27 +143,23 @@ impl Relay {
         if reserves.len() != series.len() {
             return OpenStep {
                 end: self,
-                answer: Opened::Refused(Refusal::Opening),
+                answer: Err(Refusal::Opening),
             };
         }
-        let receiver = self.receiver;
-        let day = self.day;
-        let step = receiver.open(series);
-        let end = step.end;
-        let answer = step.answer;
-        match answer {
-            Opened::Done => OpenStep {
-                end: Relay {
-                    receiver: end,
-                    reserves: all_reserves(reserves),
-                    day: day,
-                },
-                answer: Opened::Done,
+        let step = self.receiver.open(series);
+        if let Err(r) = step.answer {
+            return OpenStep {
+                end: self.with_receiver(step.end),
+                answer: Err(r),
+            };
+        }
+        OpenStep {
+            end: Relay {
+                receiver: step.end,
+                reserves: all_reserves(reserves),
+                day: self.day,
             },
-            Opened::Refused(r) => OpenStep {
-                end: self.with_receiver(end),
-                answer: Opened::Refused(r),
-            },
+            answer: Ok(()),
         }
     }
 
@@ -219,16 +167,19 @@ impl Relay {
     pub fn connect(self) -> Relay
         ensures { ConnectsBox self result }
     {
-        let receiver = self.receiver;
-        self.with_receiver(receiver.connect())
+        self.with_receiver(self.receiver.connect())
     }
 
     // Ask: the receiving end's. The box stays.
-    pub fn request_login(self, series: u16, content: &[u8], out: &mut [u8]) -> Requested
+    pub fn request_login(
+        self,
+        series: u16,
+        content: &[u8],
+        out: &mut [u8],
+    ) -> Result<usize, Refusal>
         ensures { AsksBox self series content.now out.old result out.new }
     {
-        let receiver = self.receiver;
-        receiver.request_login(series, content, out)
+        self.receiver.request_login(series, content, out)
     }
 
     // An answer that the receiving end took opens its day below: 11, or no seat is logged in.
@@ -244,31 +195,24 @@ impl Relay {
             (opening_by (open_day_of (server_of self.day no_seat) date (kept_series self.receiver)
             (reserves_of self.receiver self.reserves) log.now)) result places.new }
     {
-        let receiver = self.receiver;
-        let reserves = self.reserves;
-        let names = series_names(receiver);
-        let n = series_count(receiver);
-        let server = self.server(no_seat());
-        let step = server.open(date, &names[..n], &reserves[..n], log);
-        let below = step.end;
-        let day = below.day;
-        let answer = step.answer;
-        match answer {
-            Opened::Done => {
-                clear(places);
-                ConfirmStep {
-                    end: Relay {
-                        receiver: end,
-                        reserves: reserves,
-                        day: day,
-                    },
-                    answer: Confirmed::Last(last),
-                }
-            }
-            Opened::Refused(r) => ConfirmStep {
+        let names = series_names(self.receiver);
+        let n = series_count(self.receiver);
+        let server = self.server(Seat::NONE);
+        let step = server.open(date, &names[..n], &self.reserves[..n], log);
+        if let Err(r) = step.answer {
+            return ConfirmStep {
                 end: self,
-                answer: Confirmed::Refused(r),
+                answer: Err(r),
+            };
+        }
+        clear(places);
+        ConfirmStep {
+            end: Relay {
+                receiver: end,
+                day: step.end.day,
+                ..self
             },
+            answer: Ok(last),
         }
     }
 
@@ -277,29 +221,19 @@ impl Relay {
         self,
         end: Receiver,
         last: u32,
-        date: TradeDate,
+        date: Option<u32>,
         log: &[u8],
         places: &mut [u64; 384],
     ) -> ConfirmStep
         ensures { AnsweredBy self places.old end last
             (taken_way self.receiver self.reserves self.day log.now date) result places.new }
     {
-        let day = self.day;
-        let today = day.date;
         match date {
-            TradeDate::None => ConfirmStep {
+            Some(d) if !is_up_to(d, self.day.date) => self.open_below(end, last, d, log, places),
+            _ => ConfirmStep {
                 end: self.with_receiver(end),
-                answer: Confirmed::Last(last),
+                answer: Ok(last),
             },
-            TradeDate::At(d) => {
-                if is_up_to(d, today) {
-                    return ConfirmStep {
-                        end: self.with_receiver(end),
-                        answer: Confirmed::Last(last),
-                    };
-                }
-                self.open_below(end, last, d, log, places)
-            }
         }
     }
 
@@ -315,25 +249,19 @@ impl Relay {
         ensures { ConfirmsBox self places.old series packet.now log.now result
             places.new }
     {
-        let receiver = self.receiver;
-        let day = self.day;
-        let today = day.date;
-        let step = receiver.confirm_login(series, packet);
-        let end = step.end;
-        let answer = step.answer;
-        let d = read_dated(packet);
-        let date = d.date;
-        if is_late(answer, date, today) {
+        let step = self.receiver.confirm_login(series, packet);
+        let date = read_dated(packet).date;
+        if is_late(step.answer, date, self.day.date) {
             return ConfirmStep {
                 end: self,
-                answer: Confirmed::Refused(Refusal::OtherDay),
+                answer: Err(Refusal::OtherDay),
             };
         }
-        match answer {
-            Confirmed::Last(last) => self.confirmed(end, last, date, log, places),
-            Confirmed::Refused(r) => ConfirmStep {
-                end: self.with_receiver(end),
-                answer: Confirmed::Refused(r),
+        match step.answer {
+            Ok(last) => self.confirmed(step.end, last, date, log, places),
+            Err(r) => ConfirmStep {
+                end: self.with_receiver(step.end),
+                answer: Err(r),
             },
         }
     }
@@ -343,21 +271,15 @@ impl Relay {
         requires { d.content.start + d.content.len ≤ length packet.now }
         ensures { KeepsBy self day d packet.now buffer.old result buffer.new }
     {
-        let reserves = self.reserves;
-        let end = d.end;
-        let answer = d.answer;
-        let target = d.target;
-        let span = d.content;
-        let at = span.start;
-        let n = span.len;
-        copy_piece(target, &packet[at..at + n], buffer);
+        let at = d.content.start;
+        copy_piece(d.target, &packet[at..at + d.content.len], buffer);
         ReceiveStep {
             end: Relay {
-                receiver: end,
-                reserves: reserves,
-                day: day,
+                receiver: d.end,
+                day,
+                ..self
             },
-            answer: answer,
+            answer: d.answer,
         }
     }
 
@@ -379,21 +301,14 @@ impl Relay {
             (handed_content d packet.now buffer.now origin all) log.old result
             log.new }
     {
-        let server = self.server(no_seat());
-        let series = d.series;
-        let target = d.target;
-        let span = d.content;
-        let at = span.start;
-        let past = at + span.len;
-        match origin {
-            Origin::Packet => server.publish(series, tid, &packet[at..past], log),
-            Origin::Buffer => match target {
-                Target::Nothing => server.publish(series, tid, &packet[at..past], log),
-                Target::At(held) => {
-                    let start = all.start;
-                    server.publish_parts(series, tid, &buffer[start..held], &packet[at..past], log)
-                }
-            },
+        let server = self.server(Seat::NONE);
+        let at = d.content.start;
+        let piece = &packet[at..at + d.content.len];
+        match (origin, d.target) {
+            (Origin::Buffer, Some(held)) => {
+                server.publish_parts(d.series, tid, &buffer[all.start..held], piece, log)
+            }
+            _ => server.publish(d.series, tid, piece, log),
         }
     }
 
@@ -415,20 +330,13 @@ impl Relay {
             log.new buffer.new }
     {
         let step = self.publish_below(d, tid, origin, all, packet, log, buffer);
-        let below = step.end;
-        let day = below.day;
-        let answer = step.answer;
-        match answer {
-            Published::Number(_) => self.keep(day, d, packet, buffer),
-            Published::Refused(r) => {
-                let receiver = self.receiver;
-                let end = receiver.drop_chain(d.series);
-                ReceiveStep {
-                    end: self.with_receiver(end),
-                    answer: Received::Refused(r),
-                }
-            }
+        if let Err(r) = step.answer {
+            return ReceiveStep {
+                end: self.with_receiver(self.receiver.drop_chain(d.series)),
+                answer: Received::Refused(r),
+            };
         }
+        self.keep(step.end.day, d, packet, buffer)
     }
 
     // Receive: the receiving end's; 15 also for a series whose trade date is before the day open below. A message that is
@@ -438,22 +346,16 @@ impl Relay {
         ensures { ReceivesBox self packet.now log.old buffer.old result
             log.new buffer.new }
     {
-        let receiver = self.receiver;
-        let day = self.day;
-        let today = day.date;
-        let d = receiver.decide(today, packet, buffer);
-        let answer = d.answer;
-        match answer {
+        let d = self.receiver.decide(self.day.date, packet, buffer);
+        match d.answer {
             Received::Complete {
-                last: _,
                 tid,
                 origin,
                 content,
+                ..
             } => self.hand_on(d, tid, origin, content, packet, log, buffer),
-            Received::Idle => self.keep(day, d, packet, buffer),
-            Received::Duplicate(_) => self.keep(day, d, packet, buffer),
-            Received::Partial(_) => self.keep(day, d, packet, buffer),
-            Received::Refused(_) => self.keep(day, d, packet, buffer),
+            Received::Idle | Received::Duplicate(_) | Received::Partial(_) | Received::Refused(_) =>
+                self.keep(self.day, d, packet, buffer),
         }
     }
 
@@ -466,24 +368,19 @@ impl Relay {
         content: &[u8],
         places: &mut [u64; 384],
         out: &mut [u8],
-    ) -> LoggedIn
+    ) -> Result<usize, Refusal>
         ensures { LogsInSeat self places.old seat series packet.now content.now
             out.old result places.new out.new }
     {
         if 15 < seat {
-            return LoggedIn::Refused(Refusal::NoSeat);
+            return Err(Refusal::NoSeat);
         }
         let server = self.server(seat_at(places, 24 * seat));
         let step = server.login(series, packet, content, out);
-        let end = step.end;
-        let answer = step.answer;
-        match answer {
-            LoggedIn::Wrote(n) => {
-                keep_place(places, seat, series, end);
-                LoggedIn::Wrote(n)
-            }
-            LoggedIn::Refused(r) => LoggedIn::Refused(r),
+        if step.answer.is_ok() {
+            keep_place(places, seat, series, step.end);
         }
+        step.answer
     }
 
     // Send of a seat: 25, then the serving end's.
@@ -494,28 +391,19 @@ impl Relay {
         places: &mut [u64; 384],
         log: &[u8],
         out: &mut [u8],
-    ) -> Sent
+    ) -> Result<Option<Sent>, Refusal>
         ensures { SendsSeat self places.old seat series log.now out.old result
             places.new out.new }
     {
         if 15 < seat {
-            return Sent::Refused(Refusal::NoSeat);
+            return Err(Refusal::NoSeat);
         }
         let server = self.server(seat_at(places, 24 * seat));
         let step = server.send(series, log, out);
-        let end = step.end;
-        let answer = step.answer;
-        match answer {
-            Sent::Wrote { number, len } => {
-                keep_place(places, seat, series, end);
-                Sent::Wrote {
-                    number: number,
-                    len: len,
-                }
-            }
-            Sent::Drained => Sent::Drained,
-            Sent::Refused(r) => Sent::Refused(r),
+        if matches!(step.answer, Ok(Some(_))) {
+            keep_place(places, seat, series, step.end);
         }
+        step.answer
     }
 
     // Send of one packet at a seat (02, No. 4).
@@ -526,29 +414,19 @@ impl Relay {
         places: &mut [u64; 384],
         log: &[u8],
         out: &mut [u8],
-    ) -> SentPacket
+    ) -> Result<Option<SentPacket>, Refusal>
         ensures { SendsPacketSeat self places.old seat series log.now out.old result
             places.new out.new }
     {
         if 15 < seat {
-            return SentPacket::Refused(Refusal::NoSeat);
+            return Err(Refusal::NoSeat);
         }
         let server = self.server(seat_at(places, 24 * seat));
         let step = server.send_packet(series, log, out);
-        let end = step.end;
-        let answer = step.answer;
-        match answer {
-            SentPacket::Wrote { number, len, last } => {
-                keep_place(places, seat, series, end);
-                SentPacket::Wrote {
-                    number: number,
-                    len: len,
-                    last: last,
-                }
-            }
-            SentPacket::Drained => SentPacket::Drained,
-            SentPacket::Refused(r) => SentPacket::Refused(r),
+        if matches!(step.answer, Ok(Some(_))) {
+            keep_place(places, seat, series, step.end);
         }
+        step.answer
     }
 
     // The order of the box and another serving end, an exchange say, for a series (02, No. 14): of the box its day
@@ -557,7 +435,7 @@ impl Relay {
         ensures { result ≡ order_of series (server_of self.day no_seat) log.now second
             other.now }
     {
-        order_of(series, self.server(no_seat()), log, second, other)
+        order_of(series, self.server(Seat::NONE), log, second, other)
     }
 
     // The order of two boxes for a series.
@@ -565,6 +443,6 @@ impl Relay {
         ensures { result ≡ order_of series (server_of self.day no_seat) log.now
             (server_of second.day no_seat) other.now }
     {
-        self.order_with(series, log, second.server(no_seat()), other)
+        self.order_with(series, log, second.server(Seat::NONE), other)
     }
 }

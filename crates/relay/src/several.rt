@@ -2,7 +2,7 @@
 ghost use Rattle.relay.specs.Bufferful.{ReceivesSeveralBox};
 
 use crate::relay::Relay;
-use flow::several::{ReceiveTurn, ReceivedSeveral, packet_size, packets_rest, receive_turn};
+use flow::several::{ReceivedSeveral, packet_size, packets_rest, receive_turn};
 
 // What the call leaves: the box, its answer, and how many bytes were taken, those of a refused packet among them.
 #[derive(Clone, Copy)]
@@ -29,26 +29,20 @@ impl Relay {
             let n = packet_size(packets, at);
             if n == 0 {
                 return ReceiveSeveralStep {
-                    end: end,
+                    end,
                     answer: packets_rest(&packets[at..]),
                     taken: at,
                 };
             }
             let past = at + n;
             let step = end.receive(&packets[at..past], log, buffer);
-            let next = step.end;
-            let answer = step.answer;
-            end = next;
-            let turn = receive_turn(at, n, answer);
-            match turn {
-                ReceiveTurn::Stop(a) => {
-                    return ReceiveSeveralStep {
-                        end: end,
-                        answer: a,
-                        taken: past,
-                    };
-                }
-                ReceiveTurn::On => {}
+            end = step.end;
+            if let Some(answer) = receive_turn(at, n, step.answer) {
+                return ReceiveSeveralStep {
+                    end,
+                    answer,
+                    taken: past,
+                };
             }
             at = past;
         }

@@ -3,44 +3,29 @@
 // packet by packet also the bytes written, and the place then.
 #![tactic(auto)]
 
-use flow::sender::{Day, DaySeries, Place, Published, Seat, Sender, Sent, SentPacket};
+use flow::sender::{Day, DaySeries, Place, Seat, Sender, Sent, SentPacket};
 use ftd::refusal::number;
-use ftd::tags::TradeDate;
 use std::io;
 
 // A serving end on day 7 with series 1: so many published, so many bytes of the log used, a seat with a number next, of
 // which so many packets were written one by one.
 fn end_at(published: u32, used: usize, login: bool, next: u64, piece: usize) -> Sender {
-    let mut series = [DaySeries {
-        series: 0,
-        published: 0,
-        reserve: 0,
-        used: 0,
-    }; 8];
+    let mut series = [DaySeries::new(0, 0); 8];
     series[0] = DaySeries {
-        series: 1,
-        published: published,
-        reserve: 0,
-        used: used,
+        published,
+        used,
+        ..DaySeries::new(1, 0)
     };
-    let mut places = [Place {
-        login: false,
-        next: 0,
-        piece: 0,
-    }; 8];
-    places[0] = Place {
-        login: login,
-        next: next,
-        piece: piece,
-    };
+    let mut seat = Seat::NONE;
+    seat.places[0] = Place { login, next, piece };
     Sender {
         day: Day {
-            date: TradeDate::At(7),
+            date: Some(7),
             count: 1,
-            series: series,
-            used: used,
+            series,
+            used,
         },
-        seat: Seat { places: places },
+        seat,
     }
 }
 
@@ -70,11 +55,10 @@ fn send(rt: &impl Print, what: &[u8], e: Sender, log: &[u8], room: bool) -> io::
     } else {
         e.send(1, log, &mut none)
     };
-    let answer = step.answer;
-    let said = match answer {
-        Sent::Drained => 0,
-        Sent::Wrote { number: _, len: _ } => 99,
-        Sent::Refused(r) => number(r),
+    let said = match step.answer {
+        Ok(None) => 0,
+        Ok(Some(_)) => 99,
+        Err(r) => number(r),
     };
     rt.write_all(what)?;
     print_number(rt, said)
@@ -83,10 +67,9 @@ fn send(rt: &impl Print, what: &[u8], e: Sender, log: &[u8], room: bool) -> io::
 // Publish of a message without fields (TID 0x2004): 99 for a number, else the refusal.
 fn publish(rt: &impl Print, what: &[u8], e: Sender, series: u16, log: &mut [u8]) -> io::Result<()> {
     let step = e.publish(series, 0x2004, b"", log);
-    let answer = step.answer;
-    let said = match answer {
-        Published::Number(_) => 99,
-        Published::Refused(r) => number(r),
+    let said = match step.answer {
+        Ok(_) => 99,
+        Err(r) => number(r),
     };
     rt.write_all(what)?;
     print_number(rt, said)
@@ -100,42 +83,40 @@ const NONZERO: [u8; 16] = [0, 1, 0, 1, 0, 0, 0x20, 4, 0, 0, 0, 1, 0, 0, 0, 0];
 
 // The used part against the log and its entry.
 fn used_parts(rt: &impl Print) -> io::Result<()> {
-    let log = GOOD;
-    send(rt, b"nothing wrong ", end_with(1, 16, true, 1), &log, true)?;
+    send(rt, b"nothing wrong ", end_with(1, 16, true, 1), &GOOD, true)?;
     send(
         rt,
         b"the log is shorter than its used part ",
         end_with(1, 17, true, 1),
-        &log,
+        &GOOD,
         true,
     )?;
     send(
         rt,
         b"the used part ends within the entry ",
         end_with(1, 15, true, 1),
-        &log,
+        &GOOD,
         true,
     )?;
     send(
         rt,
         b"no entry is used ",
         end_with(1, 0, true, 1),
-        &log,
+        &GOOD,
         true,
     )?;
     send(
         rt,
         b"the entry wanted is not there ",
         end_with(2, 16, true, 2),
-        &log,
+        &GOOD,
         true,
     )?;
-    send(rt, b"a next of 0 ", end_with(1, 16, true, 0), &log, true)
+    send(rt, b"a next of 0 ", end_with(1, 16, true, 0), &GOOD, true)
 }
 
 // The entry with one place wrong.
 fn entries(rt: &impl Print) -> io::Result<()> {
-    let zero = NONZERO;
     let series = [0u8, 2, 0, 0, 0, 0, 0x20, 4, 0, 0, 0, 1, 0, 0, 0, 0];
     let second = [0u8, 1, 0, 0, 0, 0, 0x20, 4, 0, 0, 0, 2, 0, 0, 0, 0];
     let long = [0u8, 1, 0, 0, 0, 0, 0x20, 4, 0, 0, 0, 1, 0, 0, 0, 1];
@@ -151,7 +132,7 @@ fn entries(rt: &impl Print) -> io::Result<()> {
         rt,
         b"zero bytes that are not zero ",
         end_with(1, 16, true, 1),
-        &zero,
+        &NONZERO,
         true,
     )?;
     send(
@@ -179,34 +160,32 @@ fn entries(rt: &impl Print) -> io::Result<()> {
 
 // Two things wrong, of which one comes first.
 fn orders(rt: &impl Print) -> io::Result<()> {
-    let good = GOOD;
-    let zero = NONZERO;
     send(
         rt,
         b"the output is too small ",
         end_with(1, 16, true, 1),
-        &good,
+        &GOOD,
         false,
     )?;
     send(
         rt,
         b"zero bytes not zero, the output too small ",
         end_with(1, 16, true, 1),
-        &zero,
+        &NONZERO,
         false,
     )?;
     send(
         rt,
         b"zero bytes not zero, none left ",
         end_with(1, 16, true, 2),
-        &zero,
+        &NONZERO,
         true,
     )?;
     send(
         rt,
         b"zero bytes not zero, not logged in ",
         end_with(1, 16, false, 1),
-        &zero,
+        &NONZERO,
         true,
     )
 }
@@ -266,8 +245,7 @@ fn print_place(
     bytes: usize,
     end: Sender,
 ) -> io::Result<()> {
-    let seat = end.seat;
-    let place = seat.places[0];
+    let place = end.seat.places[0];
     rt.write_all(what)?;
     print_two(rt, said)?;
     rt.write_all(b" ")?;
@@ -289,18 +267,12 @@ fn packet(
     out: &mut [u8],
 ) -> io::Result<Sender> {
     let step = e.send_packet(1, log, out);
-    let end = step.end;
-    let answer = step.answer;
-    match answer {
-        SentPacket::Drained => print_place(rt, what, 0, 0, end)?,
-        SentPacket::Wrote {
-            number: _,
-            len,
-            last: _,
-        } => print_place(rt, what, 99, len, end)?,
-        SentPacket::Refused(r) => print_place(rt, what, number(r), 0, end)?,
+    match step.answer {
+        Ok(None) => print_place(rt, what, 0, 0, step.end)?,
+        Ok(Some(SentPacket { len, .. })) => print_place(rt, what, 99, len, step.end)?,
+        Err(r) => print_place(rt, what, number(r), 0, step.end)?,
     }
-    Ok(end)
+    Ok(step.end)
 }
 
 // The same with an output of 2,071 bytes, of 2,070, and of none.
@@ -323,12 +295,10 @@ fn with_none(rt: &impl Print, what: &[u8], e: Sender, log: &[u8; 4097]) -> io::R
 fn whole(rt: &impl Print, what: &[u8], e: Sender, log: &[u8; 4097]) -> io::Result<()> {
     let mut out = [0u8; 4141];
     let step = e.send(1, log, &mut out);
-    let end = step.end;
-    let answer = step.answer;
-    match answer {
-        Sent::Drained => print_place(rt, what, 0, 0, end),
-        Sent::Wrote { number: _, len } => print_place(rt, what, 99, len, end),
-        Sent::Refused(r) => print_place(rt, what, number(r), 0, end),
+    match step.answer {
+        Ok(None) => print_place(rt, what, 0, 0, step.end),
+        Ok(Some(Sent { len, .. })) => print_place(rt, what, 99, len, step.end),
+        Err(r) => print_place(rt, what, number(r), 0, step.end),
     }
 }
 
@@ -391,12 +361,9 @@ fn both_packets(rt: &impl Print, log: &[u8; 4097]) -> io::Result<Sender> {
 
 // Between them a log damaged or altered: the place stays.
 fn between_packets(rt: &impl Print, e: Sender) -> io::Result<()> {
-    let wrong = damaged();
-    with_2071(rt, b"the log damaged between them ", e, &wrong)?;
-    let short = cut_off();
-    with_2071(rt, b"the log without the second field ", e, &short)?;
-    let other = other_bytes();
-    with_2071(rt, b"other content of whole fields ", e, &other)?;
+    with_2071(rt, b"the log damaged between them ", e, &damaged())?;
+    with_2071(rt, b"the log without the second field ", e, &cut_off())?;
+    with_2071(rt, b"other content of whole fields ", e, &other_bytes())?;
     Ok(())
 }
 
@@ -409,7 +376,7 @@ fn strange_pieces(rt: &impl Print, log: &[u8; 4097]) -> io::Result<()> {
     with_2071(
         rt,
         b"as many packets written as can be ",
-        end_at(1, 4097, true, 1, 18446744073709551615),
+        end_at(1, 4097, true, 1, usize::MAX),
         log,
     )?;
     with_2071(
@@ -450,8 +417,7 @@ fn packets(rt: &impl Print) -> io::Result<()> {
     let e = both_packets(rt, &log)?;
     between_packets(rt, e)?;
     strange_pieces(rt, &log)?;
-    let wrong = damaged();
-    packet_orders(rt, &wrong)
+    packet_orders(rt, &damaged())
 }
 
 fn main(rt: HostRuntime) -> io::Result<()> {

@@ -8,15 +8,12 @@ use lib.IntN.{ℤ, pos}
 use Rattle.ftd.specs.Fields.{most_content}
 use Rattle.ftd.specs.Content.{content_check}
 use Rattle.ftd.specs.declared.composition.Direction.TheVariants.{Down}
-use Rattle.ftd.specs.declared.items.Checked.{Checked}
-use Rattle.ftd.specs.declared.items.Checked.TheVariants.{Passed}
-use Rattle.ftd.specs.declared.items.Checked.TheVariants.{Refused as Unfit}
+use Rattle.ftd.specs.Types.{Checked}
 use Rattle.book.specs.declared.levels.Level.{Level}
 use Rattle.book.specs.declared.event.Event.{Event}
 use Rattle.book.specs.declared.calls.Book.{Book}
 use Rattle.book.specs.declared.calls.Step.{Step}
-use Rattle.book.specs.declared.calls.Outcome.{Outcome}
-use Rattle.book.specs.declared.calls.Outcome.TheVariants.{Done, Refused}
+use Rattle.book.specs.Types.{Outcome}
 use Rattle.book.specs.Levels.{empty, same_price, no_levels}
 use Rattle.book.specs.Sums.{beyond}
 use Rattle.book.specs.Calls.{is_code, started, start_of, applied, go_on, walked, events_of, or_kept}
@@ -24,6 +21,7 @@ use Rattle.book.specs.Calls.{take_of}
 use Rattle.book.specs.Agreement.{Call, start, take, World, list_after, made, after}
 use Rattle.book.proofs.agreement.Ranked.{Behind, Ranked, look}
 use Rattle.book.proofs.agreement.Events.{SideHolds, Holds, applied-holds, not_done}
+use Rattle.std.specs.Prelude.{Ok, Err}
 
 -- ─── Started ───
 
@@ -63,19 +61,19 @@ started-holds code = record {
 
 -- ─── Taken ───
 
-pub walked-holds : (new : List Event) (b : Book) (es : List Event) → Holds b es → (walked b new).answer ≡ Done
+pub walked-holds : (new : List Event) (b : Book) (es : List Event) → Holds b es → (walked b new).answer ≡ (Ok tt)
     → Holds (walked b new).book (es ++ new)
 walked-holds [] b es h a = rw (append-nil es) h
 walked-holds (e ∷ new) b es h a =
     go (walked-holds new (applied b e).book (es ++ (e ∷ []))) (applied b e).answer refl a
   where
-    go : (Holds (applied b e).book (es ++ (e ∷ [])) → (walked (applied b e).book new).answer ≡ Done
+    go : (Holds (applied b e).book (es ++ (e ∷ [])) → (walked (applied b e).book new).answer ≡ (Ok tt)
         → Holds (walked (applied b e).book new).book ((es ++ (e ∷ [])) ++ new))
         → (w : Outcome) → (applied b e).answer ≡ w
-        → (go_on w (applied b e) (walked (applied b e).book new)).answer ≡ Done
+        → (go_on w (applied b e) (walked (applied b e).book new)).answer ≡ (Ok tt)
         → Holds (go_on (applied b e).answer (applied b e) (walked (applied b e).book new)).book (es ++ (e ∷ new))
-    go rest Done f q = rw f (rw append_assoc at (rest (applied-holds b es e h f) q))
-    go rest (Refused r) f q = absurd (not_done r (sym f ∙ q))
+    go rest (Ok tt) f q = rw f (rw append_assoc at (rest (applied-holds b es e h f) q))
+    go rest (Err r) f q = absurd (not_done r (sym f ∙ q))
 
 module _ (w : World) (h : Holds w.book w.taken) where
   start-holds : (code : List ℕ) → Holds (made w (start code)).book (made w (start code)).taken
@@ -86,10 +84,10 @@ module _ (w : World) (h : Holds w.book w.taken) where
       go true e = rw e (started-holds code)
       go false e = rw e h
 
-  kept : (s : Step) (new : List Event) (a : Outcome) → s.answer ≡ a → (s.answer ≡ Done → Holds s.book new)
+  kept : (s : Step) (new : List Event) (a : Outcome) → s.answer ≡ a → (s.answer ≡ (Ok tt) → Holds s.book new)
       → Holds (or_kept w.book a s).book (list_after (or_kept w.book a s).answer new w.taken)
-  kept s new Done e f = rw e (f e)
-  kept s new (Refused r) e f = h
+  kept s new (Ok tt) e f = rw e (f e)
+  kept s new (Err r) e f = h
 
   take-holds : (tid : ℕ) (content : List ℕ)
       → Holds (made w (take tid content)).book (made w (take tid content)).taken
@@ -98,12 +96,12 @@ module _ (w : World) (h : Holds w.book w.taken) where
     where
       go : (k : Checked) → content_check tid Down content most_content ≡ k
           → Holds (made w (take tid content)).book (made w (take tid content)).taken
-      go Passed e =
+      go (Ok tt) e =
           rw e
           (kept (walked w.book (events_of w.book.code tid content)) (w.taken ++ events_of w.book.code tid content)
           (walked w.book (events_of w.book.code tid content)).answer refl
           (walked-holds (events_of w.book.code tid content) w.book w.taken h))
-      go (Unfit r) e = rw e h
+      go (Err r) e = rw e h
 
   pub made_holds : (c : Call) → Holds (made w c).book (made w c).taken
   made_holds (start code) = start-holds code

@@ -13,18 +13,14 @@ use Rattle.ftd.specs.declared.refusal.Refusal.{Refusal}
 use Rattle.ftd.specs.declared.refusal.Refusal.TheVariants.{Quantity, Levels, Volume}
 use Rattle.book.specs.declared.levels.Level.{Level}
 use Rattle.book.specs.declared.levels.Side.{Side}
-use Rattle.book.specs.declared.quantity.Quantity.{Quantity as NewQuantity}
-use Rattle.book.specs.declared.quantity.Quantity.TheVariants.{Wrong, Is}
+use Rattle.book.specs.Types.{Quantity as NewQuantity}
 use Rattle.book.specs.declared.event.Event.{Event}
 use Rattle.book.specs.declared.event.Event.TheVariants.{Nothing, Quotation, Match}
 use Rattle.book.specs.declared.sums.Sums.{Sums}
-use Rattle.book.specs.declared.sums.Total.{Total}
-use Rattle.book.specs.declared.sums.Total.TheVariants.{Beyond, Within}
-use Rattle.book.specs.declared.sums.Totals.{Totals}
-use Rattle.book.specs.declared.sums.Totals.TheVariants.{Over, Both}
+use Rattle.book.specs.Types.{Total}
+use Rattle.book.specs.Types.{Totals}
 use Rattle.book.specs.declared.calls.Book.{Book}
-use Rattle.book.specs.declared.calls.Outcome.{Outcome}
-use Rattle.book.specs.declared.calls.Outcome.TheVariants.{Done, Refused}
+use Rattle.book.specs.Types.{Outcome}
 use Rattle.book.specs.Levels.{empty, used, same_price, quantity_at, put_at, placed, is_full}
 use Rattle.book.specs.Quantity.{twos, in_range, new_of, lacks}
 use Rattle.book.specs.Sums.{beyond, added_to, both_of, summed_with}
@@ -33,8 +29,9 @@ use Rattle.book.specs.Calls.{checked_match, match_on, applied}
 use Rattle.book.specs.Agreement.{same_side, changed, over, quantity_of, more_turnover, more_volume, turnover_of, volume_of}
 use Rattle.book.proofs.agreement.Prices.{same-equal}
 use Rattle.book.proofs.agreement.Ranked.{Ranked, look, place-look, last_free, put-level}
+use Rattle.std.specs.Prelude.{Some, None, Ok, Err}
 
-pub not_done : (r : Refusal) → Refused r ≡ Done → ⊥
+pub not_done : (r : Refusal) → ◌≡◌ {A = Outcome} (Err r) (Ok tt) → ⊥
 not_done r e = let z : ◌≡◌ {A = ℕ} 0 1 = cc in omega arith
 
 -- ─── What holds ───
@@ -99,15 +96,15 @@ side-look s side es h p = place-look s p side.levels h.ranked
 
 -- ─── A quotation ───
 
-in-range : (z : ℤ) (n : ℕ) → in_range z ≡ Is n → z ≡ pos n
+in-range : (z : ℤ) (n : ℕ) → in_range z ≡ Some n → z ≡ pos n
 in-range (pos m) n e = go (leb m 4294967295) e
   where
-    go : (t : Bool) → cond t (Is m) Wrong ≡ Is n → pos m ≡ pos n
+    go : (t : Bool) → cond t (Some m) None ≡ Some n → pos m ≡ pos n
     go true q = cc
     go false q = cc
 in-range (negsuc m) n e = cc
 
-new_is : (absolute : Bool) (old v n : ℕ) → new_of absolute old v ≡ Is n → cond absolute (pos v) (pos old +ℤ twos v) ≡ pos n
+new_is : (absolute : Bool) (old v n : ℕ) → new_of absolute old v ≡ Some n → cond absolute (pos v) (pos old +ℤ twos v) ≡ pos n
 unfolding new_of
 new_is true old v n e = cc
 new_is false old v n e = in-range (pos old +ℤ twos v) n e
@@ -117,7 +114,7 @@ same-side true = refl
 same-side false = refl
 
 module _ (s : Bool) (side : Side) (es : List Event) (h : SideHolds s side es) (absolute : Bool) (o : Level) where
-  module _ (n : ℕ) (w : new_of absolute (quantity_at s o.price side) o.quantity ≡ Is n) where
+  module _ (n : ℕ) (w : new_of absolute (quantity_at s o.price side) o.quantity ≡ Some n) where
     new-quantity : (r : ℤ) → changed s r (pos (look r side.levels)) (Quotation absolute s o)
         ≡ pos (cond (same_price o.price r) n (look r side.levels))
     unfolding changed
@@ -140,28 +137,28 @@ module _ (s : Bool) (side : Side) (es : List Event) (h : SideHolds s side es) (a
         last-free s side.levels 63 h.ranked (rw h.places (omega arith))
         (rw (side-look s side es h o.price, z, ne_eqb n 0 p) at m)
 
-  pub side-quoted : (quote_on side absolute s o).answer ≡ Done
+  pub side-quoted : (quote_on side absolute s o).answer ≡ (Ok tt)
       → SideHolds s (quote_on side absolute s o).side (es ++ (Quotation absolute s o ∷ []))
   unfolding quote_on
   side-quoted d = go (new_of absolute (quantity_at s o.price side) o.quantity) refl d
     where
-      put : (n : ℕ) → new_of absolute (quantity_at s o.price side) o.quantity ≡ Is n → (t : Bool)
+      put : (n : ℕ) → new_of absolute (quantity_at s o.price side) o.quantity ≡ Some n → (t : Bool)
           → one_more side (quantity_at s o.price side) n ≡ t
-          → (quote_with side s o.price (quantity_at s o.price side) (Is n)).answer ≡ Done
-          → SideHolds s (quote_with side s o.price (quantity_at s o.price side) (Is n)).side
+          → (quote_with side s o.price (quantity_at s o.price side) (Some n)).answer ≡ (Ok tt)
+          → SideHolds s (quote_with side s o.price (quantity_at s o.price side) (Some n)).side
           (es ++ (Quotation absolute s o ∷ []))
       put n w true m a = absurd (not_done Levels (rw m at a))
       put n w false m a =
           rw m (side-put s side es h (Quotation absolute s o) o.price n (room n w m) (new-quantity n w))
 
       go : (w : NewQuantity) → new_of absolute (quantity_at s o.price side) o.quantity ≡ w
-          → (quote_with side s o.price (quantity_at s o.price side) w).answer ≡ Done
+          → (quote_with side s o.price (quantity_at s o.price side) w).answer ≡ (Ok tt)
           → SideHolds s
           (quote_with side s o.price (quantity_at s o.price side)
           (new_of absolute (quantity_at s o.price side) o.quantity)).side
           (es ++ (Quotation absolute s o ∷ []))
-      go Wrong w a = absurd (not_done Quantity a)
-      go (Is n) w a = rw w (put n w (one_more side (quantity_at s o.price side) n) refl a)
+      go None w a = absurd (not_done Quantity a)
+      go (Some n) w a = rw w (put n w (one_more side (quantity_at s o.price side) n) refl a)
 
 pub side-other : (s t : Bool) → same_side s t ≡ false → (side : Side) (es : List Event) → SideHolds s side es
     → (absolute : Bool) (o : Level)
@@ -222,11 +219,11 @@ module _ (s : Bool) (side : Side) (es : List Event) (h : SideHolds s side es) (o
           (side-put s side es h (Match o) o.price (quantity_at s o.price side - o.quantity)
           (λ u e. absurd (z (side-look s side es h o.price ∙ e))) (taken-there z))
 
-added_is : (sum x n : ℤ) → added_to sum x ≡ Within n → (n ≡ sum +ℤ x) × (beyond n ≡ false)
+added_is : (sum x n : ℤ) → added_to sum x ≡ Some n → (n ≡ sum +ℤ x) × (beyond n ≡ false)
 unfolding added_to
 added_is sum x n e = go (beyond sum) (beyond (sum +ℤ x)) refl e
   where
-    go : (a b : Bool) → beyond (sum +ℤ x) ≡ b → cond a Beyond (cond b Beyond (Within (sum +ℤ x))) ≡ Within n
+    go : (a b : Bool) → beyond (sum +ℤ x) ≡ b → cond a None (cond b None (Some (sum +ℤ x))) ≡ Some n
         → (n ≡ sum +ℤ x) × (beyond n ≡ false)
     go true b w q = absurd (let z : ◌≡◌ {A = ℕ} 0 1 = cc in omega arith)
     go false true w q = absurd (let z : ◌≡◌ {A = ℕ} 0 1 = cc in omega arith)
@@ -234,16 +231,16 @@ added_is sum x n e = go (beyond sum) (beyond (sum +ℤ x)) refl e
         let f : n ≡ sum +ℤ x = cc in
         (f, ap beyond f ∙ w)
 
-both-are : (a b : Total) (n : Sums) → both_of a b ≡ Both n → (a ≡ Within n.turnover) × (b ≡ Within n.volume)
-both-are Beyond b n e = absurd (let z : ◌≡◌ {A = ℕ} 0 1 = cc in omega arith)
-both-are (Within x) Beyond n e = absurd (let z : ◌≡◌ {A = ℕ} 0 1 = cc in omega arith)
-both-are (Within x) (Within y) n e =
+both-are : (a b : Total) (n : Sums) → both_of a b ≡ Some n → (a ≡ Some n.turnover) × (b ≡ Some n.volume)
+both-are None b n e = absurd (let z : ◌≡◌ {A = ℕ} 0 1 = cc in omega arith)
+both-are (Some x) None n e = absurd (let z : ◌≡◌ {A = ℕ} 0 1 = cc in omega arith)
+both-are (Some x) (Some y) n e =
     let q : record { turnover = x; volume = y } ≡ n = cc in
-    (ap (λ (m : Sums). Within m.turnover) q, ap (λ (m : Sums). Within m.volume) q)
+    (ap (λ (m : Sums). Some m.turnover) q, ap (λ (m : Sums). Some m.volume) q)
 
 -- ─── An event ───
 
-check-facts : (b : Book) (o : Level) → match_check b o ≡ Done
+check-facts : (b : Book) (o : Level) → match_check b o ≡ (Ok tt)
     → (lacks (quantity_at true o.price b.buying) o.quantity ≡ false)
     × (lacks (quantity_at false o.price b.selling) o.quantity ≡ false)
 unfolding match_check
@@ -252,18 +249,19 @@ check-facts b o e =
     (lacks (quantity_at false o.price b.selling) o.quantity) e
   where
     go : (x y : Bool)
-        → cond x (Refused Quantity) (cond y (Refused Quantity) (cond (ltb 1000000 o.quantity) (Refused Volume) Done)) ≡ Done
+        → ◌≡◌ {A = Outcome} (cond x (Err Quantity) (cond y (Err Quantity) (cond (ltb 1000000 o.quantity) (Err Volume) (Ok tt))))
+        (Ok tt)
         → (x ≡ false) × (y ≡ false)
     go true y q = absurd (not_done Quantity q)
     go false true q = absurd (not_done Quantity q)
     go false false q = (refl, refl)
 
 module _ (b : Book) (es : List Event) (h : Holds b es) (o : Level) where
-  summed-holds : match_check b o ≡ Done → (t : Totals) → summed_with b.sums o ≡ t → (match_with b o t).answer ≡ Done
+  summed-holds : match_check b o ≡ (Ok tt) → (t : Totals) → summed_with b.sums o ≡ t → (match_with b o t).answer ≡ (Ok tt)
       → Holds (match_with b o t).book (es ++ (Match o ∷ []))
   unfolding summed_with more_turnover more_volume
-  summed-holds c Over e a = absurd (not_done Volume a)
-  summed-holds c (Both n) e a =
+  summed-holds c None e a = absurd (not_done Volume a)
+  summed-holds c (Some n) e a =
       let f = check-facts b o c in
       let m = both-are (added_to b.sums.turnover (o.price *ℤ pos o.quantity))
       (added_to b.sums.volume (pos o.quantity)) n e in
@@ -278,16 +276,16 @@ module _ (b : Book) (es : List Event) (h : Holds b es) (o : Level) where
         volume_within = y.1;
       }
 
-  match-holds : (match_on b o).answer ≡ Done → Holds (match_on b o).book (es ++ (Match o ∷ []))
+  match-holds : (match_on b o).answer ≡ (Ok tt) → Holds (match_on b o).book (es ++ (Match o ∷ []))
   unfolding match_on match_summed
   match-holds a = go (match_check b o) refl a
     where
-      go : (w : Outcome) → match_check b o ≡ w → (checked_match w b (match_summed b o)).answer ≡ Done
+      go : (w : Outcome) → match_check b o ≡ w → (checked_match w b (match_summed b o)).answer ≡ (Ok tt)
           → Holds (checked_match (match_check b o) b (match_summed b o)).book (es ++ (Match o ∷ []))
-      go Done e q = rw e (summed-holds e (summed_with b.sums o) refl q)
-      go (Refused r) e q = absurd (not_done r q)
+      go (Ok tt) e q = rw e (summed-holds e (summed_with b.sums o) refl q)
+      go (Err r) e q = absurd (not_done r q)
 
-pub applied-holds : (b : Book) (es : List Event) (e : Event) → Holds b es → (applied b e).answer ≡ Done
+pub applied-holds : (b : Book) (es : List Event) (e : Event) → Holds b es → (applied b e).answer ≡ (Ok tt)
     → Holds (applied b e).book (es ++ (e ∷ []))
 unfolding applied quotation_on changed more_turnover more_volume
 applied-holds b es Nothing h a = record {

@@ -10,7 +10,6 @@ use lib.IntN.{ℤ, pos}
 use lib.Signed.{lt_z}
 use Rattle.book.specs.declared.levels.Level.{Level}
 use Rattle.book.specs.declared.levels.Side.{Side}
-use Rattle.book.specs.declared.levels.Listed.TheVariants.{NoLevel, At}
 use Rattle.book.specs.declared.event.Event.{Event}
 use Rattle.book.specs.declared.calls.Book.{Book}
 use Rattle.book.specs.Levels.{empty, used, better, same_price, level_in}
@@ -21,6 +20,8 @@ use Rattle.book.proofs.agreement.Prices.{same-equal, same_self, better-other}
 use Rattle.book.proofs.agreement.Ranked.{Behind, Ranked, look}
 use Rattle.book.proofs.agreement.Events.{SideHolds, Holds}
 use Rattle.book.proofs.agreement.Calls.{started-holds, after_holds}
+use Rattle.std.specs.Prelude.{None}
+use Rattle.book.specs.Types.{some_level}
 
 -- ─── The places of a ranked list ───
 
@@ -71,14 +72,14 @@ ranked-at s (m ∷ ms) (suc i) (suc j) r h u = ranked-at s ms i j r.1 (omega ari
 -- ─── A side ───
 
 module _ (side : Side) (i : ℕ) where
-  is-listed : (p : ℤ) (n : ℕ) → level_in side i ≡ At p n
+  is-listed : (p : ℤ) (n : ℕ) → level_in side i ≡ some_level p n
       → (used (get_or side.levels i empty) ≡ true) × ((get_or side.levels i empty).price ≡ p)
       × ((get_or side.levels i empty).quantity ≡ n)
   unfolding level_in
   is-listed p n e = go (used (get_or side.levels i empty)) refl e
     where
       go : (u : Bool) → used (get_or side.levels i empty) ≡ u
-          → cond u (At (get_or side.levels i empty).price (get_or side.levels i empty).quantity) NoLevel ≡ At p n
+          → cond u (some_level (get_or side.levels i empty).price (get_or side.levels i empty).quantity) None ≡ some_level p n
           → (used (get_or side.levels i empty) ≡ true) × ((get_or side.levels i empty).price ≡ p)
           × ((get_or side.levels i empty).quantity ≡ n)
       go true u q =
@@ -88,7 +89,7 @@ module _ (side : Side) (i : ℕ) where
       go false u q = absurd (let z : ◌≡◌ {A = ℕ} 0 1 = cc in omega arith)
 
   lists : used (get_or side.levels i empty) ≡ true
-      → level_in side i ≡ At (get_or side.levels i empty).price (get_or side.levels i empty).quantity
+      → level_in side i ≡ some_level (get_or side.levels i empty).price (get_or side.levels i empty).quantity
   unfolding level_in
   lists u = rw u
 
@@ -96,20 +97,20 @@ pos-same : (a b : ℕ) → pos a ≡ pos b → a ≡ b
 pos-same a b e = cc
 
 module _ (s : Bool) (side : Side) (es : List Event) (h : SideHolds s side es) where
-  side-listed : (i : ℕ) (p : ℤ) (n : ℕ) → level_in side i ≡ At p n → (quantity_of es s p ≡ pos n) × (0 < n)
+  side-listed : (i : ℕ) (p : ℤ) (n : ℕ) → level_in side i ≡ some_level p n → (quantity_of es s p ≡ pos n) × (0 < n)
   side-listed i p n e =
       let x = is-listed side i p n e in
       let k : look p side.levels ≡ n = (rw x.1 at (look_at s side.levels i h.ranked x.0)) ∙ x.2 in
       (h.quantities p ∙ ap pos k, rw x.2 at (ltb-true 0 (get_or side.levels i empty).quantity x.0))
 
-  side-all : (p : ℤ) (n : ℕ) → quantity_of es s p ≡ pos n → 0 < n → (i : ℕ) × (level_in side i ≡ At p n)
+  side-all : (p : ℤ) (n : ℕ) → quantity_of es s p ≡ pos n → 0 < n → (i : ℕ) × (level_in side i ≡ some_level p n)
   side-all p n e k =
       let q : look p side.levels ≡ n = pos-same (look p side.levels) n (sym (h.quantities p) ∙ e) in
       let x = look-found p side.levels (rw q k) in
       (x.0, lists side x.0 x.1 ∙ (rw (x.2, x.3, q)))
 
-  side-ordered : (i j : ℕ) (p : ℤ) (n : ℕ) → i < j → level_in side j ≡ At p n
-      → (r : ℤ) × (m : ℕ) × (level_in side i ≡ At r m) × (better s r p ≡ true)
+  side-ordered : (i j : ℕ) (p : ℤ) (n : ℕ) → i < j → level_in side j ≡ some_level p n
+      → (r : ℤ) × (m : ℕ) × (level_in side i ≡ some_level r m) × (better s r p ≡ true)
   side-ordered i j p n k e =
       let x = is-listed side j p n e in
       let y = ranked-at s side.levels i j h.ranked k x.0 in (
@@ -119,20 +120,20 @@ module _ (s : Bool) (side : Side) (es : List Event) (h : SideHolds s side es) wh
         rw x.1 at y.1,
       )
 
-  side-few : (i : ℕ) → 64 ≤ i → level_in side i ≡ NoLevel
+  side-few : (i : ℕ) → 64 ≤ i → level_in side i ≡ None
   side-few i k = sym (level-behind side i (rw h.places k))
 
 -- ─── The book ───
 
 module _ (b : Book) (es : List Event) (h : Holds b es) where
-  book-listed : (buying : Bool) (i : ℕ) (p : ℤ) (n : ℕ) → level_of b buying i ≡ At p n
+  book-listed : (buying : Bool) (i : ℕ) (p : ℤ) (n : ℕ) → level_of b buying i ≡ some_level p n
       → (quantity_of es buying p ≡ pos n) × (0 < n)
   unfolding level_of
   book-listed true = side-listed true b.buying es h.buying
   book-listed false = side-listed false b.selling es h.selling
 
   book-all : (buying : Bool) (p : ℤ) (n : ℕ) → quantity_of es buying p ≡ pos n → 0 < n
-      → (i : ℕ) × (level_of b buying i ≡ At p n)
+      → (i : ℕ) × (level_of b buying i ≡ some_level p n)
   unfolding level_of
   book-all true = side-all true b.buying es h.buying
   book-all false = side-all false b.selling es h.selling
@@ -141,17 +142,17 @@ module _ (b : Book) (es : List Event) (h : Holds b es) where
   book-quantities true p = (look p b.buying.levels, h.buying.quantities p)
   book-quantities false p = (look p b.selling.levels, h.selling.quantities p)
 
-  from-highest : (i j : ℕ) (p : ℤ) (n : ℕ) → i < j → level_of b true j ≡ At p n
-      → (r : ℤ) × (m : ℕ) × (level_of b true i ≡ At r m) × (lt_z p r ≡ true)
+  from-highest : (i j : ℕ) (p : ℤ) (n : ℕ) → i < j → level_of b true j ≡ some_level p n
+      → (r : ℤ) × (m : ℕ) × (level_of b true i ≡ some_level r m) × (lt_z p r ≡ true)
   unfolding level_of better
   from-highest = side-ordered true b.buying es h.buying
 
-  from_lowest : (i j : ℕ) (p : ℤ) (n : ℕ) → i < j → level_of b false j ≡ At p n
-      → (r : ℤ) × (m : ℕ) × (level_of b false i ≡ At r m) × (lt_z r p ≡ true)
+  from_lowest : (i j : ℕ) (p : ℤ) (n : ℕ) → i < j → level_of b false j ≡ some_level p n
+      → (r : ℤ) × (m : ℕ) × (level_of b false i ≡ some_level r m) × (lt_z r p ≡ true)
   unfolding level_of better
   from_lowest = side-ordered false b.selling es h.selling
 
-  book-few : (buying : Bool) (i : ℕ) → 64 ≤ i → level_of b buying i ≡ NoLevel
+  book-few : (buying : Bool) (i : ℕ) → 64 ≤ i → level_of b buying i ≡ None
   unfolding level_of
   book-few true = side-few true b.buying es h.buying
   book-few false = side-few false b.selling es h.selling

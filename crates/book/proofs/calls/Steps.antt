@@ -1,68 +1,58 @@
 -- The steps of the calls, case by case. Assumes nothing.
 use Prim.Native.Nat.{ℕ, ◌-◌, ◌<◌, ◌≤◌}
 use mathlib.Core.Path.{◌≡◌, sym, ◌∙◌}
-use mathlib.Core.List.{List, append-nil}
+use mathlib.Core.List.{List}
 use mathlib.Core.Bool.{Bool, true, false}
 use borrow.Author.Tests.{lt-ltb, le-ltb, eq-eqb, ne_eqb, ltb-false}
-use lib.ListN.{length, get_or, replicate}
+use lib.ListN.{length, get_or}
 use lib.IntN.{ℤ, pos, ◌*ℤ◌}
-use Rattle.ftd.specs.Bytes.{put}
 use Rattle.ftd.specs.Table.{string_kind}
 use Rattle.ftd.specs.Values.{is_value}
 use Rattle.ftd.specs.Fields.{most_content}
 use Rattle.ftd.specs.Content.{content_check}
 use Rattle.ftd.specs.declared.composition.Direction.TheVariants.{Down}
-use Rattle.ftd.specs.declared.items.Checked.{Checked}
-use Rattle.ftd.specs.declared.items.Checked.TheVariants.{Passed}
-use Rattle.ftd.specs.declared.items.Checked.TheVariants.{Refused as Unfit}
+use Rattle.ftd.specs.Types.{Checked}
 use Rattle.ftd.specs.declared.refusal.Refusal.{Refusal}
 use Rattle.ftd.specs.declared.refusal.Refusal.TheVariants.{Item, Quantity, Levels, Volume}
 use Rattle.book.specs.declared.levels.Level.{Level}
 use Rattle.book.specs.declared.levels.Side.{Side}
-use Rattle.book.specs.declared.quantity.Quantity.{Quantity as NewQuantity}
-use Rattle.book.specs.declared.quantity.Quantity.TheVariants.{Wrong, Is}
+use Rattle.book.specs.Types.{Quantity as NewQuantity}
 use Rattle.book.specs.declared.event.Event.{Event}
 use Rattle.book.specs.declared.event.Event.TheVariants.{Nothing, Quotation, Match}
 use Rattle.book.specs.declared.sums.Sums.{Sums}
-use Rattle.book.specs.declared.sums.Total.{Total}
-use Rattle.book.specs.declared.sums.Total.TheVariants.{Beyond, Within}
-use Rattle.book.specs.declared.sums.Totals.{Totals}
-use Rattle.book.specs.declared.sums.Totals.TheVariants.{Over, Both}
+use Rattle.book.specs.Types.{Total}
+use Rattle.book.specs.Types.{Totals}
 use Rattle.book.specs.declared.calls.Book.{Book}
-use Rattle.book.specs.declared.calls.Outcome.{Outcome}
-use Rattle.book.specs.declared.calls.Outcome.TheVariants.{Done, Refused}
+use Rattle.book.specs.Types.{Outcome}
 use Rattle.book.specs.declared.calls.Step.{Step}
 use Rattle.book.specs.declared.calls.SideStep.{SideStep}
-use Rattle.book.specs.Levels.{empty, held_by, place_in, quantity_at, is_full, placed, put_at}
+use Rattle.book.specs.Levels.{empty, held_by, place_in, quantity_at, placed, put_at}
 use Rattle.book.specs.Quantity.{new_of, lacks}
 use Rattle.book.specs.Sums.{added_to, summed_with}
 use Rattle.book.specs.Calls.{one_more, quote_on, with_buying, with_selling, quotation_on, lowered, match_check, Takes}
 use Rattle.book.specs.Calls.{matched_with, match_summed, match_on, applied, walked, events_of, done, refusing, started}
 use Rattle.book.specs.Calls.{start_of, take_of}
+use Rattle.std.specs.Prelude.{Some, None, Ok, Err}
 
 -- ─── The sums ───
 
 module _ (s : Sums) (o : Level) (y : ℤ) (e : y ≡ s.turnover) (t : Total)
     (q : t ≡ added_to y (o.price *ℤ pos o.quantity)) where
-  pub totals-over : t ≡ Beyond → Over ≡ summed_with s o
+  pub totals-over : t ≡ None → None ≡ summed_with s o
   unfolding summed_with
   totals-over b = rw (← e, ← q, b)
 
-  module _ (a z : ℤ) (w : t ≡ Within a) (f : z ≡ s.volume) (u : Total) (r : u ≡ added_to z (pos o.quantity)) where
-    pub totals-late : u ≡ Beyond → Over ≡ summed_with s o
+  module _ (a z : ℤ) (w : t ≡ Some a) (f : z ≡ s.volume) (u : Total) (r : u ≡ added_to z (pos o.quantity)) where
+    pub totals-late : u ≡ None → None ≡ summed_with s o
     unfolding summed_with
     totals-late b = rw (← e, ← q, w, ← f, ← r, b)
 
-    pub totals-both : (b c d : ℤ) → u ≡ Within b → c ≡ a → d ≡ b
-        → Both (record { turnover = c; volume = d }) ≡ summed_with s o
+    pub totals-both : (b c d : ℤ) → u ≡ Some b → c ≡ a → d ≡ b
+        → Some (record { turnover = c; volume = d }) ≡ summed_with s o
     unfolding summed_with
     totals-both b c d v g h = rw (g, h, ← e, ← q, w, ← f, ← r, v)
 
 -- ─── A quotation ───
-
-pub more-full : (side : Side) (old n : ℕ) (r : Bool) → (n ≡ 0 → ⊥) → old ≡ 0 → r ≡ is_full side → r ≡ one_more side old n
-unfolding one_more
-more-full side old n r z e q = rw (ne_eqb n 0 z, e) q
 
 module _ (side : Side) (buying : Bool) (o : Level) (at old : ℕ) (e : at ≡ place_in buying o.price side.levels)
     (q : old ≡ held_by o.price (get_or side.levels at empty)) where
@@ -75,17 +65,17 @@ module _ (side : Side) (buying : Bool) (o : Level) (at old : ℕ) (e : at ≡ pl
   putting n = rw e
 
   module _ (absolute : Bool) (n : NewQuantity) (m : n ≡ new_of absolute old o.quantity) where
-    pub quote-wrong : n ≡ Wrong → record { side = side; answer = Refused Quantity } ≡ quote_on side absolute buying o
+    pub quote-wrong : n ≡ None → record { side = side; answer = Err Quantity } ≡ quote_on side absolute buying o
     unfolding quote_on
     quote-wrong w = rw (← found, ← m, w)
 
-    module _ (k : ℕ) (w : n ≡ Is k) (r : Bool) (f : r ≡ one_more side old k) where
-      pub quote-full : r ≡ true → record { side = side; answer = Refused Levels } ≡ quote_on side absolute buying o
+    module _ (k : ℕ) (w : n ≡ Some k) (r : Bool) (f : r ≡ one_more side old k) where
+      pub quote-full : r ≡ true → record { side = side; answer = Err Levels } ≡ quote_on side absolute buying o
       unfolding quote_on
       quote-full t = rw (← found, ← m, w, ← f, t)
 
       pub quote-put : r ≡ false → (s : Side) → s ≡ put_at at (record { price = o.price; quantity = k }) side
-          → record { side = s; answer = Done } ≡ quote_on side absolute buying o
+          → record { side = s; answer = (Ok tt) } ≡ quote_on side absolute buying o
       unfolding quote_on
       quote-put t s p = rw (← found, ← m, w, ← f, t, p, putting k)
 
@@ -122,7 +112,7 @@ module _ (b : Book) (o : Level) (x : ℕ) (r : Bool) (e : x ≡ quantity_at true
   lack : lacks (quantity_at true o.price b.buying) o.quantity ≡ r
   lack = sym (rw e at f)
 
-  pub check-buying : r ≡ true → Refused Quantity ≡ match_check b o
+  pub check-buying : r ≡ true → Err Quantity ≡ match_check b o
   unfolding match_check
   check-buying t = rw (lack, t)
 
@@ -131,37 +121,37 @@ module _ (b : Book) (o : Level) (x : ℕ) (r : Bool) (e : x ≡ quantity_at true
     lack-other : lacks (quantity_at false o.price b.selling) o.quantity ≡ q
     lack-other = sym (rw g at h)
 
-    pub check-selling : q ≡ true → Refused Quantity ≡ match_check b o
+    pub check-selling : q ≡ true → Err Quantity ≡ match_check b o
     unfolding match_check
     check-selling u = rw (lack, t, lack-other, u)
 
-    pub check-volume : q ≡ false → 1000000 < o.quantity → Refused Volume ≡ match_check b o
+    pub check-volume : q ≡ false → 1000000 < o.quantity → Err Volume ≡ match_check b o
     unfolding match_check
     check-volume u v = rw (lack, t, lack-other, u, lt-ltb 1000000 o.quantity v)
 
-    pub check_done : q ≡ false → o.quantity ≤ 1000000 → (Done ≡ match_check b o) × Takes b o Done
+    pub check_done : q ≡ false → o.quantity ≤ 1000000 → ((Ok tt) ≡ match_check b o) × Takes b o (Ok tt)
     unfolding match_check
     check_done u v = (rw (lack, t, lack-other, u, le-ltb 1000000 o.quantity v), (lack ∙ t, lack-other ∙ u, v))
 
 module _ (b : Book) (o : Level) where
-  pub takes-done : (a : Outcome) → Takes b o a → a ≡ Done → Takes b o Done
+  pub takes-done : (a : Outcome) → Takes b o a → a ≡ (Ok tt) → Takes b o (Ok tt)
   takes-done a t e = rw e at t
 
   module _ (a : Outcome) (e : a ≡ match_check b o) (s : Step) where
-    pub match-refused : (r : Refusal) → a ≡ Refused r → s ≡ refusing b r → s ≡ match_on b o
+    pub match-refused : (r : Refusal) → a ≡ Err r → s ≡ refusing b r → s ≡ match_on b o
     unfolding match_on
     match-refused r f g = rw (← e, f) g
 
-    pub match-taken : a ≡ Done → s ≡ match_summed b o → s ≡ match_on b o
+    pub match-taken : a ≡ (Ok tt) → s ≡ match_summed b o → s ≡ match_on b o
     unfolding match_on
     match-taken f g = rw (← e, f) g
 
   module _ (t : Totals) (e : t ≡ summed_with b.sums o) where
-    pub match-over : t ≡ Over → (s : Step) → s ≡ refusing b Volume → s ≡ match_summed b o
+    pub match-over : t ≡ None → (s : Step) → s ≡ refusing b Volume → s ≡ match_summed b o
     unfolding match_summed
     match-over f s g = rw (← e, f) g
 
-    pub match-both : (n : Sums) → t ≡ Both n → (m : Book) → m ≡ matched_with b o n → done m ≡ match_summed b o
+    pub match-both : (n : Sums) → t ≡ Some n → (m : Book) → m ≡ matched_with b o n → done m ≡ match_summed b o
     unfolding match_summed
     match-both n f m g = rw (g, ← e, f)
 
@@ -197,24 +187,19 @@ module _ (b : Book) (code : List ℕ) where
     unfolding start_of
     start_right t = rw (eq-eqb (length code) 10 h, ← v, t)
 
--- Ten bytes put in place of ten.
-pub ten-put : (l vs : List ℕ) → l ≡ put (replicate 10 0) 0 vs → length vs ≡ 10 → l ≡ vs
-unfolding put
-ten-put l vs e h = e ∙ rw h (append-nil vs)
-
 -- ─── Take ───
 
 module _ (b : Book) (tid : ℕ) (content : List ℕ) (k : Checked) (e : k ≡ content_check tid Down content most_content)
   where
-    pub take-unfit : (r : Refusal) → k ≡ Unfit r → (s : Step) → s ≡ refusing b r → s ≡ take_of b tid content
+    pub take-unfit : (r : Refusal) → k ≡ Err r → (s : Step) → s ≡ refusing b r → s ≡ take_of b tid content
     unfolding take_of
     take-unfit r f s g = rw (← e, f) g
 
-    module _ (p : k ≡ Passed) (w : Step) (q : w ≡ walked b (events_of b.code tid content)) where
-      pub take-refused : (r : Refusal) → w.answer ≡ Refused r → (s : Step) → s ≡ refusing b r → s ≡ take_of b tid content
+    module _ (p : k ≡ (Ok tt)) (w : Step) (q : w ≡ walked b (events_of b.code tid content)) where
+      pub take-refused : (r : Refusal) → w.answer ≡ Err r → (s : Step) → s ≡ refusing b r → s ≡ take_of b tid content
       unfolding take_of
       take-refused r f s g = rw (← e, p, ← q, f) g
 
-      pub take_done : w.answer ≡ Done → w ≡ take_of b tid content
+      pub take_done : w.answer ≡ (Ok tt) → w ≡ take_of b tid content
       unfolding take_of
       take_done f = rw (← e, p, ← q, f)

@@ -20,13 +20,13 @@ use Rattle.ftd.proofs.fields.Laws.{fid-back, bytes_back}
 use Rattle.ftd.proofs.bytes.Numbers.{back32}
 use Rattle.book.specs.declared.levels.Level.{Level}
 use Rattle.book.specs.declared.event.Event.TheVariants.{Nothing, Quotation, Match}
-use Rattle.book.specs.declared.event.Price.TheVariants.{Units}
 use Rattle.book.specs.Event.{same_bytes, price_of, units_of, priced, faced, sided, quotation_in, match_in}
 use Rattle.book.specs.Event.{is_field, event_of}
 use Rattle.book.specs.Event.Laws.{quotation_with, match_with, EventLaws}
 use Rattle.book.proofs.event.Reading.{item-part, quotation-code, quotation-kind, quotation-side, quotation-price}
 use Rattle.book.proofs.event.Reading.{quotation-volume, match-code, match-price, match-volume}
 use Rattle.book.proofs.event.Reading.{quotation-width, match-width}
+use Rattle.std.specs.Prelude.{Some}
 
 -- ─── Bytes ───
 
@@ -60,7 +60,7 @@ later-part l r n k w e =
     ap (λ (m : ℕ). take w (drop (m + k) (l ++ r))) (sym e) ∙ ap (take w) (drop-append-add l r k)
 
 module _ (negative : Bool) (units : ℕ) (fits : float_fits 4 12 negative units ≡ true) where
-  price-back : price_of (float_bytes 4 12 negative units) ≡ Units (signed_units negative units)
+  price-back : price_of (float_bytes 4 12 negative units) ≡ Some (signed_units negative units)
   unfolding price_of
   price-back = ap units_of (value-laws.float_back 4 12 negative units fits)
 
@@ -145,7 +145,7 @@ module _ (contract rest : List ℕ) (ten : length contract ≡ 10) where
 -- Price and volume behind some bytes.
 module _ (negative : Bool) (units v : ℕ) (fits : float_fits 4 12 negative units ≡ true) (rest : List ℕ) where
   price-at : price_of (part (float_bytes 4 12 negative units ++ (bytes32 v ++ rest)) 0 12)
-      ≡ Units (signed_units negative units)
+      ≡ Some (signed_units negative units)
   price-at =
       ap price_of (front-part (float_bytes 4 12 negative units) (bytes32 v ++ rest) 12 (price-long negative units fits))
       ∙ price-back negative units fits

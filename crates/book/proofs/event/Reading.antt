@@ -1,27 +1,24 @@
 -- What a field says, read at the places of its items. Assumes nothing.
-use Prim.Native.Nat.{ℕ, zero, suc, ◌+◌, ◌<◌, ◌≤◌}
+use Prim.Native.Nat.{ℕ, zero, suc, ◌+◌, ◌≤◌}
 use mathlib.Core.Path.{◌≡◌, refl, sym, ap, ◌∙◌}
-use mathlib.Core.List.{List, [], ◌∷◌}
+use mathlib.Core.List.{List}
 use mathlib.Core.Bool.{Bool, true, false, cond}
 use native.Mathlib.Omega.{arith}
 use borrow.Author.Tests.{ltb-true, le-leb, eq-eqb, ne_eqb}
 use lib.ListN.{length, get_or, take, drop, length-drop}
-use lib.Seq.{drop-cons, drop-drop, length-take-le}
+use lib.Seq.{drop-drop}
 use native.Mathlib.Nat.{add-zero}
 use lib.IntN.{ℤ, pos, neg_ℤ, nat_abs, ◌-ℤ◌}
 use lib.Dec.{eqb, ltb}
 use mir.Syntax.{w64}
 use mir.Val.{to_z, of_z, SFits}
-use mir.ValLaws.{to_z-of_z}
+use mir.ValLaws.{to_z-of_z, to_z_pos}
 use Rattle.ftd.specs.Bytes.{part, be32_of}
 use Rattle.ftd.specs.Signed.{float_value}
 use Rattle.ftd.specs.Signed.Write.{number_fits, float_fits}
-use Rattle.ftd.specs.declared.signed.Signed.{Signed}
-use Rattle.ftd.specs.declared.signed.Signed.TheVariants.{NoValue, Value}
 use Rattle.ftd.proofs.runs.Turns.{entry-byte}
 use Rattle.ftd.specs.Table.{string_kind, int_kind, float_kind, bool_flag_kind, width_of}
 use Rattle.ftd.specs.Places.{item_of, item_bytes}
-use Rattle.ftd.specs.declared.places.ItemPlace.TheVariants.{Item}
 use Rattle.ftd.proofs.Opened.{opened}
 use Rattle.ftd.proofs.item.Laws.{two}
 use Rattle.ftd.proofs.values.Laws.{value-laws}
@@ -31,37 +28,10 @@ use Rattle.book.proofs.sums.Limits.{small-fits}
 use Rattle.book.specs.declared.levels.Level.{Level}
 use Rattle.book.specs.declared.event.Event.{Event}
 use Rattle.book.specs.declared.event.Event.TheVariants.{Nothing, Quotation, Match}
-use Rattle.book.specs.declared.event.Price.{Price}
-use Rattle.book.specs.declared.event.Price.TheVariants.{NoPrice, Units}
-
--- ─── Bytes compared ───
-
-module _ (a b : List ℕ) (i : ℕ) (h : i < length a) (k : i < length b) (t : Bool)
-    (inv : same_bytes (drop i a) (drop i b) ≡ t) where
-  pub same_turn : get_or a i 0 ≡ get_or b i 0 → same_bytes (drop (i + 1) a) (drop (i + 1) b) ≡ t
-  same_turn e =
-      let s : i + 1 ≡ suc i = omega arith in
-      rw s (rw (drop-cons a i 0 h, drop-cons b i 0 k, eq-eqb (get_or a i 0) (get_or b i 0) e) at inv)
-
-  pub same_stop : (get_or a i 0 ≡ get_or b i 0 → ⊥) → false ≡ t
-  same_stop e = rw (drop-cons a i 0 h, drop-cons b i 0 k, ne_eqb (get_or a i 0) (get_or b i 0) e) at inv
-
--- Ten bytes of a field.
-pub ten : (field : List ℕ) (at : ℕ) → at + 10 ≤ length field → length (part field at 10) ≡ 10
-ten field at h = length-take-le 10 (drop at field) (rw (length-drop at field) (omega arith))
-
-pub ten-byte : (field : List ℕ) (at i : ℕ) → i < 10 → get_or (part field at 10) i 0 ≡ get_or field (at + i) 0
-ten-byte field at i h = entry-byte field at 10 i h
-
-gone : (a : List ℕ) (i : ℕ) → length a ≤ i → drop i a ≡ []
-gone [] zero h = refl
-gone [] (suc i) h = refl
-gone (x ∷ xs) zero h = absurd (omega arith)
-gone (x ∷ xs) (suc i) h = gone xs i (omega arith)
-
-pub same_end : (a b : List ℕ) (i : ℕ) (t : Bool) → same_bytes (drop i a) (drop i b) ≡ t → length a ≤ i → length b ≤ i
-    → true ≡ t
-same_end a b i t inv h k = rw (gone a i h, gone b i k) at inv
+use Rattle.book.specs.Types.{Price}
+use Rattle.std.specs.Prelude.{Some, None}
+use Rattle.ftd.specs.Types.{some_item, MaybeSigned}
+use Rattle.ftd.specs.declared.signed.Signed.{Signed}
 
 -- ─── Prices ───
 
@@ -70,51 +40,58 @@ unfolding number_fits
 number_small true units e = omega (arith, ltb-true units 10000000000 (two (ltb 0 units) (ltb units 10000000000) e).1)
 number_small false units e = omega (arith, ltb-true units 100000000000 e)
 
-module _ (l : List ℕ) (wide : length l ≡ 12) (v : Signed) (q : v ≡ float_value 4 l) where
-  pub price-none : v ≡ NoValue → NoPrice ≡ price_of l
+module _ (l : List ℕ) (wide : length l ≡ 12) (v : MaybeSigned) (q : v ≡ float_value 4 l) where
+  pub price-none : v ≡ None → (r : Price) → r ≡ None → (r ≡ price_of l) × PriceInside r
   unfolding price_of
-  price-none e = rw (← q, e)
+  price-none e r f = (rw (f, ← q, e), rw f tt)
 
-  module _ (negative : Bool) (units : ℕ) (e : v ≡ Value negative units) where
-    pub price-small : units ≤ 99999999999
+  module _ (found : Signed) (e : v ≡ Some found) where
+    pub price-small : found.units ≤ 99999999999
     unfolding float_fits
     price-small =
-        number_small negative units (rw wide at (value-laws.float_again 4 l negative units (sym q ∙ e)).0)
+        number_small found.negative found.units (rw wide at (value-laws.float_again 4 l found.negative found.units (sym q ∙ e)).0)
 
-    module _ (r : ℤ) (d : r ≡ pos units) where
-      pub price-fits : SFits w64 (pos 0 -ℤ to_z w64 (of_z w64 r))
-      price-fits = below-fits units (omega (arith, price-small)) r d
+    abbrev pub price : ℤ
+    price = to_z w64 found.units
 
-      below : to_z w64 (of_z w64 (pos 0 -ℤ to_z w64 (of_z w64 r))) ≡ neg_ℤ (pos units)
-      below = below_again units (omega (arith, price-small)) r d
+    same : price ≡ pos found.units
+    same = to_z_pos w64 found.units (omega (arith, price-small))
 
-      above : to_z w64 (of_z w64 r) ≡ pos units
-      above = rw d (to_z-of_z w64 (pos units) (fits-above units (omega (arith, price-small))))
+    again : to_z w64 (of_z w64 (pos found.units)) ≡ price
+    again = to_z-of_z w64 (pos found.units) (fits-above found.units (omega (arith, price-small))) ∙ sym same
 
-      abs-below : (n : ℕ) → nat_abs (neg_ℤ (pos n)) ≡ n
-      abs-below zero = refl
-      abs-below (suc n) = refl
+    pub cast-fits : SFits w64 (pos found.units)
+    cast-fits = fits-above found.units (omega (arith, price-small))
 
-      pub price-below : negative ≡ true
-          → (Units (to_z w64 (of_z w64 (pos 0 -ℤ to_z w64 (of_z w64 r)))) ≡ price_of l)
-          × (nat_abs (to_z w64 (of_z w64 (pos 0 -ℤ to_z w64 (of_z w64 r)))) ≤ 99999999999)
-      unfolding price_of
-      price-below n = (rw (below, ← q, e, n), rw (below, abs-below units) price-small)
+    pub price-fits : SFits w64 (pos 0 -ℤ price)
+    price-fits = rw again at (below-fits found.units (omega (arith, price-small)) (pos found.units) refl)
 
-      pub price-above : negative ≡ false
-          → (Units (to_z w64 (of_z w64 r)) ≡ price_of l) × (nat_abs (to_z w64 (of_z w64 r)) ≤ 99999999999)
-      unfolding price_of
-      price-above n = (rw (above, ← q, e, n), rw above price-small)
+    below : to_z w64 (of_z w64 (pos 0 -ℤ price)) ≡ neg_ℤ (pos found.units)
+    below = rw again at (below_again found.units (omega (arith, price-small)) (pos found.units) refl)
+
+    abs-below : (n : ℕ) → nat_abs (neg_ℤ (pos n)) ≡ n
+    abs-below zero = refl
+    abs-below (suc n) = refl
+
+    pub price-below : found.negative ≡ true
+        → (Some (to_z w64 (of_z w64 (pos 0 -ℤ price))) ≡ price_of l)
+        × (nat_abs (to_z w64 (of_z w64 (pos 0 -ℤ price))) ≤ 99999999999)
+    unfolding price_of
+    price-below n = (rw (below, ← q, e, n), rw (below, abs-below found.units) price-small)
+
+    pub price-above : found.negative ≡ false → (Some price ≡ price_of l) × (nat_abs price ≤ 99999999999)
+    unfolding price_of
+    price-above n = (rw (same, ← q, e, n), rw same price-small)
 
 -- ─── A quotation and a match by their places ───
 
-module _ (bytes : List ℕ) (fid i kind scale start width : ℕ) (p : item_of fid i ≡ Item kind scale start width) where
+module _ (bytes : List ℕ) (fid i kind scale start width : ℕ) (p : item_of fid i ≡ some_item kind scale start width) where
   pub item-part : start + width ≤ length bytes → item_bytes bytes fid i ≡ part bytes start width
   unfolding item_bytes
   item-part h = rw (p, le-leb (start + width) (length bytes) h)
 
 -- An item of a field that stands with its FID and length.
-module _ (f : List ℕ) (fid i kind scale start width : ℕ) (p : item_of fid i ≡ Item kind scale start width)
+module _ (f : List ℕ) (fid i kind scale start width : ℕ) (p : item_of fid i ≡ some_item kind scale start width)
     (h : 6 + (start + width) ≤ length f) where
   field-part : item_bytes (drop 6 f) fid i ≡ part f (6 + start) width
   field-part =
@@ -136,35 +113,35 @@ number-part f at =
     )
 
 -- Places of the items (Appendix D).
-pub quotation-code : item_of 0x000D 0 ≡ Item string_kind 0 0 10
+pub quotation-code : item_of 0x000D 0 ≡ some_item string_kind 0 0 10
 unfolding opened
 quotation-code = refl
 
-pub quotation-kind : item_of 0x000D 2 ≡ Item bool_flag_kind 0 11 1
+pub quotation-kind : item_of 0x000D 2 ≡ some_item bool_flag_kind 0 11 1
 unfolding opened
 quotation-kind = refl
 
-pub quotation-side : item_of 0x000D 3 ≡ Item bool_flag_kind 0 12 1
+pub quotation-side : item_of 0x000D 3 ≡ some_item bool_flag_kind 0 12 1
 unfolding opened
 quotation-side = refl
 
-pub quotation-price : item_of 0x000D 4 ≡ Item float_kind 4 13 12
+pub quotation-price : item_of 0x000D 4 ≡ some_item float_kind 4 13 12
 unfolding opened
 quotation-price = refl
 
-pub quotation-volume : item_of 0x000D 5 ≡ Item int_kind 0 25 4
+pub quotation-volume : item_of 0x000D 5 ≡ some_item int_kind 0 25 4
 unfolding opened
 quotation-volume = refl
 
-pub match-code : item_of 0x000A 0 ≡ Item string_kind 0 0 10
+pub match-code : item_of 0x000A 0 ≡ some_item string_kind 0 0 10
 unfolding opened
 match-code = refl
 
-pub match-price : item_of 0x000A 3 ≡ Item float_kind 4 12 12
+pub match-price : item_of 0x000A 3 ≡ some_item float_kind 4 12 12
 unfolding opened
 match-price = refl
 
-pub match-volume : item_of 0x000A 4 ≡ Item int_kind 0 24 4
+pub match-volume : item_of 0x000A 4 ≡ some_item int_kind 0 24 4
 unfolding opened
 match-volume = refl
 
@@ -205,10 +182,10 @@ match-at code f h =
 
 -- ─── What the code gives ───
 
-inside-price : (price : Price) (p : ℤ) → price ≡ Units p → PriceInside price → nat_abs p ≤ 99999999999
+inside-price : (price : Price) (p : ℤ) → price ≡ Some p → PriceInside price → nat_abs p ≤ 99999999999
 inside-price price p e i = rw e at i
 
-module _ (price : Price) (p : ℤ) (e : price ≡ Units p) (i : PriceInside price) where
+module _ (price : Price) (p : ℤ) (e : price ≡ Some p) (i : PriceInside price) where
   held-price : to_z w64 (of_z w64 p) ≡ p
   held-price = to_z-of_z w64 p (small-fits p (omega (arith, inside-price price p e i)))
 
@@ -243,10 +220,10 @@ module _ (code f : List ℕ) (same : Bool) (e : same ≡ same_bytes (part f 6 10
     quotation-other t = rw (quotation-at code f h, ← e, t)
 
     module _ (t : same ≡ true) (price : Price) (q : price ≡ price_of (part f 19 12)) where
-      pub quotation-none : price ≡ NoPrice → Nothing ≡ quotation_in code (drop 6 f)
+      pub quotation-none : price ≡ None → Nothing ≡ quotation_in code (drop 6 f)
       quotation-none z = rw (quotation-at code f h, ← e, t, ← q, z)
 
-      pub quotation-some : (p : ℤ) → price ≡ Units p → PriceInside price → (n : ℕ) → n ≡ be32_of f 31 → (r : Event)
+      pub quotation-some : (p : ℤ) → price ≡ Some p → PriceInside price → (n : ℕ) → n ≡ be32_of f 31 → (r : Event)
           → r ≡ sided (get_or f 17 0) (get_or f 18 0) (record { price = to_z w64 (of_z w64 p); quantity = n })
           → (r ≡ quotation_in code (drop 6 f)) × Inside r
       quotation-some p z i n d r m = (
@@ -260,10 +237,10 @@ module _ (code f : List ℕ) (same : Bool) (e : same ≡ same_bytes (part f 6 10
     match-other t = rw (match-at code f h, ← e, t)
 
     module _ (t : same ≡ true) (price : Price) (q : price ≡ price_of (part f 18 12)) where
-      pub match_none : price ≡ NoPrice → Nothing ≡ match_in code (drop 6 f)
+      pub match_none : price ≡ None → Nothing ≡ match_in code (drop 6 f)
       match_none z = rw (match-at code f h, ← e, t, ← q, z)
 
-      pub match-some : (p : ℤ) → price ≡ Units p → PriceInside price → (n : ℕ) → n ≡ be32_of f 30
+      pub match-some : (p : ℤ) → price ≡ Some p → PriceInside price → (n : ℕ) → n ≡ be32_of f 30
           → (Match (record { price = to_z w64 (of_z w64 p); quantity = n }) ≡ match_in code (drop 6 f))
           × (nat_abs (to_z w64 (of_z w64 p)) ≤ 99999999999)
       match-some p z i n d = (
@@ -280,10 +257,6 @@ module _ (code : List ℕ) (tid : ℕ) (f : List ℕ) where
     unfolding event_of
     quotation-field l d r m = rw (eq-eqb tid 0x2001 t, quotation-width, l, d) m
 
-    pub quotation-strange : length f ≡ 39 → (be32_of f 0 ≡ 0x000D → ⊥) → Nothing ≡ event_of code tid f
-    unfolding event_of
-    quotation-strange l d = rw (eq-eqb tid 0x2001 t, quotation-width, l, ne_eqb (be32_of f 0) 0x000D d)
-
     pub quotation-long : (length f ≡ 39 → ⊥) → Nothing ≡ event_of code tid f
     unfolding event_of
     quotation-long l = rw (eq-eqb tid 0x2001 t, quotation-width, ne_eqb (length f) 39 l)
@@ -298,10 +271,6 @@ module _ (code : List ℕ) (tid : ℕ) (f : List ℕ) where
           → r ≡ event_of code tid f
       unfolding event_of
       match-field l d r m = rw (ne_eqb tid 0x2001 u, eq-eqb tid 0x2002 t, match-width, l, d) m
-
-      pub match-strange : length f ≡ 35 → (be32_of f 0 ≡ 0x000A → ⊥) → Nothing ≡ event_of code tid f
-      unfolding event_of
-      match-strange l d = rw (ne_eqb tid 0x2001 u, eq-eqb tid 0x2002 t, match-width, l, ne_eqb (be32_of f 0) 0x000A d)
 
       pub match-long : (length f ≡ 35 → ⊥) → Nothing ≡ event_of code tid f
       unfolding event_of

@@ -1,27 +1,17 @@
 -- A quotient cut down, and when it goes up. Assumes nothing.
-use Prim.Native.Nat.{ℕ, zero, suc, ◌+◌, ◌-◌, ◌*◌, ◌/◌, ◌%◌, ◌<◌, ◌≤◌}
-use mathlib.Core.Path.{◌≡◌, refl, sym, ◌∙◌}
+use Prim.Native.Nat.{ℕ, ◌-◌, ◌%◌, ◌<◌, ◌≤◌}
+use mathlib.Core.Path.{◌≡◌, refl, sym}
 use mathlib.Core.Bool.{Bool, true, false, cond, false≢true}
 use native.Mathlib.Omega.{arith}
-use native.Mathlib.Nat.{div-add-mod', mod-lt, mul-le-mul_right, eq_of_mul-eq-mul_right}
-use borrow.Author.Tests.{lt-ltb, le-ltb, ltb-true, ltb-false, eqb-true, eqb-false}
+use native.Mathlib.Nat.{mod-lt}
+use borrow.Author.Tests.{lt-ltb, ltb-true, ltb-false, eqb-true, eqb-false}
 use lib.Dec.{ltb, eqb}
-use mir.Syntax.{w64}
-use mir.Val.{Fits}
 use Rattle.book.specs.Sums.{goes_up}
 
 module _ (q r v : ℕ) where
   pub up_above : v - r < r → true ≡ goes_up q r v
   unfolding goes_up
   up_above h = rw (lt-ltb (v - r) r h)
-
-  pub up-below : r ≤ v - r → r < v - r → false ≡ goes_up q r v
-  unfolding goes_up
-  up-below h k = rw (le-ltb (v - r) r h, lt-ltb r (v - r) k)
-
-  pub up-half : r ≤ v - r → v - r ≤ r → eqb (q % 2) 1 ≡ goes_up q r v
-  unfolding goes_up
-  up-half h k = rw (le-ltb (v - r) r h, le-ltb r (v - r) k)
 
   -- Going up is right, and so is staying.
   pub up_right : goes_up q r v ≡ true → (v - r ≤ r) × (v - r ≡ r → q % 2 ≡ 1)

@@ -11,12 +11,12 @@ use lib.Signed.{lt_z, le_z}
 use lib.Dec.{ltb}
 use Rattle.book.specs.Sums.{nearest_of, with_sign, mean_of}
 use Rattle.book.specs.Sums.Laws.{off, Nearest, turned, Priced, MeanLaws}
-use Rattle.book.specs.declared.sums.Mean.TheVariants.{NoMean, Price}
 use Rattle.book.specs.declared.event.Event.{Event}
 use Rattle.book.specs.Agreement.{turnover_of, volume_of}
 use Rattle.book.proofs.sums.Limits.{positive}
 use Rattle.book.proofs.sums.Prices.{sums-between}
 use Rattle.book.proofs.sums.Rounding.{apart, Near, nearest-near, near-only, nearest-most, nearest-least}
+use Rattle.std.specs.Prelude.{Some, None}
 
 -- ─── Distances ───
 
@@ -126,14 +126,14 @@ module _ (v : ℕ) (h : 0 < v) where
 
   -- ─── The mean ───
 
-  pub mean-is : (s : ℤ) → mean_of s (pos v) ≡ Price (rounded s)
+  pub mean-is : (s : ℤ) → mean_of s (pos v) ≡ Some (rounded s)
   unfolding mean_of
   mean-is s = rw (lt-ltb 0 v h)
 
-no-mean : (m : ℤ) → NoMean ≡ Price m → ⊥
+no-mean : (m : ℤ) → None ≡ Some m → ⊥
 no-mean m p = let z : ◌≡◌ {A = ℕ} 0 1 = cc in omega arith
 
-mean-none : (s v : ℤ) → lt_z (pos 0) v ≡ false → mean_of s v ≡ NoMean
+mean-none : (s v : ℤ) → lt_z (pos 0) v ≡ false → mean_of s v ≡ None
 unfolding mean_of
 mean-none s v e = rw e
 
@@ -144,22 +144,22 @@ mean-signs s v = go (lt_z (pos 0) v) refl
     go : (t : Bool) → lt_z (pos 0) v ≡ t → mean_of (neg_ℤ s) v ≡ turned (mean_of s v)
     go true e =
         let h = positive v e in
-        rw e (ap Price (rounded-only (nat_abs v) h (neg_ℤ s) (neg_ℤ (rounded (nat_abs v) h s))
+        rw e (ap Some (rounded-only (nat_abs v) h (neg_ℤ s) (neg_ℤ (rounded (nat_abs v) h s))
         (nearest-turned s (nat_abs v) (rounded (nat_abs v) h s) (rounded-near (nat_abs v) h s))))
     go false e = rw e
 
-mean-between : (s : ℤ) (v : ℕ) (m a b : ℤ) → mean_of s (pos v) ≡ Price m
+mean-between : (s : ℤ) (v : ℕ) (m a b : ℤ) → mean_of s (pos v) ≡ Some m
     → le_z (a *ℤ pos v) s ≡ true
     → le_z s (b *ℤ pos v) ≡ true
     → (le_z a m ≡ true) × (le_z m b ≡ true)
 mean-between s zero m a b q l k = absurd (no-mean m (sym (mean-none s (pos 0) refl) ∙ q))
 mean-between s (suc v) m a b q l k =
     let h : 0 < suc v = omega arith in
-    let p : Price (rounded (suc v) h s) ≡ Price m = sym (mean-is (suc v) h s) ∙ q in
+    let p : Some (rounded (suc v) h s) ≡ Some m = sym (mean-is (suc v) h s) ∙ q in
     let e : rounded (suc v) h s ≡ m = cc in
     (rw e at (at_least (suc v) h s a l), rw e at (at_most (suc v) h s b k))
 
-mean-prices : (es : List Event) (m a b : ℤ) → mean_of (turnover_of es) (volume_of es) ≡ Price m → Priced a b es
+mean-prices : (es : List Event) (m a b : ℤ) → mean_of (turnover_of es) (volume_of es) ≡ Some m → Priced a b es
     → (le_z a m ≡ true) × (le_z m b ≡ true)
 mean-prices es m a b q g =
     let r = sums-between a b es g in
@@ -169,7 +169,7 @@ pub mean-laws : MeanLaws
 mean-laws = record {
   none = mean-none;
   some = λ s v h. (rounded v h s, mean-is v h s, rounded-near v h s);
-  only = λ s v m h x. mean-is v h s ∙ ap Price (rounded-only v h s m x);
+  only = λ s v m h x. mean-is v h s ∙ ap Some (rounded-only v h s m x);
   signs = mean-signs;
   between = mean-between;
   prices = mean-prices;

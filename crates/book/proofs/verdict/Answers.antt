@@ -12,14 +12,11 @@ use lib.Dec.{ltb, leb, eqb}
 use Rattle.ftd.specs.declared.refusal.Refusal.TheVariants.{Quantity, Levels, Volume}
 use Rattle.book.specs.declared.levels.Level.{Level}
 use Rattle.book.specs.declared.levels.Side.{Side}
-use Rattle.book.specs.declared.quantity.Quantity.TheVariants.{Wrong, Is}
 use Rattle.book.specs.declared.event.Event.{Event}
 use Rattle.book.specs.declared.event.Event.TheVariants.{Nothing, Quotation, Match}
-use Rattle.book.specs.declared.sums.Total.TheVariants.{Beyond, Within}
 use Rattle.book.specs.declared.calls.Book.{Book}
 use Rattle.book.specs.declared.calls.Step.{Step}
 use Rattle.book.specs.declared.calls.SideStep.{SideStep}
-use Rattle.book.specs.declared.calls.Outcome.TheVariants.{Done, Refused}
 use Rattle.book.specs.Levels.{is_full, quantity_at, placed}
 use Rattle.book.specs.Quantity.{twos, in_range, new_of, lacks}
 use Rattle.book.specs.Sums.{beyond, added_to, both_of, summed_with}
@@ -30,6 +27,7 @@ use Rattle.book.specs.Verdict.{quotation_verdict, is_short, too_far, prices_of, 
 use Rattle.book.proofs.agreement.Prices.{same_self}
 use Rattle.book.proofs.agreement.Events.{SideHolds, Holds, over-end, side-look, same-side}
 use Rattle.book.proofs.verdict.Full.{full_is}
+use Rattle.std.specs.Prelude.{Some, None, Ok, Err}
 
 -- ─── A quotation ───
 
@@ -52,14 +50,14 @@ module _ (side : Side) (s : Bool) (p : ℤ) (old count : ℕ) (full : is_full si
           let k = eqb-false old 0 f in
           rw (e, f, lt-ltb 0 old (omega arith)) (sym (none (ltb 0 n)))
 
-  quantity-answer : (n : ℕ) → (quote_with side s p old (Is n)).answer
-      ≡ cond (ltb 0 n && (not (ltb 0 old) && leb 64 count)) (Refused Levels) Done
+  quantity-answer : (n : ℕ) → (quote_with side s p old (Some n)).answer
+      ≡ cond (ltb 0 n && (not (ltb 0 old) && leb 64 count)) (Err Levels) (Ok tt)
   quantity-answer n = rw (one_more-is n) (go (ltb 0 n && (not (ltb 0 old) && leb 64 count)))
     where
       go : (t : Bool)
-          → (cond {A = SideStep} t (record { side = side; answer = Refused Levels })
-          (record { side = placed s p n side; answer = Done })).answer
-          ≡ cond t (Refused Levels) Done
+          → (cond {A = SideStep} t (record { side = side; answer = Err Levels })
+          (record { side = placed s p n side; answer = (Ok tt) })).answer
+          ≡ cond t (Err Levels) (Ok tt)
       go true = refl
       go false = refl
 
@@ -67,7 +65,7 @@ module _ (side : Side) (s : Bool) (p : ℤ) (old count : ℕ) (full : is_full si
   range-answer (pos n) = go (leb n 4294967295) refl
     where
       go : (t : Bool) → leb n 4294967295 ≡ t
-          → (quote_with side s p old (cond (leb n 4294967295) (Is n) Wrong)).answer ≡ quotation_verdict (pos old) (pos n) count
+          → (quote_with side s p old (cond (leb n 4294967295) (Some n) None)).answer ≡ quotation_verdict (pos old) (pos n) count
       go true e =
           rw (e, le-ltb n 0 (omega arith), le-ltb 4294967295 n (leb-true n 4294967295 e)) (quantity-answer n)
       go false e =
@@ -123,21 +121,21 @@ far-is z = go (lt_z (pos 9000000000000000000) z)
 
 -- A sum that was within the limit.
 added_is : (sum x : ℤ) → beyond sum ≡ false
-    → added_to sum x ≡ cond (too_far (sum +ℤ x)) Beyond (Within (sum +ℤ x))
+    → added_to sum x ≡ cond (too_far (sum +ℤ x)) None (Some (sum +ℤ x))
 unfolding added_to
 added_is sum x e = rw (e, far-is (sum +ℤ x))
 
 both-answer : (b : Book) (o : Level) (f g : Bool) (x y : ℤ)
-    → (match_with b o (both_of (cond f Beyond (Within x)) (cond g Beyond (Within y)))).answer
-    ≡ cond (f || g) (Refused Volume) Done
+    → (match_with b o (both_of (cond f None (Some x)) (cond g None (Some y)))).answer
+    ≡ cond (f || g) (Err Volume) (Ok tt)
 both-answer b o true g x y = refl
 both-answer b o false true x y = refl
 both-answer b o false false x y = refl
 
 -- The checks in their order.
-checks : (b : Book) (next : Step) (i j k f : Bool) → next.answer ≡ cond f (Refused Volume) Done
-    → (checked_match (cond i (Refused Quantity) (cond j (Refused Quantity) (cond k (Refused Volume) Done))) b next).answer
-    ≡ cond (i || j) (Refused Quantity) (cond (k || f) (Refused Volume) Done)
+checks : (b : Book) (next : Step) (i j k f : Bool) → next.answer ≡ cond f (Err Volume) (Ok tt)
+    → (checked_match (cond i (Err Quantity) (cond j (Err Quantity) (cond k (Err Volume) (Ok tt)))) b next).answer
+    ≡ cond (i || j) (Err Quantity) (cond (k || f) (Err Volume) (Ok tt))
 checks b next true j k f e = refl
 checks b next false true k f e = refl
 checks b next false false true f e = refl
@@ -145,7 +143,7 @@ checks b next false false false f e = e
 
 module _ (b : Book) (es : List Event) (h : Holds b es) (o : Level) where
   sums-answer : (match_summed b o).answer
-      ≡ cond (too_far (turnover_of (es ++ (Match o ∷ []))) || too_far (volume_of (es ++ (Match o ∷ [])))) (Refused Volume) Done
+      ≡ cond (too_far (turnover_of (es ++ (Match o ∷ []))) || too_far (volume_of (es ++ (Match o ∷ [])))) (Err Volume) (Ok tt)
   unfolding match_summed summed_with more_turnover more_volume
   sums-answer =
       rw (

@@ -11,20 +11,19 @@ use Rattle.ftd.specs.Bytes.{Bytes, be32_of, part, joined}
 use Rattle.ftd.specs.Runs.{run_of}
 use Rattle.ftd.specs.Fields.{field, fields_of, bytes_of}
 use Rattle.ftd.specs.Places.{cut_item, item_of, item_bytes}
-use Rattle.ftd.specs.declared.places.ItemPlace.{ItemPlace}
-use Rattle.ftd.specs.declared.places.ItemPlace.TheVariants.{NoItem, Item}
 use Rattle.ftd.proofs.Lists.{be32-width}
 use Rattle.ftd.proofs.runs.Laws.{run-joined}
 use Rattle.ftd.proofs.fields.Laws.{left-bytes, right-bytes}
 use Rattle.book.specs.declared.levels.Level.{Level}
 use Rattle.book.specs.declared.event.Event.{Event}
 use Rattle.book.specs.declared.event.Event.TheVariants.{Nothing, Quotation, Match}
-use Rattle.book.specs.declared.event.Price.{Price}
-use Rattle.book.specs.declared.event.Price.TheVariants.{NoPrice, Units}
+use Rattle.book.specs.Types.{Price}
 use Rattle.book.specs.Event.{quotation_tid, match_tid, quotation_fid, match_fid, quoted, matched, same_bytes, price_of}
 use Rattle.book.specs.Event.{priced, faced, sided, quotation_in, match_in, is_field, event_of}
 use Rattle.book.specs.Calls.{events_of}
 use Rattle.book.specs.Verdict.{Wide}
+use Rattle.std.specs.Prelude.{Some, None}
+use Rattle.ftd.specs.Types.{MaybeItem}
 
 -- Each event of a list.
 abbrev pub AllWide : List Event → Type 0
@@ -50,9 +49,9 @@ item-bytes l fid i b = go (item_of fid i)
     cut true start width = take-bytes width (drop start l) (drop-bytes start l b)
     cut false start width = no_bytes
 
-    go : (p : ItemPlace) → Bytes (cut_item l p)
-    go NoItem = no_bytes
-    go (Item kind scale start width) = cut (leb (start + width) (length l)) start width
+    go : (p : MaybeItem) → Bytes (cut_item l p)
+    go None = no_bytes
+    go (Some found) = cut (leb (found.start + found.width) (length l)) found.start found.width
 
 -- ─── Events ───
 
@@ -75,8 +74,8 @@ sided-wide kind direction o h =
 
 priced-wide : (p : Price) (v : ℕ) (make : Level → Event)
     → ((q : ℤ) → Wide (make (record { price = q; quantity = v }))) → Wide (priced p v make)
-priced-wide NoPrice v make f = tt
-priced-wide (Units q) v make f = f q
+priced-wide None v make f = tt
+priced-wide (Some q) v make f = f q
 
 quotation-wide : (code bytes : List ℕ) → Bytes bytes → Wide (quotation_in code bytes)
 unfolding quotation_in

@@ -5,14 +5,11 @@ use mathlib.Core.List.{List, [], ◌∷◌, ◌++◌}
 use Rattle.ftd.specs.Fields.{most_content}
 use Rattle.ftd.specs.Content.{content_check}
 use Rattle.ftd.specs.declared.composition.Direction.TheVariants.{Down}
-use Rattle.ftd.specs.declared.items.Checked.{Checked}
-use Rattle.ftd.specs.declared.items.Checked.TheVariants.{Passed}
-use Rattle.ftd.specs.declared.items.Checked.TheVariants.{Refused as Unfit}
+use Rattle.ftd.specs.Types.{Checked}
 use Rattle.book.specs.declared.event.Event.{Event}
 use Rattle.book.specs.declared.calls.Book.{Book}
 use Rattle.book.specs.declared.calls.Step.{Step}
-use Rattle.book.specs.declared.calls.Outcome.{Outcome}
-use Rattle.book.specs.declared.calls.Outcome.TheVariants.{Done, Refused}
+use Rattle.book.specs.Types.{Outcome}
 use Rattle.book.specs.Calls.{fresh_book, applied, go_on, walked, events_of, or_kept, checked_then, take_of}
 use Rattle.book.specs.Agreement.{Call, world, after}
 use Rattle.book.specs.Verdict.{or_else, verdicts_of, after_check, BookRefusals}
@@ -23,6 +20,7 @@ use Rattle.book.proofs.verdict.Start.{start-takes, start-refuses, start-names, t
 use Rattle.book.proofs.verdict.Answers.{event-verdict}
 use Rattle.book.proofs.verdict.First.{first-is}
 use Rattle.book.proofs.verdict.Bytes.{AllWide, events-wide}
+use Rattle.std.specs.Prelude.{Ok, Err}
 
 walked-verdict : (new : List Event) (b : Book) (es : List Event) → Holds b es → AllWide new
     → (walked b new).answer ≡ verdicts_of es new
@@ -32,15 +30,15 @@ walked-verdict (e ∷ new) b es h w =
     (go (λ k. walked-verdict new (applied b e).book (es ++ (e ∷ [])) (applied-holds b es e h k) w.1)
     (applied b e).answer refl)
   where
-    go : ((applied b e).answer ≡ Done → (walked (applied b e).book new).answer ≡ verdicts_of (es ++ (e ∷ [])) new)
+    go : ((applied b e).answer ≡ (Ok tt) → (walked (applied b e).book new).answer ≡ verdicts_of (es ++ (e ∷ [])) new)
         → (a : Outcome) → (applied b e).answer ≡ a
         → (go_on a (applied b e) (walked (applied b e).book new)).answer ≡ or_else a (verdicts_of (es ++ (e ∷ [])) new)
-    go rest Done q = rest q
-    go rest (Refused r) q = q
+    go rest (Ok tt) q = rest q
+    go rest (Err r) q = q
 
 kept-answer : (b : Book) (s : Step) (a : Outcome) → s.answer ≡ a → (or_kept b a s).answer ≡ s.answer
-kept-answer b s Done e = refl
-kept-answer b s (Refused r) e = sym e
+kept-answer b s (Ok tt) e = refl
+kept-answer b s (Err r) e = sym e
 
 take-verdict : (b : Book) (es : List Event) → Holds b es → (tid : ℕ) (content : List ℕ)
     → AllWide (events_of b.code tid content)
@@ -54,10 +52,10 @@ take-verdict b es h tid content w = go (content_check tid Down content most_cont
         (or_kept b (walked b (events_of b.code tid content)).answer (walked b (events_of b.code tid content)))
         ).answer
         ≡ after_check k (verdicts_of es (events_of b.code tid content))
-    go Passed =
+    go (Ok tt) =
         kept-answer b (walked b (events_of b.code tid content)) (walked b (events_of b.code tid content)).answer refl
         ∙ walked-verdict (events_of b.code tid content) b es h w
-    go (Unfit r) = refl
+    go (Err r) = refl
 
 module _ (calls : List Call) where
   holds_then : Holds (after (world fresh_book []) calls).book (after (world fresh_book []) calls).taken

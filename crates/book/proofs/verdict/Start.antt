@@ -11,12 +11,12 @@ use lib.Dec.{ltb, leb, eqb}
 use Rattle.ftd.specs.Values.{every, is_text, is_value}
 use Rattle.ftd.specs.declared.refusal.Refusal.TheVariants.{Item}
 use Rattle.book.specs.declared.calls.Book.{Book}
-use Rattle.book.specs.declared.calls.Outcome.TheVariants.{Done, Refused}
 use Rattle.book.specs.Quantity.{twos}
 use Rattle.book.specs.Calls.{is_code, done, refusing, started, start_of}
 use Rattle.book.specs.Verdict.{IsText, IsCode, Increment}
 use Rattle.book.proofs.quantity.Increments.{twos-below, twos-above}
 use Rattle.book.proofs.agreement.Events.{not_done}
+use Rattle.std.specs.Prelude.{Ok, Err}
 
 -- ─── A code ───
 
@@ -59,37 +59,37 @@ module _ (code : List ℕ) where
   says-code c = rw (eq-eqb (length code) 10 c.ten, says-every code c.text)
 
 module _ (b : Book) (code : List ℕ) where
-  start-answer : (start_of b code).answer ≡ cond (is_code code) Done (Refused Item)
+  start-answer : (start_of b code).answer ≡ cond (is_code code) (Ok tt) (Err Item)
   unfolding start_of
   start-answer = go (is_code code)
     where
-      go : (t : Bool) → (cond t (done (started code)) (refusing b Item)).answer ≡ cond t Done (Refused Item)
+      go : (t : Bool) → (cond t (done (started code)) (refusing b Item)).answer ≡ cond t (Ok tt) (Err Item)
       go true = refl
       go false = refl
 
-  pub start-takes : ((start_of b code).answer ≡ Done) ↔ IsCode code
+  pub start-takes : ((start_of b code).answer ≡ (Ok tt)) ↔ IsCode code
   start-takes = (to (is_code code) refl, from)
     where
-      to : (t : Bool) → is_code code ≡ t → (start_of b code).answer ≡ Done → IsCode code
+      to : (t : Bool) → is_code code ≡ t → (start_of b code).answer ≡ (Ok tt) → IsCode code
       to true q e = code-says code q
       to false q e =
-          let z : (start_of b code).answer ≡ Refused Item = start-answer ∙ rw q in
+          let z : (start_of b code).answer ≡ Err Item = start-answer ∙ rw q in
           absurd (not_done Item (sym z ∙ e))
 
-      from : IsCode code → (start_of b code).answer ≡ Done
+      from : IsCode code → (start_of b code).answer ≡ (Ok tt)
       from c = start-answer ∙ (rw (says-code code c))
 
-  pub start-refuses : ((start_of b code).answer ≡ Refused Item) ↔ (IsCode code → ⊥)
+  pub start-refuses : ((start_of b code).answer ≡ Err Item) ↔ (IsCode code → ⊥)
   start-refuses = (to, from (is_code code) refl)
     where
-      to : (start_of b code).answer ≡ Refused Item → IsCode code → ⊥
+      to : (start_of b code).answer ≡ Err Item → IsCode code → ⊥
       to e c = not_done Item (sym e ∙ start-takes.1 c)
 
-      from : (t : Bool) → is_code code ≡ t → (IsCode code → ⊥) → (start_of b code).answer ≡ Refused Item
+      from : (t : Bool) → is_code code ≡ t → (IsCode code → ⊥) → (start_of b code).answer ≡ Err Item
       from true q n = absurd (n (code-says code q))
       from false q n = start-answer ∙ rw q
 
-  pub start-names : (start_of b code).answer ≡ Done → (start_of b code).book.code ≡ code
+  pub start-names : (start_of b code).answer ≡ (Ok tt) → (start_of b code).book.code ≡ code
   unfolding start_of
   start-names e = rw (says-code code (start-takes.0 e))
 

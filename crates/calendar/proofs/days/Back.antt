@@ -8,10 +8,10 @@ use lib.ListN.{take}
 use Rattle.ftd.specs.Gregorian.{leap_year, months_by, months, real_date}
 use Rattle.ftd.proofs.gregorian.Laws.{real-bounds}
 use Rattle.calendar.specs.declared.days.CivilDate.{CivilDate}
-use Rattle.calendar.specs.declared.days.DayFound.TheVariants.{NoDay, Day}
 use Rattle.calendar.specs.Days.{date, total, years_days, day_of, day_for}
 use Rattle.calendar.specs.Days.Helpers.{before_year, before_month}
 use Rattle.calendar.proofs.days.Counting.{before-month, years-on}
+use Rattle.std.specs.Prelude.{Some, None}
 
 -- A month begins in the first 367 days.
 pub month-starts : (leap : Bool) (m : ℕ) → m ≤ 13 → before_month leap m ≤ 367
@@ -47,15 +47,15 @@ module _ (y m d : ℕ) (h : 1970 ≤ y) where
         rw (← l) (omega arith)
 
 module _ (c : CivilDate) where
-  pub day-early : c.year < 1970 → NoDay ≡ day_for c
+  pub day-early : c.year < 1970 → None ≡ day_for c
   unfolding day_for
   day-early h = rw (lt-ltb c.year 1970 h)
 
   module _ (h : 1970 ≤ c.year) (a : Bool) (p : a ≡ real_date c.year c.month c.day) where
-    pub day-unreal : a ≡ false → NoDay ≡ day_for c
+    pub day-unreal : a ≡ false → None ≡ day_for c
     unfolding day_for
     day-unreal e = rw (le-ltb c.year 1970 h, ← p, e)
 
-    pub day-real : a ≡ true → (n : ℕ) → n ≡ day_of (date c.year c.month c.day) → Day n ≡ day_for c
+    pub day-real : a ≡ true → (n : ℕ) → n ≡ day_of (date c.year c.month c.day) → Some n ≡ day_for c
     unfolding day_for
     day-real e n q = rw (le-ltb c.year 1970 h, ← p, e, q)

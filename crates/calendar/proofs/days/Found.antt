@@ -3,7 +3,7 @@ use Prim.Native.Nat.{ℕ, suc, ◌+◌, ◌-◌, ◌*◌, ◌/◌, ◌<◌, ◌�
 use native.Mathlib.Omega.{arith}
 use mathlib.Core.Path.{◌≡◌, refl, sym, ap, ◌∙◌}
 use mathlib.Core.Bool.{Bool, true, false, cond}
-use borrow.Author.Tests.{lt-ltb, le-ltb, le-leb, lt-leb, leb-true, leb-false, ltb-true, ltb-false}
+use borrow.Author.Tests.{le-leb, lt-leb, leb-true, leb-false, ltb-true, ltb-false}
 use lib.ListN.{get_or, take}
 use lib.Dec.{ltb, leb}
 use Rattle.ftd.specs.Gregorian.{leap_year, months_by, months}
@@ -89,34 +89,6 @@ month-found false n k m small h e f = go (ltb n 59) refl e
           from = omega (arith, late false m (omega arith));
           to = omega (arith, late false (m + 1) (omega arith));
         }
-
--- What a day of the year lacks, test by test.
-module _ (leap : Bool) (n : ℕ) where
-  pub lacks-none-leap : leap ≡ true → n < 60 → (0 ≡ lacking_at leap n) × (0 ≤ 2)
-  unfolding lacking_at
-  lacks-none-leap e h = (rw (e, lt-ltb n 60 h), omega arith)
-
-  pub lacks-one : leap ≡ true → 60 ≤ n → (1 ≡ lacking_at leap n) × (1 ≤ 2)
-  unfolding lacking_at
-  lacks-one e h = (rw (e, le-ltb n 60 h), omega arith)
-
-  pub lacks-none : leap ≡ false → n < 59 → (0 ≡ lacking_at leap n) × (0 ≤ 2)
-  unfolding lacking_at
-  lacks-none e h = (rw (e, lt-ltb n 59 h), omega arith)
-
-  pub lacks-two : leap ≡ false → 59 ≤ n → (2 ≡ lacking_at leap n) × (2 ≤ 2)
-  unfolding lacking_at
-  lacks-two e h = (rw (e, le-ltb n 59 h), omega arith)
-
-  -- The days before a month, test by test.
-  pub before-early : n ≤ 2 → (367 * n - 362) / 12 ≡ before_month leap n
-  before-early h = sym (early leap n h)
-
-  pub before-leap : 2 < n → leap ≡ true → (367 * n - 362) / 12 - 1 ≡ before_month leap n
-  before-leap h e = sym (late leap n h ∙ rw e)
-
-  pub before-other : 2 < n → leap ≡ false → (367 * n - 362) / 12 - 2 ≡ before_month leap n
-  before-other h e = sym (late leap n h ∙ rw e)
 
 -- ─── The date ───
 

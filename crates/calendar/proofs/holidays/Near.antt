@@ -201,13 +201,6 @@ module _ (l : List ℕ) where
         let s : next + 1 ≡ suc next = omega arith in
         rw (e, s, p)
 
-    pub search-here : a ≡ true → (next ≡ next_trading l day) × (next ≤ day + 47)
-    search-here e = (
-      sym (ap (λ (b : Bool). cond b next (trading_from l (day + 48 - (next + 1)) (next + 1))) e)
-          ∙ sym turn ∙ w,
-      g,
-    )
-
     pub search-turn : a ≡ false
         → (trading_from l (day + 48 - (next + 1)) (next + 1) ≡ next_trading l day) × (next + 1 ≤ day + 47)
     search-turn e =

@@ -1,15 +1,13 @@
 -- Two sessions that have a second overlap. Assumes nothing.
-use Prim.Native.Nat.{ℕ, ◌/◌, ◌%◌, ◌<◌}
+use Prim.Native.Nat.{ℕ}
 use native.Mathlib.Omega.{arith}
-use mathlib.Core.Path.{◌≡◌, refl, sym, ◌∙◌}
+use mathlib.Core.Path.{◌≡◌, refl}
 use mathlib.Core.List.{List}
-use mathlib.Core.Bool.{Bool, true, false, not, ◌&&◌, false≢true}
-use borrow.Author.Tests.{lt-ltb, leb-true, ltb-true, ltb-false}
-use lib.ListN.{length}
-use lib.Dec.{eqb, ltb, leb}
-use Rattle.calendar.specs.Calendar.{some, wrong_session, overlap, overlaps_before, wrong_sessions, holds}
+use mathlib.Core.Bool.{Bool, true, false, ◌&&◌, false≢true}
+use borrow.Author.Tests.{lt-ltb, leb-true, ltb-true}
+use lib.Dec.{ltb, leb}
+use Rattle.calendar.specs.Calendar.{overlap, holds}
 use Rattle.calendar.specs.Calendar.{first_of, last_of}
-use Rattle.calendar.proofs.Some.{or-neither, none-at}
 
 pub both : (a b : Bool) → (a && b) ≡ true → (a ≡ true) × (b ≡ true)
 both true b e = (refl, e)

@@ -3,12 +3,11 @@ use Prim.Native.Nat.{ℕ, ◌/◌, ◌%◌, ◌<◌}
 use native.Mathlib.Omega.{arith}
 use mathlib.Core.Path.{◌≡◌, refl, sym, ◌∙◌}
 use mathlib.Core.List.{List}
-use mathlib.Core.Bool.{Bool, true, false, not, ◌&&◌, false≢true}
-use borrow.Author.Tests.{lt-ltb, leb-true, ltb-true, ltb-false}
+use mathlib.Core.Bool.{Bool, true, false, not, false≢true}
+use borrow.Author.Tests.{ltb-true, ltb-false}
 use lib.ListN.{length}
-use lib.Dec.{eqb, ltb, leb}
+use lib.Dec.{eqb, ltb}
 use Rattle.calendar.specs.Calendar.{some, wrong_session, overlap, overlaps_before, wrong_sessions, holds}
-use Rattle.calendar.specs.Calendar.{first_of, last_of}
 use Rattle.calendar.proofs.Some.{or-neither, none-at}
 use Rattle.calendar.proofs.sessions.Common.{common}
 

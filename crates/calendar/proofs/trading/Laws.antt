@@ -10,8 +10,6 @@ use lib.ListN.{length, drop, replicate}
 use lib.Dec.{ltb, eqb}
 use Rattle.ftd.specs.declared.refusal.Refusal.TheVariants.{Sessions, Holiday}
 use Rattle.calendar.specs.declared.trading.Calendar.{Calendar}
-use Rattle.calendar.specs.declared.trading.SetAnswer.TheVariants.{Done, Refused}
-use Rattle.calendar.specs.declared.trading.TradeTime.TheVariants.{Outside, Inside}
 use Rattle.calendar.specs.Days.{date_number}
 use Rattle.calendar.specs.Calendar.{wrong_sessions, wrong_holidays, step, set_of, is_trading, next_trading}
 use Rattle.calendar.specs.Calendar.{china_day, china_second, in_session, trade_day, ask_of}
@@ -19,6 +17,7 @@ use Rattle.calendar.specs.Calendar.Laws.{CalendarLaws}
 use Rattle.calendar.proofs.Some.{or-neither}
 use Rattle.calendar.proofs.holidays.Near.{next-trading}
 use Rattle.calendar.proofs.sessions.One.{one-alone}
+use Rattle.std.specs.Prelude.{Some, None, Ok, Err}
 
 pub calendar-laws : CalendarLaws
 calendar-laws = record { next = next-trading; one = λ l w s i j h k p q. one-alone l s w i j h k p q }
@@ -33,18 +32,18 @@ drop-zeros zero (suc k) =
 drop-zeros (suc n) (suc k) = rw (suc-sub-suc n k) (drop-zeros n k)
 
 module _ (c : Calendar) (ss hs : List ℕ) (a : Bool) (p : a ≡ wrong_sessions ss) where
-  pub set-26 : a ≡ true → step c (Refused Sessions) ≡ set_of c ss hs
+  pub set-26 : a ≡ true → step c (Err Sessions) ≡ set_of c ss hs
   unfolding set_of
   set-26 e = rw (← p, e)
 
   module _ (e : a ≡ false) (b : Bool) (q : b ≡ wrong_holidays hs) where
-    pub set-27 : b ≡ true → step c (Refused Holiday) ≡ set_of c ss hs
+    pub set-27 : b ≡ true → step c (Err Holiday) ≡ set_of c ss hs
     unfolding set_of
     set-27 f = rw (← p, e, ← q, f)
 
     pub set-done : b ≡ false → (x y : List ℕ) → x ≡ ss ++ drop (length ss) (replicate 24 0)
         → y ≡ hs ++ drop (length hs) (replicate 32 0)
-        → step (record { sessions = x; holidays = y }) Done ≡ set_of c ss hs
+        → step (record { sessions = x; holidays = y }) (Ok tt) ≡ set_of c ss hs
     unfolding set_of
     set-done f x y i j = rw (← p, e, ← q, f, i, j, drop-zeros 24 (length ss), drop-zeros 32 (length hs))
 
@@ -86,21 +85,21 @@ trades-most l d a p e h = go (eqb d 49709) refl (eqb d 49710) refl
 
 module _ (c : Calendar) (t d s : ℕ) (e : d ≡ china_day t) (f : s ≡ china_second t)
     (a : Bool) (p : a ≡ is_trading c.holidays d) where
-  pub ask-idle : a ≡ false → Outside ≡ ask_of c t
+  pub ask-idle : a ≡ false → None ≡ ask_of c t
   unfolding ask_of
   ask-idle w = rw (← e, ← p, w)
 
   module _ (w : a ≡ true) (b : Bool) (q : b ≡ in_session false c.sessions s) where
-    pub ask_out : b ≡ false → Outside ≡ ask_of c t
+    pub ask_out : b ≡ false → None ≡ ask_of c t
     unfolding ask_of
     ask_out v = rw (← e, ← p, w, ← f, ← q, v)
 
     module _ (v : b ≡ true) (g : Bool) (r : g ≡ in_session true c.sessions s) where
-      pub ask-own : g ≡ false → (n : ℕ) → n ≡ date_number d → Inside n ≡ ask_of c t
+      pub ask-own : g ≡ false → (n : ℕ) → n ≡ date_number d → Some n ≡ ask_of c t
       unfolding ask_of trade_day
       ask-own u n i = rw (← f, ← r, u, ← e, ← p, w, ← q, v, i)
 
       pub ask-late : g ≡ true → (x : ℕ) → x ≡ next_trading c.holidays d → (n : ℕ) → n ≡ date_number x
-          → Inside n ≡ ask_of c t
+          → Some n ≡ ask_of c t
       unfolding ask_of trade_day
       ask-late u x j n i = rw (← f, ← r, u, ← e, ← p, w, ← q, v, i, j)

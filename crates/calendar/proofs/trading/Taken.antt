@@ -10,14 +10,14 @@ use lib.ListN.{length}
 use lib.Dec.{leb, ltb, eqb}
 use Rattle.ftd.specs.declared.refusal.Refusal.TheVariants.{Sessions, Holiday}
 use Rattle.calendar.specs.declared.trading.Calendar.{Calendar}
-use Rattle.calendar.specs.declared.trading.SetAnswer.{SetAnswer}
-use Rattle.calendar.specs.declared.trading.SetAnswer.TheVariants.{Done, Refused}
+use Rattle.calendar.specs.Types.{SetAnswer}
 use Rattle.calendar.specs.Calendar.{some, first_of, last_of, wrong_session, overlap, overlaps_before, wrong_sessions}
 use Rattle.calendar.specs.Calendar.{real_number, unreal, wrong_holidays, padded, step, set_of}
 use Rattle.calendar.specs.Calendar.Taken.{Sound, Dated, SetLaws}
 use Rattle.calendar.proofs.Some.{or-neither, some-found, none-at}
 use Rattle.calendar.proofs.sessions.One.{one-alone}
 use Rattle.calendar.proofs.trading.Times.{says-has}
+use Rattle.std.specs.Prelude.{Ok, Err}
 
 none-some : (p : ℕ → Bool) (n : ℕ) → ((i : ℕ) → i < n → p i ≡ false) → some n p ≡ false
 none-some p n f = go (some n p) refl
@@ -110,19 +110,19 @@ module _ (l : List ℕ) where
 -- ─── Set ───
 
 abbrev answer_by : Bool → Bool → SetAnswer
-answer_by a b = cond a (Refused Sessions) (cond b (Refused Holiday) Done)
+answer_by a b = cond a (Err Sessions) (cond b (Err Holiday) (Ok tt))
 
-is-done : (a b : Bool) → answer_by a b ≡ Done → (a ≡ false) × (b ≡ false)
+is-done : (a b : Bool) → answer_by a b ≡ (Ok tt) → (a ≡ false) × (b ≡ false)
 is-done true b e = absurd (let z : ◌≡◌ {A = ℕ} 0 1 = cc in omega arith)
 is-done false true e = absurd (let z : ◌≡◌ {A = ℕ} 0 1 = cc in omega arith)
 is-done false false e = (refl, refl)
 
-is-26 : (a b : Bool) → answer_by a b ≡ Refused Sessions → a ≡ true
+is-26 : (a b : Bool) → answer_by a b ≡ Err Sessions → a ≡ true
 is-26 true b e = refl
 is-26 false true e = absurd (let z : ◌≡◌ {A = ℕ} 0 1 = cc in omega arith)
 is-26 false false e = absurd (let z : ◌≡◌ {A = ℕ} 0 1 = cc in omega arith)
 
-is-27 : (a b : Bool) → answer_by a b ≡ Refused Holiday → (a ≡ false) × (b ≡ true)
+is-27 : (a b : Bool) → answer_by a b ≡ Err Holiday → (a ≡ false) × (b ≡ true)
 is-27 true b e = absurd (let z : ◌≡◌ {A = ℕ} 0 1 = cc in omega arith)
 is-27 false true e = (refl, refl)
 is-27 false false e = absurd (let z : ◌≡◌ {A = ℕ} 0 1 = cc in omega arith)
@@ -138,43 +138,43 @@ module _ (c : Calendar) (ss hs : List ℕ) where
   set-answer = go (wrong_sessions ss) (wrong_holidays hs)
     where
       go : (a b : Bool)
-          → (cond a (step c (Refused Sessions))
-          (cond b (step c (Refused Holiday)) (step (record { sessions = padded 24 ss; holidays = padded 32 hs }) Done))
+          → (cond a (step c (Err Sessions))
+          (cond b (step c (Err Holiday)) (step (record { sessions = padded 24 ss; holidays = padded 32 hs }) (Ok tt)))
           ).answer
           ≡ answer_by a b
       go true b = refl
       go false true = refl
       go false false = refl
 
-  set-done : ((set_of c ss hs).answer ≡ Done) ↔ (Sound ss × Dated hs)
+  set-done : ((set_of c ss hs).answer ≡ (Ok tt)) ↔ (Sound ss × Dated hs)
   set-done = (to, from)
     where
-      to : (set_of c ss hs).answer ≡ Done → Sound ss × Dated hs
+      to : (set_of c ss hs).answer ≡ (Ok tt) → Sound ss × Dated hs
       to e =
           let x = is-done (wrong_sessions ss) (wrong_holidays hs) (sym set-answer ∙ e) in
           (sound-says ss x.0, dated-says hs x.1)
 
-      from : Sound ss × Dated hs → (set_of c ss hs).answer ≡ Done
+      from : Sound ss × Dated hs → (set_of c ss hs).answer ≡ (Ok tt)
       from x = set-answer ∙ (rw (says-sound ss x.0, says-dated hs x.1))
 
-  set-26 : ((set_of c ss hs).answer ≡ Refused Sessions) ↔ (Sound ss → ⊥)
+  set-26 : ((set_of c ss hs).answer ≡ Err Sessions) ↔ (Sound ss → ⊥)
   set-26 = (to, from)
     where
-      to : (set_of c ss hs).answer ≡ Refused Sessions → Sound ss → ⊥
+      to : (set_of c ss hs).answer ≡ Err Sessions → Sound ss → ⊥
       to e s = false≢true (sym (says-sound ss s) ∙ is-26 (wrong_sessions ss) (wrong_holidays hs) (sym set-answer ∙ e))
 
-      from : (Sound ss → ⊥) → (set_of c ss hs).answer ≡ Refused Sessions
+      from : (Sound ss → ⊥) → (set_of c ss hs).answer ≡ Err Sessions
       from n = set-answer ∙ (rw (is_true (wrong_sessions ss) (sound-says ss) n))
 
-  set-27 : ((set_of c ss hs).answer ≡ Refused Holiday) ↔ (Sound ss × (Dated hs → ⊥))
+  set-27 : ((set_of c ss hs).answer ≡ Err Holiday) ↔ (Sound ss × (Dated hs → ⊥))
   set-27 = (to, from)
     where
-      to : (set_of c ss hs).answer ≡ Refused Holiday → Sound ss × (Dated hs → ⊥)
+      to : (set_of c ss hs).answer ≡ Err Holiday → Sound ss × (Dated hs → ⊥)
       to e =
           let x = is-27 (wrong_sessions ss) (wrong_holidays hs) (sym set-answer ∙ e) in
           (sound-says ss x.0, λ d. false≢true (sym (says-dated hs d) ∙ x.1))
 
-      from : Sound ss × (Dated hs → ⊥) → (set_of c ss hs).answer ≡ Refused Holiday
+      from : Sound ss × (Dated hs → ⊥) → (set_of c ss hs).answer ≡ Err Holiday
       from x = set-answer ∙ (rw (says-sound ss x.0, is_true (wrong_holidays hs) (dated-says hs) x.1))
 
 pub set-laws : SetLaws

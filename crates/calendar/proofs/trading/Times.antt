@@ -9,9 +9,7 @@ use lib.ListN.{length, get_or, replicate, get_or-eq_default}
 use lib.Dec.{leb, ltb, eqb}
 use Rattle.ftd.specs.declared.refusal.Refusal.TheVariants.{Sessions, Holiday}
 use Rattle.calendar.specs.declared.trading.Calendar.{Calendar}
-use Rattle.calendar.specs.declared.trading.SetAnswer.TheVariants.{Done, Refused}
 use Rattle.calendar.specs.declared.trading.SetStep.{SetStep}
-use Rattle.calendar.specs.declared.trading.TradeTime.TheVariants.{Outside, Inside}
 use Rattle.calendar.specs.Days.{date_number}
 use Rattle.calendar.specs.Calendar.{some, holds, first_of, last_of, is_late, counts, in_session, weekday, stands_at}
 use Rattle.calendar.specs.Calendar.{is_holiday, is_trading, next_trading, china_day, china_second, trade_day, ask_of}
@@ -22,6 +20,7 @@ use Rattle.calendar.proofs.days.Laws.{day-laws}
 use Rattle.calendar.proofs.holidays.Near.{next-trading}
 use Rattle.calendar.proofs.sessions.Common.{both}
 use Rattle.calendar.proofs.sessions.One.{one-alone}
+use Rattle.std.specs.Prelude.{Some, None, Ok, Err}
 
 -- ─── Tests and what they say ───
 
@@ -93,13 +92,13 @@ not_late : (l : List ℕ) (i : ℕ) → lateness l i ≡ 0 → is_late l i ≡ f
 not_late l i h = rw (eq-eqb (lateness l i) 0 h)
 
 module _ (c : Calendar) (t : ℕ) where
-  ask-inside : (d : ℕ) → ask_of c t ≡ Inside d
+  ask-inside : (d : ℕ) → ask_of c t ≡ Some d
       → (is_trading c.holidays (china_day t) ≡ true) × (in_session false c.sessions (china_second t) ≡ true)
       × (d ≡ date_number (trade_day c t))
   unfolding ask_of
   ask-inside d e = go (is_trading c.holidays (china_day t)) (in_session false c.sessions (china_second t)) e
     where
-      go : (a b : Bool) → cond (a && b) (Inside (date_number (trade_day c t))) Outside ≡ Inside d
+      go : (a b : Bool) → cond (a && b) (Some (date_number (trade_day c t))) None ≡ Some d
           → (a ≡ true) × (b ≡ true) × (d ≡ date_number (trade_day c t))
       go true true q =
           let z : d ≡ date_number (trade_day c t) = cc in
@@ -108,7 +107,7 @@ module _ (c : Calendar) (t : ℕ) where
       go false b q = absurd (let z : ◌≡◌ {A = ℕ} 0 1 = cc in omega arith)
 
   ask-found : is_trading c.holidays (china_day t) ≡ true → in_session false c.sessions (china_second t) ≡ true
-      → ask_of c t ≡ Inside (date_number (trade_day c t))
+      → ask_of c t ≡ Some (date_number (trade_day c t))
   unfolding ask_of
   ask-found e f = rw (e, f)
 
@@ -248,19 +247,19 @@ module _ (ss hs : List ℕ) (whole : length ss % 3 ≡ 0) (few : length ss / 3 �
   }
 
 abbrev newly : List ℕ → List ℕ → SetStep
-newly ss hs = step (record { sessions = padded 24 ss; holidays = padded 32 hs }) Done
+newly ss hs = step (record { sessions = padded 24 ss; holidays = padded 32 hs }) (Ok tt)
 
 -- What Set has taken.
-set-taken : (c : Calendar) (ss hs : List ℕ) → (set_of c ss hs).answer ≡ Done
+set-taken : (c : Calendar) (ss hs : List ℕ) → (set_of c ss hs).answer ≡ (Ok tt)
     → (wrong_sessions ss ≡ false) × (wrong_holidays hs ≡ false)
     × ((set_of c ss hs).calendar ≡ record { sessions = padded 24 ss; holidays = padded 32 hs })
 unfolding set_of
 set-taken c ss hs e = go (wrong_sessions ss) (wrong_holidays hs) e
   where
     go : (a b : Bool)
-        → (cond a (step c (Refused Sessions)) (cond b (step c (Refused Holiday)) (newly ss hs))).answer ≡ Done
+        → (cond a (step c (Err Sessions)) (cond b (step c (Err Holiday)) (newly ss hs))).answer ≡ (Ok tt)
         → (a ≡ false) × (b ≡ false)
-        × ((cond a (step c (Refused Sessions)) (cond b (step c (Refused Holiday)) (newly ss hs))).calendar
+        × ((cond a (step c (Err Sessions)) (cond b (step c (Err Holiday)) (newly ss hs))).calendar
         ≡ record { sessions = padded 24 ss; holidays = padded 32 hs })
     go true b q = absurd (let z : ◌≡◌ {A = ℕ} 0 1 = cc in omega arith)
     go false true q = absurd (let z : ◌≡◌ {A = ℕ} 0 1 = cc in omega arith)
@@ -277,7 +276,7 @@ right-holidays : (l : List ℕ) → wrong_holidays l ≡ false → length l ≤ 
 unfolding wrong_holidays
 right-holidays l e = ltb-false 32 (length l) (or-neither (ltb 32 (length l)) _ e).0
 
-set_given : (c : Calendar) (ss hs : List ℕ) → (set_of c ss hs).answer ≡ Done
+set_given : (c : Calendar) (ss hs : List ℕ) → (set_of c ss hs).answer ≡ (Ok tt)
     → Answers (set_of c ss hs).calendar ss (length ss / 3) hs (length hs)
 set_given c ss hs e =
     let x = set-taken c ss hs e in

@@ -3,23 +3,22 @@
 use Rattle.std.specs.Prelude.{ℕ, List, [], ◌∷◌, ◌++◌, map, Bool, true, false, ◌&&◌, replicate, eqb, T}
 use Rattle.ftd.specs.Refusal.{number_of}
 use Rattle.calendar.specs.declared.trading.Calendar.{Calendar}
-use Rattle.calendar.specs.declared.trading.SetAnswer.{SetAnswer}
-use Rattle.calendar.specs.declared.trading.SetAnswer.TheVariants.{Done, Refused}
-use Rattle.calendar.specs.declared.trading.TradeTime.{TradeTime}
-use Rattle.calendar.specs.declared.trading.TradeTime.TheVariants.{Outside, Inside}
+use Rattle.calendar.specs.Types.{SetAnswer}
+use Rattle.calendar.specs.Types.{TradeTime}
 use Rattle.calendar.specs.Calendar.{fresh_calendar, set_of, ask_of, mark_date}
+use Rattle.std.specs.Prelude.{Some, None, Ok, Err}
 
 -- ─── Answers in numbers ───
 
 -- Set: 0, or the refusal's number.
 abbrev pub set_number : SetAnswer → ℕ
-set_number Done = 0
-set_number (Refused r) = number_of r
+set_number (Ok tt) = 0
+set_number (Err r) = number_of r
 
 -- Ask: 0 outside, or the trade date.
 abbrev pub time_number : TradeTime → ℕ
-time_number Outside = 0
-time_number (Inside date) = date
+time_number None = 0
+time_number (Some date) = date
 
 abbrev pub sets : List ℕ → List ℕ → ℕ
 sets sessions holidays = set_number (set_of fresh_calendar sessions holidays).answer

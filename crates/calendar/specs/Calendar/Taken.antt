@@ -3,9 +3,9 @@ use Rattle.std.specs.Prelude.{ℕ, ◌+◌, ◌*◌, ◌/◌, ◌%◌, ◌<◌, 
 use Rattle.ftd.specs.Gregorian.{real_date}
 use Rattle.ftd.specs.declared.refusal.Refusal.TheVariants.{Sessions, Holiday}
 use Rattle.calendar.specs.declared.trading.Calendar.{Calendar}
-use Rattle.calendar.specs.declared.trading.SetAnswer.TheVariants.{Done, Refused}
 use Rattle.calendar.specs.Calendar.{set_of}
 use Rattle.calendar.specs.Calendar.Times.{Has}
+use Rattle.std.specs.Prelude.{Ok, Err}
 
 -- Whole sessions, at most 8, each with a second and ended by 86,400, no two with a second in common.
 pub record Sound (sessions : List ℕ) : Type 0 where
@@ -25,9 +25,9 @@ pub record Dated (holidays : List ℕ) : Type 0 where
 pub record SetLaws : Type 0 where
   -- Taken exactly if both are right.
   pub done : (c : Calendar) (sessions holidays : List ℕ)
-      → ((set_of c sessions holidays).answer ≡ Done) ↔ (Sound sessions × Dated holidays)
+      → ((set_of c sessions holidays).answer ≡ (Ok tt)) ↔ (Sound sessions × Dated holidays)
   -- 26 exactly if the sessions are not, 27 exactly if the holidays alone are not.
   pub wrong_sessions : (c : Calendar) (sessions holidays : List ℕ)
-      → ((set_of c sessions holidays).answer ≡ Refused Sessions) ↔ (Sound sessions → ⊥)
+      → ((set_of c sessions holidays).answer ≡ Err Sessions) ↔ (Sound sessions → ⊥)
   pub wrong_holidays : (c : Calendar) (sessions holidays : List ℕ)
-      → ((set_of c sessions holidays).answer ≡ Refused Holiday) ↔ (Sound sessions × (Dated holidays → ⊥))
+      → ((set_of c sessions holidays).answer ≡ Err Holiday) ↔ (Sound sessions × (Dated holidays → ⊥))

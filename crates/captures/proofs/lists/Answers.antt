@@ -27,14 +27,14 @@ returns-in-Last c =
     λ e. last-same c.args.capture.now c.args.more c.args.text.now c.loop-len.at c.loop-len.to _ c.loop-len.invariant.2
     t.1.text-is t.0 (c.same.ensures.0 e)
 
-pub slice_bounds-out-end-in-More : goal.slice_bounds-out-end-in-More
-slice_bounds-out-end-in-More c =
+pub slice_bounds-out-end-else-text-to : goal.slice_bounds-out-end-else-text-to
+slice_bounds-out-end-else-text-to c =
     let t = more-told c.args.capture.now c.args.more c.loop-len.at c.loop-len.out _ _ c.write_line.ensures.output
     (omega arith) _ (sym c.in-More.is ∙ c.write_line.ensures.answer) in
     t.2.room
 
-pub slice_bounds-same-end-in-More : goal.slice_bounds-same-end-in-More
-slice_bounds-same-end-in-More c =
+pub slice_bounds-same-end-else-text-to : goal.slice_bounds-same-end-else-text-to
+slice_bounds-same-end-else-text-to c =
     let t = more-told c.args.capture.now c.args.more c.loop-len.at c.loop-len.out _ _ c.write_line.ensures.output
     (omega arith) _ (sym c.in-More.is ∙ c.write_line.ensures.answer) in
     sym (length-take-le _ _ t.2.room)
@@ -52,5 +52,5 @@ loop-len-preserved c =
       omega arith,
       omega arith,
       more_same c.args.capture.now c.args.more c.args.text.now c.loop-len.at c.loop-len.to _ c.loop-len.invariant.2
-          t.2.text-is t.0 _ _ t.1 (c.same-in-More.ensures.0 c.if-same.true),
+          t.2.text-is t.0 _ _ t.1 (c.same-else-text-to.ensures.0 c.if-not-same.false),
     )

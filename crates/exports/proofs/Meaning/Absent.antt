@@ -8,33 +8,18 @@ use Rattle.ftd.specs.declared.packet.Packet.TheVariants.{Short as TooShort, Link
 use Rattle.ftd.specs.declared.packet.Packet.TheVariants.{Refused as WrongPacket}
 use Rattle.ftd.specs.declared.item.FieldItem.TheVariants.{Number as ItemNumber, NoItem, NoValue, Char, Word, Int}
 use Rattle.ftd.specs.declared.item.FieldItem.TheVariants.{Text, Float, Date}
-use Rattle.ftd.specs.declared.tags.TradeDate.{TradeDate}
-use Rattle.ftd.specs.declared.tags.TradeDate.TheVariants.{None, At}
-use Rattle.ftd.specs.declared.tags.PacketPlace.{PacketPlace}
-use Rattle.ftd.specs.declared.tags.PacketPlace.TheVariants.{NoPlace, Nth}
-use Rattle.ftd.specs.declared.fields.FieldPlace.{FieldPlace}
-use Rattle.ftd.specs.declared.fields.FieldPlace.TheVariants.{NoField, Field}
-use Rattle.ftd.specs.declared.chain.ChainSize.{ChainSize}
-use Rattle.ftd.specs.declared.chain.ChainSize.TheVariants.{Takes, Refused as NoSize}
-use Rattle.ftd.specs.declared.write.Written.{Written}
-use Rattle.ftd.specs.declared.write.Written.TheVariants.{Bytes, NotPlain, Refused as NotWritten}
+use Rattle.ftd.specs.Types.{TradeDate}
+use Rattle.ftd.specs.Types.{PacketPlace}
+use Rattle.ftd.specs.Types.{ChainSize}
+use Rattle.ftd.specs.Types.{Written}
 use Rattle.ftd.specs.declared.resume.Resume.{Resume}
 use Rattle.ftd.specs.declared.resume.Resume.TheVariants.{Absent, Next, Misshapen, Several}
 use Rattle.ftd.specs.declared.item.FieldItem.{FieldItem}
 use Rattle.ftd.specs.declared.dates.Date.TheVariants.{NoDate, Unused, Day}
-use Rattle.flow.specs.declared.sender.Published.{Published}
-use Rattle.flow.specs.declared.sender.Published.TheVariants.{Number, Refused as NotPublished}
-use Rattle.flow.specs.declared.sender.LoggedIn.{LoggedIn}
-use Rattle.flow.specs.declared.sender.LoggedIn.TheVariants.{Wrote as Answered, Refused as NotIn}
-use Rattle.flow.specs.declared.sender.Sent.{Sent}
-use Rattle.flow.specs.declared.sender.Sent.TheVariants.{Drained, Wrote as Message-sent, Refused as NotSent}
-use Rattle.flow.specs.declared.sender.SentPacket.{SentPacket}
-use Rattle.flow.specs.declared.sender.SentPacket.TheVariants.{Drained as NoPacket, Wrote as Packet-sent}
-use Rattle.flow.specs.declared.sender.SentPacket.TheVariants.{Refused as NotPacket}
-use Rattle.flow.specs.declared.receiver.Requested.{Requested}
-use Rattle.flow.specs.declared.receiver.Requested.TheVariants.{Wrote as Asked, Refused as NotAsked}
-use Rattle.flow.specs.declared.receiver.Confirmed.{Confirmed}
-use Rattle.flow.specs.declared.receiver.Confirmed.TheVariants.{Last, Refused as NotConfirmed}
+use Rattle.flow.specs.Types.{Published}
+use Rattle.flow.specs.Types.{LoggedIn}
+use Rattle.flow.specs.Types.{Requested}
+use Rattle.flow.specs.Types.{Confirmed}
 use Rattle.flow.specs.declared.receiver.Received.{Received}
 use Rattle.flow.specs.declared.receiver.Received.TheVariants.{Idle, Duplicate, Partial, Complete}
 use Rattle.flow.specs.declared.receiver.Received.TheVariants.{Refused as NotTaken}
@@ -47,16 +32,9 @@ use Rattle.flow.specs.declared.several.PublishedSeveral.TheVariants.{Refused as 
 use Rattle.flow.specs.declared.order.Order.{Order}
 use Rattle.flow.specs.declared.order.Order.TheVariants.{Same, FirstStarts, SecondStarts, Differ}
 use Rattle.flow.specs.declared.order.Order.TheVariants.{Refused as OrderRefused}
-use Rattle.calendar.specs.declared.trading.TradeTime.{TradeTime}
-use Rattle.calendar.specs.declared.trading.TradeTime.TheVariants.{Outside, Inside}
-use Rattle.book.specs.declared.levels.Listed.{Listed}
-use Rattle.book.specs.declared.levels.Listed.TheVariants.{NoLevel, At as LevelAt}
-use Rattle.book.specs.declared.sums.Mean.{Mean}
-use Rattle.book.specs.declared.sums.Mean.TheVariants.{NoMean, Price}
-use Rattle.fix.specs.declared.fields.Front.{Front}
-use Rattle.fix.specs.declared.fields.Front.TheVariants.{NoField as NoFront, Field as FrontAt}
-use Rattle.fix.specs.declared.text.Number.{Number as TextNumber}
-use Rattle.fix.specs.declared.text.Number.TheVariants.{NoNumber, Is}
+use Rattle.calendar.specs.Types.{TradeTime}
+use Rattle.book.specs.Types.{Mean}
+use Rattle.fix.specs.Types.{Number as TextNumber}
 use Rattle.fix.specs.declared.read.Judged.{Judged}
 use Rattle.fix.specs.declared.read.Judged.TheVariants.{Refused as WrongFrame, Next as NextFrame, Again as AgainFrame}
 use Rattle.fix.specs.declared.read.Judged.TheVariants.{Gap, Reset}
@@ -84,26 +62,33 @@ use Rattle.exports.specs.Meaning.Absent.{packet_only, date_only, field_only, siz
 use Rattle.exports.specs.Meaning.Absent.{trade_time_only, level_only, mean_only, front_only, text_number_only}
 use Rattle.exports.specs.Meaning.Absent.{reading_only, AbsentLaws}
 use Rattle.exports.proofs.Meaning.{row_zero}
+use Rattle.std.specs.Prelude.{Some, None, Ok, Err}
+use Rattle.ftd.specs.Types.{MaybeField}
+use Rattle.flow.specs.Types.{SendAnswer, PacketSent}
+use Rattle.book.specs.Types.{MaybeLevel}
+use Rattle.fix.specs.Types.{MaybeFront}
+use Rattle.ftd.specs.declared.write.WriteError.TheVariants.{Refused, NotPlain}
+use Rattle.ftd.specs.declared.write.WriteError.TheVariants.{NotPlain}
 
 -- ─── The ends ───
 
 published : (e : FtdSender) (a : Published) → published_only (published_with e a) ≡ published_with e a
-published e (Number k) = refl
-published e (NotPublished r) = rw (row_zero r) refl
+published e (Ok k) = refl
+published e (Err r) = rw (row_zero r) refl
 
 logged-in : (e : FtdSender) (a : LoggedIn) → logged_in_only (logged_in_with e a) ≡ logged_in_with e a
-logged-in e (Answered n) = refl
-logged-in e (NotIn r) = rw (row_zero r) refl
+logged-in e (Ok n) = refl
+logged-in e (Err r) = rw (row_zero r) refl
 
-sent : (e : FtdSender) (a : Sent) → sent_only (sent_with e a) ≡ sent_with e a
-sent e Drained = refl
-sent e (Message-sent k n) = refl
-sent e (NotSent r) = refl
+sent : (e : FtdSender) (a : SendAnswer) → sent_only (sent_with e a) ≡ sent_with e a
+sent e (Ok None) = refl
+sent e (Ok (Some found)) = refl
+sent e (Err r) = refl
 
-sent-packet : (e : FtdSender) (a : SentPacket) → sent_packet_only (sent_packet_with e a) ≡ sent_packet_with e a
-sent-packet e NoPacket = refl
-sent-packet e (Packet-sent k n last) = refl
-sent-packet e (NotPacket r) = refl
+sent-packet : (e : FtdSender) (a : PacketSent) → sent_packet_only (sent_packet_with e a) ≡ sent_packet_with e a
+sent-packet e (Ok None) = refl
+sent-packet e (Ok (Some found)) = refl
+sent-packet e (Err r) = refl
 
 published-several : (e : FtdSender) (taken : ℕ) (a : PublishedSeveral)
     → published_several_only (published_several_with e taken a) ≡ published_several_with e taken a
@@ -112,12 +97,12 @@ published-several e taken (Cut n) = refl
 published-several e taken (RecordRefused r) = refl
 
 requested : (a : Requested) → written_only (requested_numbers a) ≡ requested_numbers a
-requested (Asked n) = refl
-requested (NotAsked r) = rw (row_zero r) refl
+requested (Ok n) = refl
+requested (Err r) = rw (row_zero r) refl
 
 confirmed : (e : FtdReceiver) (a : Confirmed) → confirmed_only (confirmed_with e a) ≡ confirmed_with e a
-confirmed e (Last n) = refl
-confirmed e (NotConfirmed r) = rw (row_zero r) refl
+confirmed e (Ok n) = refl
+confirmed e (Err r) = rw (row_zero r) refl
 
 received : (e : FtdReceiver) (a : Received) → received_only (received_with e a) ≡ received_with e a
 received e Idle = refl
@@ -136,8 +121,8 @@ received-several e taken (StopRefused r) = refl
 -- ─── The box, and the order of two ends ───
 
 box-confirmed : (b : FtdBox) (a : Confirmed) → box_confirmed_only (box_confirmed_with b a) ≡ box_confirmed_with b a
-box-confirmed b (Last n) = refl
-box-confirmed b (NotConfirmed r) = rw (row_zero r) refl
+box-confirmed b (Ok n) = refl
+box-confirmed b (Err r) = rw (row_zero r) refl
 
 box-received : (b : FtdBox) (a : Received) → box_received_only (box_received_with b a) ≡ box_received_with b a
 box-received b Idle = refl
@@ -154,18 +139,18 @@ box-received-several b taken (StopComplete last tid origin content) = refl
 box-received-several b taken (StopRefused r) = refl
 
 seat-login : (a : LoggedIn) → written_only (seat_login_numbers a) ≡ seat_login_numbers a
-seat-login (Answered n) = refl
-seat-login (NotIn r) = rw (row_zero r) refl
+seat-login (Ok n) = refl
+seat-login (Err r) = rw (row_zero r) refl
 
-seat-sent : (a : Sent) → seat_sent_only (seat_sent_numbers a) ≡ seat_sent_numbers a
-seat-sent Drained = refl
-seat-sent (Message-sent k n) = refl
-seat-sent (NotSent r) = refl
+seat-sent : (a : SendAnswer) → seat_sent_only (seat_sent_numbers a) ≡ seat_sent_numbers a
+seat-sent (Ok None) = refl
+seat-sent (Ok (Some found)) = refl
+seat-sent (Err r) = refl
 
-seat-packet : (a : SentPacket) → seat_packet_only (seat_packet_numbers a) ≡ seat_packet_numbers a
-seat-packet NoPacket = refl
-seat-packet (Packet-sent k n last) = refl
-seat-packet (NotPacket r) = refl
+seat-packet : (a : PacketSent) → seat_packet_only (seat_packet_numbers a) ≡ seat_packet_numbers a
+seat-packet (Ok None) = refl
+seat-packet (Ok (Some found)) = refl
+seat-packet (Err r) = refl
 
 order : (o : Order) → order_only (order_numbers o) ≡ order_numbers o
 order Same = refl
@@ -178,11 +163,11 @@ order (OrderRefused r) = refl
 
 date-back : (d : TradeDate) → cond (eqb (dated_flag d) 1) (date_of d) 0 ≡ date_of d
 date-back None = refl
-date-back (At d) = refl
+date-back (Some d) = refl
 
 place-back : (j : PacketPlace) → cond (eqb (placed_flag j) 1) (place_number j) 0 ≡ place_number j
-place-back NoPlace = refl
-place-back (Nth j) = refl
+place-back None = refl
+place-back (Some j) = refl
 
 read : (k : ℕ) (x : Packet) (d : TradeDate) (j : PacketPlace)
     → packet_only (packet_numbers k x d j) ≡ packet_numbers k x d j
@@ -195,20 +180,20 @@ read k (WrongPacket r) d j = refl
 
 trade-date : (d : TradeDate) → date_only (trade_date_numbers d) ≡ trade_date_numbers d
 trade-date None = refl
-trade-date (At d) = refl
+trade-date (Some d) = refl
 
-field : (x : FieldPlace) → field_only (field_numbers x) ≡ field_numbers x
-field NoField = refl
-field (Field fid start len) = refl
+field : (x : MaybeField) → field_only (field_numbers x) ≡ field_numbers x
+field None = refl
+field (Some found) = refl
 
 sizes : (x : ChainSize) → size_only (size_numbers x) ≡ size_numbers x
-sizes (Takes s) = refl
-sizes (NoSize r) = rw (row_zero r) refl
+sizes (Ok s) = refl
+sizes (Err r) = rw (row_zero r) refl
 
 written : (x : Written) → written_only (written_numbers x) ≡ written_numbers x
-written (Bytes n) = refl
-written (NotWritten r) = rw (row_zero r) refl
-written NotPlain = refl
+written (Ok n) = refl
+written (Err (Refused r)) = rw (row_zero r) refl
+written (Err NotPlain) = refl
 
 start : (x : Resume) → resume_only (resume_numbers x) ≡ resume_numbers x
 start Absent = refl
@@ -232,24 +217,24 @@ item (Date (Day y m d)) = refl
 -- ─── Calendar, book, frames ───
 
 time : (x : TradeTime) → trade_time_only (trade_time_numbers x) ≡ trade_time_numbers x
-time Outside = refl
-time (Inside d) = refl
+time None = refl
+time (Some d) = refl
 
-level : (x : Listed) → level_only (level_numbers x) ≡ level_numbers x
-level NoLevel = refl
-level (LevelAt p n) = refl
+level : (x : MaybeLevel) → level_only (level_numbers x) ≡ level_numbers x
+level None = refl
+level (Some found) = refl
 
 mean : (x : Mean) → mean_only (mean_numbers x) ≡ mean_numbers x
-mean NoMean = refl
-mean (Price p) = refl
+mean None = refl
+mean (Some p) = refl
 
-front : (x : Front) → front_only (front_numbers x) ≡ front_numbers x
-front NoFront = refl
-front (FrontAt tag start len) = refl
+front : (x : MaybeFront) → front_only (front_numbers x) ≡ front_numbers x
+front None = refl
+front (Some found) = refl
 
 text : (x : TextNumber) → text_number_only (text_numbers x) ≡ text_numbers x
-text NoNumber = refl
-text (Is n) = refl
+text None = refl
+text (Some n) = refl
 
 reading : (e : ℕ) (a : Judged) → reading_only (judged_numbers e a) ≡ judged_numbers e a
 reading e (WrongFrame r) = refl

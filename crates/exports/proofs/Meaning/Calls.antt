@@ -1,29 +1,11 @@
 -- `AnswerLaws` holds. Assumes nothing.
 use Prim.Native.Nat.{ℕ}
 use mathlib.Core.Path.{◌≡◌, refl}
-use Rattle.flow.specs.declared.sender.Opened.{Opened}
-use Rattle.flow.specs.declared.sender.Opened.TheVariants.{Done}
-use Rattle.flow.specs.declared.sender.Opened.TheVariants.{Refused as NotOpened}
-use Rattle.flow.specs.declared.sender.Published.{Published}
-use Rattle.flow.specs.declared.sender.Published.TheVariants.{Number}
-use Rattle.flow.specs.declared.sender.Published.TheVariants.{Refused as NotPublished}
-use Rattle.flow.specs.declared.sender.LoggedIn.{LoggedIn}
-use Rattle.flow.specs.declared.sender.LoggedIn.TheVariants.{Wrote as Answered}
-use Rattle.flow.specs.declared.sender.LoggedIn.TheVariants.{Refused as NotIn}
-use Rattle.flow.specs.declared.sender.Sent.{Sent}
-use Rattle.flow.specs.declared.sender.Sent.TheVariants.{Drained}
-use Rattle.flow.specs.declared.sender.Sent.TheVariants.{Wrote as Message-sent}
-use Rattle.flow.specs.declared.sender.Sent.TheVariants.{Refused as NotSent}
-use Rattle.flow.specs.declared.sender.SentPacket.{SentPacket}
-use Rattle.flow.specs.declared.sender.SentPacket.TheVariants.{Drained as NoPacket}
-use Rattle.flow.specs.declared.sender.SentPacket.TheVariants.{Wrote as Packet-sent}
-use Rattle.flow.specs.declared.sender.SentPacket.TheVariants.{Refused as NotPacket}
-use Rattle.flow.specs.declared.receiver.Requested.{Requested}
-use Rattle.flow.specs.declared.receiver.Requested.TheVariants.{Wrote as Asked}
-use Rattle.flow.specs.declared.receiver.Requested.TheVariants.{Refused as NotAsked}
-use Rattle.flow.specs.declared.receiver.Confirmed.{Confirmed}
-use Rattle.flow.specs.declared.receiver.Confirmed.TheVariants.{Last}
-use Rattle.flow.specs.declared.receiver.Confirmed.TheVariants.{Refused as NotConfirmed}
+use Rattle.flow.specs.Types.{Opened}
+use Rattle.flow.specs.Types.{Published}
+use Rattle.flow.specs.Types.{LoggedIn}
+use Rattle.flow.specs.Types.{Requested}
+use Rattle.flow.specs.Types.{Confirmed}
 use Rattle.flow.specs.declared.receiver.Origin.{Origin}
 use Rattle.flow.specs.declared.receiver.Origin.TheVariants.{Packet, Buffer}
 use Rattle.flow.specs.declared.receiver.Received.{Received}
@@ -36,10 +18,8 @@ use Rattle.flow.specs.declared.several.ReceivedSeveral.TheVariants.{Refused as S
 use Rattle.flow.specs.declared.several.PublishedSeveral.{PublishedSeveral}
 use Rattle.flow.specs.declared.several.PublishedSeveral.TheVariants.{End as AllIn, Short as Cut}
 use Rattle.flow.specs.declared.several.PublishedSeveral.TheVariants.{Refused as RecordRefused}
-use Rattle.flow.specs.declared.checkpoint.Saved.{Saved}
-use Rattle.flow.specs.declared.checkpoint.Saved.TheVariants.{Done as Saved-done, Refused as NotSaved}
-use Rattle.flow.specs.declared.checkpoint.Restored.{Restored}
-use Rattle.flow.specs.declared.checkpoint.Restored.TheVariants.{Done as Restored-done, Refused as NotRestored}
+use Rattle.flow.specs.Types.{Saved}
+use Rattle.flow.specs.Types.{Restored}
 use Rattle.exports.specs.Receiving.{requested_numbers}
 use Rattle.exports.specs.Boxes.{seat_login_numbers, seat_sent_numbers, seat_packet_numbers}
 use Rattle.exports.specs.declared.serving.FtdSender.{FtdSender}
@@ -58,46 +38,48 @@ use Rattle.exports.specs.Meaning.Calls.{published_by, logged_in_by, sent_by, sen
 use Rattle.exports.specs.Meaning.Calls.{received_by, received_several_by, published_several_by, box_received_by}
 use Rattle.exports.specs.Meaning.Calls.{box_received_several_by, seat_login_by, seat_sent_by, seat_packet_by, AnswerLaws}
 use Rattle.exports.proofs.Meaning.{row_back, row_zero, refused-back, flag-back}
+use Rattle.std.specs.Prelude.{Some, None, Ok, Err}
+use Rattle.flow.specs.Types.{SendAnswer, PacketSent}
 
 -- ─── The serving end ───
 
 opened : (a : Opened) → opened_for (opened_number a) ≡ a
-opened Done = refl
-opened (NotOpened r) = refused-back NotOpened Done r
+opened (Ok tt) = refl
+opened (Err r) = refused-back Err (Ok tt) r
 
 published : (e : FtdSender) (a : Published) → published_by (published_with e a) ≡ a
-published e (Number k) = refl
-published e (NotPublished r) = refused-back NotPublished (Number 0) r
+published e (Ok k) = refl
+published e (Err r) = refused-back Err (Ok 0) r
 
 logged-in : (e : FtdSender) (a : LoggedIn) → logged_in_by (logged_in_with e a) ≡ a
-logged-in e (Answered n) = refl
-logged-in e (NotIn r) = refused-back NotIn (Answered 0) r
+logged-in e (Ok n) = refl
+logged-in e (Err r) = refused-back Err (Ok 0) r
 
-sent : (e : FtdSender) (a : Sent) → sent_by (sent_with e a) ≡ a
+sent : (e : FtdSender) (a : SendAnswer) → sent_by (sent_with e a) ≡ a
 unfolding sent_for
-sent e Drained = refl
-sent e (Message-sent k n) = refl
-sent e (NotSent r) = rw (row_back r) refl
+sent e (Ok None) = refl
+sent e (Ok (Some found)) = refl
+sent e (Err r) = rw (row_back r) refl
 
-sent-first : (e : FtdSender) (a : Sent) →
-    let n = sent_with e a in or_refused n.refusal NotSent (sent_by n) ≡ a
+sent-first : (e : FtdSender) (a : SendAnswer) →
+    let n = sent_with e a in or_refused n.refusal Err (sent_by n) ≡ a
 unfolding sent_for
-sent-first e Drained = refl
-sent-first e (Message-sent k n) = refl
-sent-first e (NotSent r) = refused-back NotSent _ r
+sent-first e (Ok None) = refl
+sent-first e (Ok (Some found)) = refl
+sent-first e (Err r) = refused-back Err _ r
 
-sent-packet : (e : FtdSender) (a : SentPacket) → sent_packet_by (sent_packet_with e a) ≡ a
+sent-packet : (e : FtdSender) (a : PacketSent) → sent_packet_by (sent_packet_with e a) ≡ a
 unfolding sent_packet_for
-sent-packet e NoPacket = refl
-sent-packet e (Packet-sent k n last) = rw (flag-back last) refl
-sent-packet e (NotPacket r) = rw (row_back r) refl
+sent-packet e (Ok None) = refl
+sent-packet e (Ok (Some found)) = rw (flag-back found.last) refl
+sent-packet e (Err r) = rw (row_back r) refl
 
-packet-first : (e : FtdSender) (a : SentPacket) →
-    let n = sent_packet_with e a in or_refused n.refusal NotPacket (sent_packet_by n) ≡ a
+packet-first : (e : FtdSender) (a : PacketSent) →
+    let n = sent_packet_with e a in or_refused n.refusal Err (sent_packet_by n) ≡ a
 unfolding sent_packet_for
-packet-first e NoPacket = refl
-packet-first e (Packet-sent k n last) = rw (flag-back last) refl
-packet-first e (NotPacket r) = refused-back NotPacket _ r
+packet-first e (Ok None) = refl
+packet-first e (Ok (Some found)) = rw (flag-back found.last) refl
+packet-first e (Err r) = refused-back Err _ r
 
 published-several : (e : FtdSender) (taken : ℕ) (a : PublishedSeveral)
     → published_several_by (published_several_with e taken a) ≡ a
@@ -121,12 +103,12 @@ records-taken e taken (RecordRefused r) = refl
 -- ─── The receiving end ───
 
 requested : (a : Requested) → requested_by (requested_numbers a) ≡ a
-requested (Asked n) = refl
-requested (NotAsked r) = refused-back NotAsked (Asked 0) r
+requested (Ok n) = refl
+requested (Err r) = refused-back Err (Ok 0) r
 
 confirmed : (e : FtdReceiver) (a : Confirmed) → confirmed_by (confirmed_with e a) ≡ a
-confirmed e (Last n) = refl
-confirmed e (NotConfirmed r) = refused-back NotConfirmed (Last 0) r
+confirmed e (Ok n) = refl
+confirmed e (Err r) = refused-back Err (Ok 0) r
 
 origin-back : (o : Origin) → origin_for (origin_number o) ≡ o
 origin-back Packet = refl
@@ -172,19 +154,19 @@ packets-taken e taken (StopComplete last tid origin content) = refl
 packets-taken e taken (StopRefused r) = refl
 
 kept : (a : Saved) → saved_for (saved_number a) ≡ a
-kept Saved-done = refl
-kept (NotSaved r) = refused-back NotSaved Saved-done r
+kept (Ok tt) = refl
+kept (Err r) = refused-back Err (Ok tt) r
 
 returned : (a : Restored) → restored_for (restored_number a) ≡ a
-returned Restored-done = refl
-returned (NotRestored r) = refused-back NotRestored Restored-done r
+returned (Ok tt) = refl
+returned (Err r) = refused-back Err (Ok tt) r
 
 -- ─── The box: the members of its answers are those of the ends' ───
 
 box-confirmed : (b : FtdBox) (a : Confirmed) →
     let n = box_confirmed_with b a in confirmed_for n.last n.refusal ≡ a
-box-confirmed b (Last n) = refl
-box-confirmed b (NotConfirmed r) = refused-back NotConfirmed (Last 0) r
+box-confirmed b (Ok n) = refl
+box-confirmed b (Err r) = refused-back Err (Ok 0) r
 
 box-received : (b : FtdBox) (a : Received) → box_received_by (box_received_with b a) ≡ a
 unfolding received_for
@@ -226,33 +208,33 @@ box-taken b taken (StopComplete last tid origin content) = refl
 box-taken b taken (StopRefused r) = refl
 
 seat-login : (a : LoggedIn) → seat_login_by (seat_login_numbers a) ≡ a
-seat-login (Answered n) = refl
-seat-login (NotIn r) = refused-back NotIn (Answered 0) r
+seat-login (Ok n) = refl
+seat-login (Err r) = refused-back Err (Ok 0) r
 
-seat-sent : (a : Sent) → seat_sent_by (seat_sent_numbers a) ≡ a
+seat-sent : (a : SendAnswer) → seat_sent_by (seat_sent_numbers a) ≡ a
 unfolding sent_for
-seat-sent Drained = refl
-seat-sent (Message-sent k n) = refl
-seat-sent (NotSent r) = rw (row_back r) refl
+seat-sent (Ok None) = refl
+seat-sent (Ok (Some found)) = refl
+seat-sent (Err r) = rw (row_back r) refl
 
-seat-sent-first : (a : Sent) → let n = seat_sent_numbers a in or_refused n.refusal NotSent (seat_sent_by n) ≡ a
+seat-sent-first : (a : SendAnswer) → let n = seat_sent_numbers a in or_refused n.refusal Err (seat_sent_by n) ≡ a
 unfolding sent_for
-seat-sent-first Drained = refl
-seat-sent-first (Message-sent k n) = refl
-seat-sent-first (NotSent r) = refused-back NotSent _ r
+seat-sent-first (Ok None) = refl
+seat-sent-first (Ok (Some found)) = refl
+seat-sent-first (Err r) = refused-back Err _ r
 
-seat-packet : (a : SentPacket) → seat_packet_by (seat_packet_numbers a) ≡ a
+seat-packet : (a : PacketSent) → seat_packet_by (seat_packet_numbers a) ≡ a
 unfolding sent_packet_for
-seat-packet NoPacket = refl
-seat-packet (Packet-sent k n last) = rw (flag-back last) refl
-seat-packet (NotPacket r) = rw (row_back r) refl
+seat-packet (Ok None) = refl
+seat-packet (Ok (Some found)) = rw (flag-back found.last) refl
+seat-packet (Err r) = rw (row_back r) refl
 
-seat-packet-first : (a : SentPacket) →
-    let n = seat_packet_numbers a in or_refused n.refusal NotPacket (seat_packet_by n) ≡ a
+seat-packet-first : (a : PacketSent) →
+    let n = seat_packet_numbers a in or_refused n.refusal Err (seat_packet_by n) ≡ a
 unfolding sent_packet_for
-seat-packet-first NoPacket = refl
-seat-packet-first (Packet-sent k n last) = rw (flag-back last) refl
-seat-packet-first (NotPacket r) = refused-back NotPacket _ r
+seat-packet-first (Ok None) = refl
+seat-packet-first (Ok (Some found)) = rw (flag-back found.last) refl
+seat-packet-first (Err r) = refused-back Err _ r
 
 pub answer-laws : AnswerLaws
 answer-laws =

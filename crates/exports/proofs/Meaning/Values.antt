@@ -10,27 +10,17 @@ use lib.Dec.{eqb}
 use Rattle.ftd.specs.Bytes.{be16_of, be32_of}
 use Rattle.ftd.proofs.fields.Turns.{field-short, field-whole}
 use Rattle.ftd.specs.Packet.{dated_of}
-use Rattle.ftd.specs.declared.tags.TradeDate.{TradeDate}
-use Rattle.ftd.specs.declared.tags.TradeDate.TheVariants.{None, At}
-use Rattle.ftd.specs.declared.tags.PacketPlace.{PacketPlace}
-use Rattle.ftd.specs.declared.tags.PacketPlace.TheVariants.{NoPlace, Nth}
+use Rattle.ftd.specs.Types.{TradeDate}
+use Rattle.ftd.specs.Types.{PacketPlace}
 use Rattle.ftd.specs.declared.packet.Chain.{Chain}
 use Rattle.ftd.specs.declared.packet.Chain.TheVariants.{Single, First, Middle, Last}
 use Rattle.ftd.specs.declared.packet.Packet.{Packet}
 use Rattle.ftd.specs.declared.packet.Packet.TheVariants.{Short, Link, Skipped, Message}
 use Rattle.ftd.specs.declared.packet.Packet.TheVariants.{Refused as WrongPacket}
-use Rattle.ftd.specs.declared.fields.FieldPlace.{FieldPlace}
-use Rattle.ftd.specs.declared.fields.FieldPlace.TheVariants.{NoField, Field}
 use Rattle.ftd.specs.declared.composition.Direction.TheVariants.{Up, Down}
-use Rattle.ftd.specs.declared.items.Checked.{Checked}
-use Rattle.ftd.specs.declared.items.Checked.TheVariants.{Passed}
-use Rattle.ftd.specs.declared.items.Checked.TheVariants.{Refused as Against}
-use Rattle.ftd.specs.declared.chain.ChainSize.{ChainSize}
-use Rattle.ftd.specs.declared.chain.ChainSize.TheVariants.{Takes}
-use Rattle.ftd.specs.declared.chain.ChainSize.TheVariants.{Refused as NoSize}
-use Rattle.ftd.specs.declared.write.Written.{Written}
-use Rattle.ftd.specs.declared.write.Written.TheVariants.{Bytes, NotPlain}
-use Rattle.ftd.specs.declared.write.Written.TheVariants.{Refused as NotWritten}
+use Rattle.ftd.specs.Types.{Checked}
+use Rattle.ftd.specs.Types.{ChainSize}
+use Rattle.ftd.specs.Types.{Written}
 use Rattle.ftd.specs.declared.resume.Resume.{Resume}
 use Rattle.ftd.specs.declared.resume.Resume.TheVariants.{Absent, Next, Misshapen, Several}
 use Rattle.ftd.specs.declared.item.FieldItem.{FieldItem}
@@ -38,21 +28,11 @@ use Rattle.ftd.specs.declared.item.FieldItem.TheVariants.{NoItem, NoValue, Char,
 use Rattle.ftd.specs.declared.dates.Date.TheVariants.{NoDate, Unused, Day}
 use Rattle.ftd.specs.declared.mode.Mode.{Mode}
 use Rattle.ftd.specs.declared.mode.Mode.TheVariants.{Private, Broadcast, Management, Dialog, Unknown}
-use Rattle.calendar.specs.declared.trading.SetAnswer.{SetAnswer}
-use Rattle.calendar.specs.declared.trading.SetAnswer.TheVariants.{Done as Set-done, Refused as NotSet}
-use Rattle.calendar.specs.declared.trading.TradeTime.{TradeTime}
-use Rattle.calendar.specs.declared.trading.TradeTime.TheVariants.{Outside, Inside}
-use Rattle.book.specs.declared.calls.Outcome.{Outcome}
-use Rattle.book.specs.declared.calls.Outcome.TheVariants.{Done as Book-done, Refused as NotBooked}
-use Rattle.book.specs.declared.levels.Listed.{Listed}
-use Rattle.book.specs.declared.levels.Listed.TheVariants.{NoLevel}
-use Rattle.book.specs.declared.levels.Listed.TheVariants.{At as LevelAt}
-use Rattle.book.specs.declared.sums.Mean.{Mean}
-use Rattle.book.specs.declared.sums.Mean.TheVariants.{NoMean, Price}
-use Rattle.fix.specs.declared.fields.Front.{Front}
-use Rattle.fix.specs.declared.fields.Front.TheVariants.{NoField as NoFront, Field as FrontAt}
-use Rattle.fix.specs.declared.text.Number.{Number as TextNumber}
-use Rattle.fix.specs.declared.text.Number.TheVariants.{NoNumber, Is}
+use Rattle.calendar.specs.Types.{SetAnswer}
+use Rattle.calendar.specs.Types.{TradeTime}
+use Rattle.book.specs.Types.{Outcome}
+use Rattle.book.specs.Types.{Mean}
+use Rattle.fix.specs.Types.{Number as TextNumber}
 use Rattle.exports.specs.Numbers.{flag, dated_numbers, field_numbers, step_of, direction_for}
 use Rattle.exports.specs.Numbers.{verdict_number, message_for, size_numbers, written_numbers, resume_numbers}
 use Rattle.exports.specs.Items.{item_numbers, item_for, mode_number}
@@ -71,16 +51,23 @@ use Rattle.exports.specs.Meaning.Values.{field_by, checked_for, size_by, written
 use Rattle.exports.specs.Meaning.Values.{value_of, Fits, mode_for, set_for, trade_time_by, booked_for, level_by}
 use Rattle.exports.specs.Meaning.Values.{mean_by, front_by, text_number_by, ValueLaws}
 use Rattle.exports.proofs.Meaning.{row_back, row-table, refused-back, flag-back}
+use Rattle.std.specs.Prelude.{Some, None, Ok, Err}
+use Rattle.ftd.specs.Types.{MaybeField}
+use Rattle.book.specs.Types.{MaybeLevel}
+use Rattle.fix.specs.Types.{MaybeFront}
+use Rattle.ftd.specs.declared.write.WriteError.TheVariants.{Refused, NotPlain}
+use Rattle.ftd.specs.declared.refusal.Refusal.{Refusal}
+use Rattle.ftd.specs.declared.write.WriteError.TheVariants.{NotPlain}
 
 -- ─── Packets ───
 
 date-back : (d : TradeDate) → trade_date_for (dated_flag d) (date_of d) ≡ d
 date-back None = refl
-date-back (At d) = refl
+date-back (Some d) = refl
 
 place-back : (j : PacketPlace) → packet_place_for (placed_flag j) (place_number j) ≡ j
-place-back NoPlace = refl
-place-back (Nth j) = refl
+place-back None = refl
+place-back (Some j) = refl
 
 chain_back : (c : Chain) → chain_for (chain_letter c) ≡ c
 unfolding chain_for
@@ -113,9 +100,9 @@ size n (WrongPacket r) d j h = cc
 
 -- ─── Fields, checks, writers ───
 
-field : (x : FieldPlace) → field_by (field_numbers x) ≡ x
-field NoField = refl
-field (Field fid start len) = refl
+field : (x : MaybeField) → field_by (field_numbers x) ≡ x
+field None = refl
+field (Some found) = refl
 
 step : (content : List ℕ) (at : ℕ) → 6 + be16_of content (at + 4) ≤ length content - at
     → step_of content at ≡ record { len = be16_of content (at + 4); fid = be32_of content at; found = 1 }
@@ -139,17 +126,17 @@ unfolding direction_for
 down = refl
 
 checked : (x : Checked) → checked_for (verdict_number x) ≡ x
-checked Passed = refl
-checked (Against r) = refused-back Against Passed r
+checked (Ok tt) = refl
+checked (Err r) = refused-back Err (Ok tt) r
 
 sizes : (x : ChainSize) → size_by (size_numbers x) ≡ x
-sizes (Takes s) = refl
-sizes (NoSize r) = refused-back NoSize _ r
+sizes (Ok s) = refl
+sizes (Err r) = refused-back Err _ r
 
 written : (x : Written) → written_by (written_numbers x) ≡ x
-written (Bytes n) = refl
-written (NotWritten r) = rw (row-table r) (refused-back NotWritten (Bytes 0) r)
-written NotPlain = refl
+written (Ok n) = refl
+written (Err (Refused r)) = rw (row-table r) (refused-back (λ (e : Refusal). Err (Refused e)) (Ok 0) r)
+written (Err NotPlain) = refl
 
 start : (x : Resume) → resume_by (resume_numbers x) ≡ x
 unfolding resume_by
@@ -203,32 +190,32 @@ mode Dialog = refl
 -- ─── Calendar, book, frames ───
 
 set : (x : SetAnswer) → set_for (set_number x) ≡ x
-set Set-done = refl
-set (NotSet r) = refused-back NotSet Set-done r
+set (Ok tt) = refl
+set (Err r) = refused-back Err (Ok tt) r
 
 time : (x : TradeTime) → trade_time_by (trade_time_numbers x) ≡ x
-time Outside = refl
-time (Inside d) = refl
+time None = refl
+time (Some d) = refl
 
 booked : (x : Outcome) → booked_for (outcome_number x) ≡ x
-booked Book-done = refl
-booked (NotBooked r) = refused-back NotBooked Book-done r
+booked (Ok tt) = refl
+booked (Err r) = refused-back Err (Ok tt) r
 
-level : (x : Listed) → level_by (level_numbers x) ≡ x
-level NoLevel = refl
-level (LevelAt p n) = refl
+level : (x : MaybeLevel) → level_by (level_numbers x) ≡ x
+level None = refl
+level (Some found) = refl
 
 mean : (x : Mean) → mean_by (mean_numbers x) ≡ x
-mean NoMean = refl
-mean (Price p) = refl
+mean None = refl
+mean (Some p) = refl
 
-front : (x : Front) → front_by (front_numbers x) ≡ x
-front NoFront = refl
-front (FrontAt tag start len) = refl
+front : (x : MaybeFront) → front_by (front_numbers x) ≡ x
+front None = refl
+front (Some found) = refl
 
 text : (x : TextNumber) → text_number_by (text_numbers x) ≡ x
-text NoNumber = refl
-text (Is n) = refl
+text None = refl
+text (Some n) = refl
 
 pub value-laws : ValueLaws
 unfolding message_for date_for

@@ -3,10 +3,8 @@
 use Prim.Native.Nat.{ℕ}
 use mathlib.Core.Path.{◌≡◌, ap, ◌∙◌}
 use mathlib.Core.List.{List, []}
-use Rattle.flow.specs.declared.sender.LoggedIn.{LoggedIn}
-use Rattle.flow.specs.declared.sender.Sent.{Sent}
-use Rattle.flow.specs.declared.sender.SentPacket.{SentPacket}
-use Rattle.flow.specs.declared.receiver.Requested.{Requested}
+use Rattle.flow.specs.Types.{LoggedIn}
+use Rattle.flow.specs.Types.{Requested}
 use Rattle.flow.specs.Ends.{left}
 use Rattle.relay.specs.declared.relay.Relay.{Relay}
 use Rattle.relay.specs.declared.relay.OpenStep.{OpenStep}
@@ -31,6 +29,7 @@ use Rattle.exports.specs.Receiving.{requested_numbers}
 use Rattle.exports.specs.Boxes.{relay_for, box_numbers, box_confirmed_with, box_received_with, box_received_several_with}
 use Rattle.exports.specs.Boxes.{seat_login_numbers, seat_sent_numbers, seat_packet_numbers, box_opened_numbers}
 use Rattle.exports.specs.Boxes.{box_confirmed_numbers, box_received_numbers, box_received_several_numbers}
+use Rattle.flow.specs.Types.{SendAnswer, PacketSent}
 
 -- The numbers of the box that a call left.
 abbrev NumbersOf : Relay → FtdBox → Type 0
@@ -123,7 +122,7 @@ module _ (n : FtdBox) (b : Relay) (h : b ≡ relay_for n) where
           let m = login_seat_of (box_for (relay_for n) ns) i s p content out in
           (q ∙ ap seat_login_numbers k.1.1, k.2 ∙ ap (login_numbers ns i s m.end) k.1.1, k.3)
 
-      pub send-numbers : (log out : List ℕ) (a : Sent) (later : List ℕ) (x : FtdBoxSent)
+      pub send-numbers : (log out : List ℕ) (a : SendAnswer) (later : List ℕ) (x : FtdBoxSent)
           → SendsSeat b ns i s log out a after later → x ≡ seat_sent_numbers a →
           let m = send_seat_of (box_for (relay_for n) ns) i s log out in
           (x ≡ seat_sent_numbers m.answer) × (after ≡ sent_numbers ns i s m.end m.answer) × (later ≡ m.bytes)
@@ -132,7 +131,7 @@ module _ (n : FtdBox) (b : Relay) (h : b ≡ relay_for n) where
           let m = send_seat_of (box_for (relay_for n) ns) i s log out in
           (q ∙ ap seat_sent_numbers k.1.1, k.2 ∙ ap (sent_numbers ns i s m.end) k.1.1, k.3)
 
-      pub packet-numbers : (log out : List ℕ) (a : SentPacket) (later : List ℕ) (x : FtdBoxSentPacket)
+      pub packet-numbers : (log out : List ℕ) (a : PacketSent) (later : List ℕ) (x : FtdBoxSentPacket)
           → SendsPacketSeat b ns i s log out a after later → x ≡ seat_packet_numbers a →
           let m = send_packet_seat_of (box_for (relay_for n) ns) i s log out in
           (x ≡ seat_packet_numbers m.answer) × (after ≡ packet_numbers ns i s m.end m.answer) × (later ≡ m.bytes)

@@ -12,22 +12,10 @@ use Rattle.flow.specs.declared.sender.Day.{Day}
 use Rattle.flow.specs.declared.sender.DaySeries.{DaySeries}
 use Rattle.flow.specs.declared.sender.Place.{Place}
 use Rattle.flow.specs.declared.sender.Sender.{Sender}
-use Rattle.flow.specs.declared.sender.Opened.{Opened}
-use Rattle.flow.specs.declared.sender.LoggedIn.{LoggedIn}
-use Rattle.flow.specs.declared.sender.LoggedIn.TheVariants.{Wrote as Answered}
-use Rattle.flow.specs.declared.sender.LoggedIn.TheVariants.{Refused as NotIn}
-use Rattle.flow.specs.declared.sender.Sent.{Sent}
-use Rattle.flow.specs.declared.sender.Sent.TheVariants.{Drained}
-use Rattle.flow.specs.declared.sender.Sent.TheVariants.{Wrote as MessageSent}
-use Rattle.flow.specs.declared.sender.Sent.TheVariants.{Refused as NotSent}
-use Rattle.flow.specs.declared.sender.SentPacket.{SentPacket}
-use Rattle.flow.specs.declared.sender.SentPacket.TheVariants.{Drained as NoPacket}
-use Rattle.flow.specs.declared.sender.SentPacket.TheVariants.{Wrote as PacketSent}
-use Rattle.flow.specs.declared.sender.SentPacket.TheVariants.{Refused as NotPacket}
+use Rattle.flow.specs.Types.{Opened}
+use Rattle.flow.specs.Types.{LoggedIn}
 use Rattle.flow.specs.declared.receiver.Receiver.{Receiver}
-use Rattle.flow.specs.declared.receiver.Confirmed.{Confirmed}
-use Rattle.flow.specs.declared.receiver.Confirmed.TheVariants.{Last}
-use Rattle.flow.specs.declared.receiver.Confirmed.TheVariants.{Refused as NotConfirmed}
+use Rattle.flow.specs.Types.{Confirmed}
 use Rattle.flow.specs.declared.receiver.Received.{Received}
 use Rattle.flow.specs.declared.receiver.Received.TheVariants.{Idle, Duplicate, Partial, Complete}
 use Rattle.flow.specs.declared.receiver.Received.TheVariants.{Refused as NotTaken}
@@ -68,6 +56,8 @@ use Rattle.exports.specs.Boxes.{box_confirmed_numbers, box_received_numbers, box
 use Rattle.exports.specs.Laws.{BoxIs, BoxLaws}
 use Rattle.exports.proofs.Laws.{date-back, receiver-back, receiver-eight, end-eight, several-keeps}
 use Rattle.exports.proofs.Laws.{published-eight}
+use Rattle.std.specs.Prelude.{Some, None, Ok, Err}
+use Rattle.flow.specs.Types.{SendAnswer, PacketSent}
 
 -- ─── A box as numbers, and back ───
 
@@ -238,18 +228,18 @@ module _ (b : Relay) (ns : List ℕ) (w : Whole ns) (day : length b.day.series �
       set-whole ns (place_start i (index_of s (day_series (server_at x i)))) (place_of (server_at x i) s) w
 
   login-whole : (x : Box) (a : LoggedIn) → Whole (login_numbers ns i s x a)
-  login-whole x (Answered n) = written-whole x
-  login-whole x (NotIn r) = w
+  login-whole x (Ok n) = written-whole x
+  login-whole x (Err r) = w
 
-  sent-whole : (x : Box) (a : Sent) → Whole (seat_numbers ns i s x a)
-  sent-whole x Drained = w
-  sent-whole x (MessageSent k n) = written-whole x
-  sent-whole x (NotSent r) = w
+  sent-whole : (x : Box) (a : SendAnswer) → Whole (seat_numbers ns i s x a)
+  sent-whole x (Ok None) = w
+  sent-whole x (Ok (Some found)) = written-whole x
+  sent-whole x (Err r) = w
 
-  packet-whole : (x : Box) (a : SentPacket) → Whole (packet_numbers ns i s x a)
-  packet-whole x NoPacket = w
-  packet-whole x (PacketSent k n last) = written-whole x
-  packet-whole x (NotPacket r) = w
+  packet-whole : (x : Box) (a : PacketSent) → Whole (packet_numbers ns i s x a)
+  packet-whole x (Ok None) = w
+  packet-whole x (Ok (Some found)) = written-whole x
+  packet-whole x (Err r) = w
 
   module _ (p content out : List ℕ) where
     login-from : (a : LoggedIn) (later after : List ℕ) → LogsInSeat b ns i s p content out a later after →
@@ -277,7 +267,7 @@ module _ (b : Relay) (ns : List ℕ) (w : Whole ns) (day : length b.day.series �
             login-from _ _ _ (login-none b ns i s (omega arith) p content out)
 
   module _ (log out : List ℕ) where
-    send-from : (a : Sent) (later after : List ℕ) → SendsSeat b ns i s log out a later after →
+    send-from : (a : SendAnswer) (later after : List ℕ) → SendsSeat b ns i s log out a later after →
         let m = send_seat_of (box_for b ns) i s log out in
         box_for b (seat_numbers ns i s m.end m.answer) ≡ m.end
     send-from a later after g =
@@ -301,7 +291,7 @@ module _ (b : Relay) (ns : List ℕ) (w : Whole ns) (day : length b.day.series �
             let f = ltb-false i 16 q in
             send-from _ _ _ (send-none b ns i s (omega arith) log out)
 
-    packet-from : (a : SentPacket) (later after : List ℕ) → SendsPacketSeat b ns i s log out a later after →
+    packet-from : (a : PacketSent) (later after : List ℕ) → SendsPacketSeat b ns i s log out a later after →
         let m = send_packet_seat_of (box_for b ns) i s log out in
         box_for b (packet_numbers ns i s m.end m.answer) ≡ m.end
     packet-from a later after g =
@@ -329,8 +319,8 @@ module _ (b : Relay) (ns : List ℕ) (w : Whole ns) (day : length b.day.series �
 
 -- An answer stands beside the box.
 confirmed-state : (n : FtdBox) (a : Confirmed) → (box_confirmed_with n a).state ≡ n
-confirmed-state n (Last k) = refl
-confirmed-state n (NotConfirmed r) = refl
+confirmed-state n (Ok k) = refl
+confirmed-state n (Err r) = refl
 
 received-state : (n : FtdBox) (a : Received) → (box_received_with n a).state ≡ n
 received-state n Idle = refl

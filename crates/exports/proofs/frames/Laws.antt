@@ -7,13 +7,10 @@ use mathlib.Core.Option.{none, some}
 use lib.Dec.{eqb}
 use Rattle.ftd.specs.Follow.{Follows}
 use Rattle.ftd.proofs.Follow.{follows}
-use Rattle.fix.specs.declared.text.Number.{Number}
-use Rattle.fix.specs.declared.text.Number.TheVariants.{NoNumber, Is}
+use Rattle.fix.specs.Types.{Number}
 use Rattle.fix.specs.declared.kinds.Kind.{Kind}
 use Rattle.fix.specs.declared.kinds.Kind.TheVariants.{Heartbeat, TestRequest, ResendRequest, SequenceReset}
 use Rattle.fix.specs.declared.kinds.Kind.TheVariants.{Logout, Logon, Other}
-use Rattle.fix.specs.declared.fields.Front.{Front}
-use Rattle.fix.specs.declared.fields.Front.TheVariants.{NoField, Field}
 use Rattle.fix.specs.declared.read.Message.{Message}
 use Rattle.fix.specs.declared.read.Judged.{Judged}
 use Rattle.fix.specs.declared.read.Judged.TheVariants.{Refused, Next, Again, Gap, Reset}
@@ -27,6 +24,8 @@ use Rattle.exports.specs.Numbers.{flag}
 use Rattle.exports.specs.Frames.{kind_number, said_numbers, judged_numbers, front_numbers, text_numbers}
 use Rattle.exports.specs.Frames.Laws.{kind_for, message_for, TurnedAway, left_expected, told_next, took_next}
 use Rattle.exports.specs.Frames.Laws.{readings, FrameNumberLaws}
+use Rattle.std.specs.Prelude.{Some, None}
+use Rattle.fix.specs.Types.{MaybeFront}
 
 kind-back : (k : Kind) → kind_for (kind_number k) ≡ k
 unfolding kind_for
@@ -117,23 +116,23 @@ stays s (set_to k) a t = cc
 follow : Follows readings
 follow = follows readings (record { starts = starts; next = takes; stays = stays })
 
-field : (x y : Front) → front_numbers x ≡ front_numbers y → x ≡ y
-field NoField NoField e = refl
-field NoField (Field t s n) e =
+field : (x y : MaybeFront) → front_numbers x ≡ front_numbers y → x ≡ y
+field None None e = refl
+field None (Some found) e =
     let z : ◌≡◌ {A = ℕ} 0 1 = ap (λ (f : FtdTagged). f.found) e in absurd (omega arith)
-field (Field t s n) NoField e =
+field (Some found) None e =
     let z : ◌≡◌ {A = ℕ} 1 0 = ap (λ (f : FtdTagged). f.found) e in absurd (omega arith)
-field (Field t s n) (Field u k m) e =
-    let tag : t ≡ u = ap (λ (f : FtdTagged). f.tag) e in
-    let start : s ≡ k = ap (λ (f : FtdTagged). f.start) e in
-    let len : n ≡ m = ap (λ (f : FtdTagged). f.len) e in
+field (Some found) (Some found1) e =
+    let tag : found.tag ≡ found1.tag = ap (λ (f : FtdTagged). f.tag) e in
+    let start : found.start ≡ found1.start = ap (λ (f : FtdTagged). f.start) e in
+    let len : found.len ≡ found1.len = ap (λ (f : FtdTagged). f.len) e in
     rw (tag, start, len) refl
 
 number : (x y : Number) → text_numbers x ≡ text_numbers y → x ≡ y
-number NoNumber NoNumber e = refl
-number NoNumber (Is n) e = let z : ◌≡◌ {A = ℕ} 0 1 = ap (λ (f : FtdNumber). f.found) e in absurd (omega arith)
-number (Is n) NoNumber e = let z : ◌≡◌ {A = ℕ} 1 0 = ap (λ (f : FtdNumber). f.found) e in absurd (omega arith)
-number (Is n) (Is m) e = let same : n ≡ m = ap (λ (f : FtdNumber). f.number) e in rw same refl
+number None None e = refl
+number None (Some n) e = let z : ◌≡◌ {A = ℕ} 0 1 = ap (λ (f : FtdNumber). f.found) e in absurd (omega arith)
+number (Some n) None e = let z : ◌≡◌ {A = ℕ} 1 0 = ap (λ (f : FtdNumber). f.found) e in absurd (omega arith)
+number (Some n) (Some m) e = let same : n ≡ m = ap (λ (f : FtdNumber). f.number) e in rw same refl
 
 pub frame-number-laws : FrameNumberLaws
 frame-number-laws =

@@ -1,7 +1,7 @@
 use Rattle.exports.proofs.ftd_find_field.Goals as goal
 
-pub returns-in-NoField : goal.returns-in-NoField
-returns-in-NoField c = rw (← c.find_field.ensures.0, c.in-NoField.is)
+pub returns-in-None : goal.returns-in-None
+returns-in-None c = rw (← c.find_field.ensures.0, c.in-None.is)
 
-pub returns-in-Field : goal.returns-in-Field
-returns-in-Field c = rw (← c.find_field.ensures.0, c.in-Field.is)
+pub returns-in-Some : goal.returns-in-Some
+returns-in-Some c = rw (← c.find_field.ensures.0, c.in-Some.is)

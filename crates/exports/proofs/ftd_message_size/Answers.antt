@@ -1,18 +1,18 @@
 use Rattle.exports.proofs.ftd_message_size.Goals as goal
 
-pub returns-in-Takes : goal.returns-in-Takes
-returns-in-Takes c =
+pub returns-in-Ok : goal.returns-in-Ok
+returns-in-Ok c =
     rw (
-      ← c.message_for.ensures,
+      ← c.into.ensures,
       ← c.chain_size.ensures,
-      c.in-Takes.is,
+      c.in-Ok.is,
     )
 
-pub returns-in-Refused : goal.returns-in-Refused
-returns-in-Refused c =
+pub returns-in-Err : goal.returns-in-Err
+returns-in-Err c =
     rw (
-      ← c.message_for.ensures,
+      ← c.into.ensures,
       ← c.chain_size.ensures,
-      c.in-Refused.is,
+      c.in-Err.is,
       c.number.ensures,
     )

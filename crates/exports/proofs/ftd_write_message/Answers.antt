@@ -2,4 +2,4 @@ use Rattle.exports.proofs.ftd_write_message.Goals as goal
 
 pub returns : goal.returns
 returns c =
-    rw (← c.message_for.ensures) record { answer = rw (← c.write_chain.ensures.answer) c.written.ensures; output = c.write_chain.ensures.output }
+    rw (← c.into.ensures) record { answer = rw (← c.write_chain.ensures.answer) c.written.ensures; output = c.write_chain.ensures.output }

@@ -6,7 +6,7 @@ use Rattle.flow.specs.declared.receiver.KeptSeries.{KeptSeries}
 use Rattle.flow.specs.declared.receiver.Receiver.{Receiver}
 use Rattle.flow.specs.declared.checkpoint.Checkpoint.{Checkpoint}
 use Rattle.flow.specs.declared.checkpoint.Checkpoints.{Checkpoints}
-use Rattle.flow.specs.declared.checkpoint.Restored.{Restored}
+use Rattle.flow.specs.Types.{Restored}
 use Rattle.flow.specs.Ends.{Left}
 use Rattle.flow.specs.Checkpoints.{fresh_checkpoints, keep_of, restore_of, checkpoint_of}
 use Rattle.flow.proofs.ends.ReceiverLookups.{Eight}

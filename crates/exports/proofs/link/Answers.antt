@@ -5,7 +5,7 @@ pub returns : goal.returns
 unfolding link_numbers
 returns c =
     rw (
-      c.span.ensures,
+      c.into.ensures,
       c.date.ensures,
       c.place.ensures,
       c.dated.ensures,

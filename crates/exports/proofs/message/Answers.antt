@@ -7,8 +7,8 @@ use Rattle.ftd.specs.Bytes.{be16_of, be32_of}
 use Rattle.ftd.specs.Packet.{said_in, is_letter, letter_of, header_of, tid_of, series_of, message_number_of, field_count_of}
 use Rattle.ftd.specs.Packet.{accepted_of}
 use Rattle.ftd.specs.Packet.Helpers.{SaysLengths}
-use Rattle.ftd.specs.declared.tags.TradeDate.{TradeDate}
-use Rattle.ftd.specs.declared.tags.PacketPlace.{PacketPlace}
+use Rattle.ftd.specs.Types.{TradeDate}
+use Rattle.ftd.specs.Types.{PacketPlace}
 use Rattle.ftd.proofs.write.Laws.{letter-again}
 use Rattle.exports.specs.Numbers.{date_of, dated_flag, place_number, placed_flag, message_numbers, packet_numbers}
 use Rattle.exports.specs.declared.FtdPacket.{FtdPacket}

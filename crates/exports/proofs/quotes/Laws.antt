@@ -11,15 +11,14 @@ use Rattle.book.specs.declared.calls.Book.{Book}
 use Rattle.book.specs.declared.event.Event.{Event}
 use Rattle.book.specs.declared.event.Event.TheVariants.{Nothing, Quotation, Match}
 use Rattle.book.specs.declared.levels.Level.{Level}
-use Rattle.book.specs.declared.levels.Listed.{Listed}
-use Rattle.book.specs.declared.levels.Listed.TheVariants.{NoLevel, At}
-use Rattle.book.specs.declared.sums.Mean.{Mean}
-use Rattle.book.specs.declared.sums.Mean.TheVariants.{NoMean, Price}
+use Rattle.book.specs.Types.{Mean}
 use Rattle.exports.specs.declared.quotes.FtdBook.{FtdBook}
 use Rattle.exports.specs.declared.quotes.FtdListed.{FtdListed}
 use Rattle.exports.specs.declared.quotes.FtdMean.{FtdMean}
 use Rattle.exports.specs.Quotes.{book_for, step_numbers, buying_for, level_numbers, mean_numbers}
 use Rattle.exports.specs.Quotes.Laws.{BookIs, BookNumberLaws}
+use Rattle.std.specs.Prelude.{Some, None}
+use Rattle.book.specs.Types.{MaybeLevel}
 
 -- Numbers that are a book: what a call makes of the book that they say, it makes of that book.
 start : (n : FtdBook) (b : Book) → BookIs n b → (code : List ℕ)
@@ -48,20 +47,20 @@ side absolute buying direction o = go (eqb direction 0) (eqb direction 1)
     go false true e = ap is_buying e
     go false false e = cc
 
-level : (x y : Listed) → level_numbers x ≡ level_numbers y → x ≡ y
-level NoLevel NoLevel e = refl
-level NoLevel (At p n) e = let z : ◌≡◌ {A = ℕ} 0 1 = ap (λ (l : FtdListed). l.found) e in absurd (omega arith)
-level (At p n) NoLevel e = let z : ◌≡◌ {A = ℕ} 1 0 = ap (λ (l : FtdListed). l.found) e in absurd (omega arith)
-level (At p n) (At q m) e =
-    let price : p ≡ q = ap (λ (l : FtdListed). l.price) e in
-    let quantity : n ≡ m = ap (λ (l : FtdListed). l.quantity) e in
+level : (x y : MaybeLevel) → level_numbers x ≡ level_numbers y → x ≡ y
+level None None e = refl
+level None (Some found) e = let z : ◌≡◌ {A = ℕ} 0 1 = ap (λ (l : FtdListed). l.found) e in absurd (omega arith)
+level (Some found) None e = let z : ◌≡◌ {A = ℕ} 1 0 = ap (λ (l : FtdListed). l.found) e in absurd (omega arith)
+level (Some found) (Some found1) e =
+    let price : found.price ≡ found1.price = ap (λ (l : FtdListed). l.price) e in
+    let quantity : found.quantity ≡ found1.quantity = ap (λ (l : FtdListed). l.quantity) e in
     rw (price, quantity) refl
 
 mean : (x y : Mean) → mean_numbers x ≡ mean_numbers y → x ≡ y
-mean NoMean NoMean e = refl
-mean NoMean (Price p) e = let z : ◌≡◌ {A = ℕ} 0 1 = ap (λ (m : FtdMean). m.found) e in absurd (omega arith)
-mean (Price p) NoMean e = let z : ◌≡◌ {A = ℕ} 1 0 = ap (λ (m : FtdMean). m.found) e in absurd (omega arith)
-mean (Price p) (Price q) e = let price : p ≡ q = ap (λ (m : FtdMean). m.price) e in rw price refl
+mean None None e = refl
+mean None (Some p) e = let z : ◌≡◌ {A = ℕ} 0 1 = ap (λ (m : FtdMean). m.found) e in absurd (omega arith)
+mean (Some p) None e = let z : ◌≡◌ {A = ℕ} 1 0 = ap (λ (m : FtdMean). m.found) e in absurd (omega arith)
+mean (Some p) (Some q) e = let price : p ≡ q = ap (λ (m : FtdMean). m.price) e in rw price refl
 
 pub book-number-laws : BookNumberLaws
 book-number-laws =

@@ -3,4 +3,4 @@ use Rattle.exports.proofs.skipped.Goals as goal
 
 pub returns : goal.returns
 unfolding skipped_numbers
-returns c = rw (c.span.ensures, c.span-2.ensures)
+returns c = rw (c.into.ensures, c.into-2.ensures)

@@ -8,11 +8,11 @@ use lib.ListN.{length, length-append, length-replicate}
 use Rattle.ftd.specs.declared.refusal.Refusal.TheVariants.{Sessions, Holiday}
 use Rattle.calendar.specs.Calendar.{wrong_sessions, wrong_holidays, padded, step, set_of}
 use Rattle.calendar.specs.declared.trading.Calendar.{Calendar}
-use Rattle.calendar.specs.declared.trading.SetAnswer.TheVariants.{Done, Refused}
 use Rattle.calendar.proofs.trading.Laws.{few-sessions, few-holidays}
 use Rattle.exports.specs.declared.trading.FtdCalendar.{FtdCalendar}
 use Rattle.exports.specs.Trading.{calendar_for, calendar_numbers, step_numbers}
 use Rattle.exports.specs.Trading.Laws.{CalendarIs, CalendarNumberLaws}
+use Rattle.std.specs.Prelude.{Ok, Err}
 
 back : (c : Calendar) → length c.sessions ≡ 24 → length c.holidays ≡ 32 → CalendarIs (calendar_numbers c) c
 back c a b = (refl, a, b)
@@ -30,9 +30,9 @@ set_is c a b sessions holidays = go (wrong_sessions sessions) refl (wrong_holida
     Is : Bool → Bool → Type 0
     Is x y =
         let after =
-        (cond x (step c (Refused Sessions))
-        (cond y (step c (Refused Holiday))
-        (step (record { sessions = padded 24 sessions; holidays = padded 32 holidays }) Done))).calendar in
+        (cond x (step c (Err Sessions))
+        (cond y (step c (Err Holiday))
+        (step (record { sessions = padded 24 sessions; holidays = padded 32 holidays }) (Ok tt)))).calendar in
         CalendarIs (calendar_numbers after) after
 
     go : (x : Bool) → x ≡ wrong_sessions sessions → (y : Bool) → y ≡ wrong_holidays holidays → Is x y

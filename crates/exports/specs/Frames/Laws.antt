@@ -6,11 +6,10 @@ use Rattle.ftd.specs.Follow.{Numbered, Follows}
 use Rattle.ftd.specs.Refusal.{number_of}
 use Rattle.ftd.specs.Packet.{span}
 use Rattle.ftd.specs.declared.refusal.Refusal.{Refusal}
-use Rattle.fix.specs.declared.text.Number.{Number}
+use Rattle.fix.specs.Types.{Number}
 use Rattle.fix.specs.declared.kinds.Kind.{Kind}
 use Rattle.fix.specs.declared.kinds.Kind.TheVariants.{Heartbeat, TestRequest, ResendRequest, SequenceReset}
 use Rattle.fix.specs.declared.kinds.Kind.TheVariants.{Logout, Logon, Other}
-use Rattle.fix.specs.declared.fields.Front.{Front}
 use Rattle.fix.specs.declared.read.Message.{Message}
 use Rattle.fix.specs.declared.read.Judged.{Judged}
 use Rattle.fix.specs.declared.read.Judged.TheVariants.{Refused, Next, Again, Gap, Reset}
@@ -19,6 +18,7 @@ use Rattle.fix.specs.Read.{read_of}
 use Rattle.fix.specs.Follow.{Event, frame, set_to, is_set}
 use Rattle.exports.specs.declared.frames.FtdReading.{FtdReading}
 use Rattle.exports.specs.Frames.{said_numbers, reading_numbers, front_numbers, text_numbers}
+use Rattle.fix.specs.Types.{MaybeFront}
 
 -- The type that a number says.
 unfoldable pub kind_for : ℕ → Kind
@@ -80,5 +80,5 @@ pub record FrameNumberLaws : Type 0 where
   -- The numbers told as next follow each other, until the caller sets the expected one.
   pub follow : Follows readings
   -- The numbers of a field or of a text are of no other one.
-  pub field : (x y : Front) → front_numbers x ≡ front_numbers y → x ≡ y
+  pub field : (x y : MaybeFront) → front_numbers x ≡ front_numbers y → x ≡ y
   pub number : (x y : Number) → text_numbers x ≡ text_numbers y → x ≡ y

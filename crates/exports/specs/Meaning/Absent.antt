@@ -1,21 +1,18 @@
 -- What an answer does not have is 0 (include/ftd.h, "Rules of all calls", and at each struct): the numbers of an answer
 -- with every member that the answer does not have set to 0, as it is said there, are the same numbers.
 use Rattle.std.specs.Prelude.{ℕ, ◌≡◌, Bool, cond, not, ◌||◌, eqb, pos}
-use Rattle.ftd.specs.declared.tags.TradeDate.{TradeDate}
+use Rattle.ftd.specs.Types.{TradeDate}
 use Rattle.ftd.specs.declared.packet.Dated.{Dated}
-use Rattle.ftd.specs.declared.fields.FieldPlace.{FieldPlace}
-use Rattle.ftd.specs.declared.chain.ChainSize.{ChainSize}
-use Rattle.ftd.specs.declared.write.Written.{Written}
+use Rattle.ftd.specs.Types.{ChainSize}
+use Rattle.ftd.specs.Types.{Written}
 use Rattle.ftd.specs.declared.resume.Resume.{Resume}
 use Rattle.ftd.specs.declared.item.FieldItem.{FieldItem}
 use Rattle.flow.specs.declared.sender.Sender.{Sender}
-use Rattle.flow.specs.declared.sender.Published.{Published}
-use Rattle.flow.specs.declared.sender.LoggedIn.{LoggedIn}
-use Rattle.flow.specs.declared.sender.Sent.{Sent}
-use Rattle.flow.specs.declared.sender.SentPacket.{SentPacket}
+use Rattle.flow.specs.Types.{Published}
+use Rattle.flow.specs.Types.{LoggedIn}
 use Rattle.flow.specs.declared.receiver.Receiver.{Receiver}
-use Rattle.flow.specs.declared.receiver.Requested.{Requested}
-use Rattle.flow.specs.declared.receiver.Confirmed.{Confirmed}
+use Rattle.flow.specs.Types.{Requested}
+use Rattle.flow.specs.Types.{Confirmed}
 use Rattle.flow.specs.declared.receiver.Received.{Received}
 use Rattle.flow.specs.declared.several.ReceivedSeveral.{ReceivedSeveral}
 use Rattle.flow.specs.declared.several.PublishedSeveral.{PublishedSeveral}
@@ -25,11 +22,9 @@ use Rattle.flow.specs.declared.order.Order.{Order}
 use Rattle.relay.specs.State.{Box}
 use Rattle.relay.specs.Box.{Relayed}
 use Rattle.relay.specs.Bufferful.{Logged}
-use Rattle.calendar.specs.declared.trading.TradeTime.{TradeTime}
-use Rattle.book.specs.declared.levels.Listed.{Listed}
-use Rattle.book.specs.declared.sums.Mean.{Mean}
-use Rattle.fix.specs.declared.fields.Front.{Front}
-use Rattle.fix.specs.declared.text.Number.{Number as TextNumber}
+use Rattle.calendar.specs.Types.{TradeTime}
+use Rattle.book.specs.Types.{Mean}
+use Rattle.fix.specs.Types.{Number as TextNumber}
 use Rattle.fix.specs.declared.read.Reading.{Reading}
 use Rattle.exports.specs.declared.written.FtdWritten.{FtdWritten}
 use Rattle.exports.specs.declared.serving.FtdPublished.{FtdPublished}
@@ -70,6 +65,10 @@ use Rattle.exports.specs.declared.frames.FtdReading.{FtdReading}
 use Rattle.exports.specs.declared.orders.FtdOrder.{FtdOrder}
 use Rattle.exports.specs.Orders.{order_numbers}
 use Rattle.exports.specs.declared.boxes.FtdBoxConfirmed.{FtdBoxConfirmed}
+use Rattle.ftd.specs.Types.{MaybeField}
+use Rattle.flow.specs.Types.{SendAnswer, PacketSent}
+use Rattle.book.specs.Types.{MaybeLevel}
+use Rattle.fix.specs.Types.{MaybeFront}
 
 -- ─── The ends ───
 
@@ -358,8 +357,8 @@ pub record AbsentLaws : Type 0 where
   -- The ends.
   pub published : (x : Wrote Sender Published) → published_only (published_numbers x) ≡ published_numbers x
   pub logged-in : (x : Wrote Sender LoggedIn) → logged_in_only (logged_in_numbers x) ≡ logged_in_numbers x
-  pub sent : (x : Wrote Sender Sent) → sent_only (sent_numbers x) ≡ sent_numbers x
-  pub sent-packet : (x : Wrote Sender SentPacket) → sent_packet_only (sent_packet_numbers x) ≡ sent_packet_numbers x
+  pub sent : (x : Wrote Sender SendAnswer) → sent_only (sent_numbers x) ≡ sent_numbers x
+  pub sent-packet : (x : Wrote Sender PacketSent) → sent_packet_only (sent_packet_numbers x) ≡ sent_packet_numbers x
   pub published-several : (x : Took Sender PublishedSeveral)
       → published_several_only (published_several_numbers x) ≡ published_several_numbers x
   pub requested : (a : Requested) → written_only (requested_numbers a) ≡ requested_numbers a
@@ -373,21 +372,21 @@ pub record AbsentLaws : Type 0 where
   pub box-received-several : (x : Took Logged ReceivedSeveral)
       → box_received_several_only (box_received_several_numbers x) ≡ box_received_several_numbers x
   pub seat-login : (a : LoggedIn) → written_only (seat_login_numbers a) ≡ seat_login_numbers a
-  pub seat-sent : (a : Sent) → seat_sent_only (seat_sent_numbers a) ≡ seat_sent_numbers a
-  pub seat-packet : (a : SentPacket) → seat_packet_only (seat_packet_numbers a) ≡ seat_packet_numbers a
+  pub seat-sent : (a : SendAnswer) → seat_sent_only (seat_sent_numbers a) ≡ seat_sent_numbers a
+  pub seat-packet : (a : PacketSent) → seat_packet_only (seat_packet_numbers a) ≡ seat_packet_numbers a
   pub order : (o : Order) → order_only (order_numbers o) ≡ order_numbers o
   -- Packets, fields, writers, items.
   pub read : (k : ℕ) (x : Dated) → packet_only (dated_numbers k x) ≡ dated_numbers k x
   pub trade-date : (d : TradeDate) → date_only (trade_date_numbers d) ≡ trade_date_numbers d
-  pub field : (x : FieldPlace) → field_only (field_numbers x) ≡ field_numbers x
+  pub field : (x : MaybeField) → field_only (field_numbers x) ≡ field_numbers x
   pub sizes : (x : ChainSize) → size_only (size_numbers x) ≡ size_numbers x
   pub written : (x : Written) → written_only (written_numbers x) ≡ written_numbers x
   pub start : (x : Resume) → resume_only (resume_numbers x) ≡ resume_numbers x
   pub item : (x : FieldItem) → item_only (item_numbers x) ≡ item_numbers x
   -- Calendar, book, frames.
   pub time : (x : TradeTime) → trade_time_only (trade_time_numbers x) ≡ trade_time_numbers x
-  pub level : (x : Listed) → level_only (level_numbers x) ≡ level_numbers x
+  pub level : (x : MaybeLevel) → level_only (level_numbers x) ≡ level_numbers x
   pub mean : (x : Mean) → mean_only (mean_numbers x) ≡ mean_numbers x
-  pub front : (x : Front) → front_only (front_numbers x) ≡ front_numbers x
+  pub front : (x : MaybeFront) → front_only (front_numbers x) ≡ front_numbers x
   pub text : (x : TextNumber) → text_number_only (text_numbers x) ≡ text_numbers x
   pub reading : (x : Reading) → reading_only (reading_numbers x) ≡ reading_numbers x

@@ -5,30 +5,12 @@ use Rattle.std.specs.Prelude.{ℕ, ◌≡◌, false, cond, eqb}
 use Rattle.ftd.specs.Refusal.{number_of}
 use Rattle.ftd.specs.declared.refusal.Refusal.{Refusal}
 use Rattle.flow.specs.declared.sender.Sender.{Sender}
-use Rattle.flow.specs.declared.sender.Opened.{Opened}
-use Rattle.flow.specs.declared.sender.Opened.TheVariants.{Done}
-use Rattle.flow.specs.declared.sender.Opened.TheVariants.{Refused as NotOpened}
-use Rattle.flow.specs.declared.sender.Published.{Published}
-use Rattle.flow.specs.declared.sender.Published.TheVariants.{Number}
-use Rattle.flow.specs.declared.sender.Published.TheVariants.{Refused as NotPublished}
-use Rattle.flow.specs.declared.sender.LoggedIn.{LoggedIn}
-use Rattle.flow.specs.declared.sender.LoggedIn.TheVariants.{Wrote as Answered}
-use Rattle.flow.specs.declared.sender.LoggedIn.TheVariants.{Refused as NotIn}
-use Rattle.flow.specs.declared.sender.Sent.{Sent}
-use Rattle.flow.specs.declared.sender.Sent.TheVariants.{Drained}
-use Rattle.flow.specs.declared.sender.Sent.TheVariants.{Wrote as Message-sent}
-use Rattle.flow.specs.declared.sender.Sent.TheVariants.{Refused as NotSent}
-use Rattle.flow.specs.declared.sender.SentPacket.{SentPacket}
-use Rattle.flow.specs.declared.sender.SentPacket.TheVariants.{Drained as NoPacket}
-use Rattle.flow.specs.declared.sender.SentPacket.TheVariants.{Wrote as Packet-sent}
-use Rattle.flow.specs.declared.sender.SentPacket.TheVariants.{Refused as NotPacket}
+use Rattle.flow.specs.Types.{Opened}
+use Rattle.flow.specs.Types.{Published}
+use Rattle.flow.specs.Types.{LoggedIn}
 use Rattle.flow.specs.declared.receiver.Receiver.{Receiver}
-use Rattle.flow.specs.declared.receiver.Requested.{Requested}
-use Rattle.flow.specs.declared.receiver.Requested.TheVariants.{Wrote as Asked}
-use Rattle.flow.specs.declared.receiver.Requested.TheVariants.{Refused as NotAsked}
-use Rattle.flow.specs.declared.receiver.Confirmed.{Confirmed}
-use Rattle.flow.specs.declared.receiver.Confirmed.TheVariants.{Last}
-use Rattle.flow.specs.declared.receiver.Confirmed.TheVariants.{Refused as NotConfirmed}
+use Rattle.flow.specs.Types.{Requested}
+use Rattle.flow.specs.Types.{Confirmed}
 use Rattle.flow.specs.declared.receiver.Origin.{Origin}
 use Rattle.flow.specs.declared.receiver.Origin.TheVariants.{Packet, Buffer}
 use Rattle.flow.specs.declared.receiver.Received.{Received}
@@ -42,10 +24,8 @@ use Rattle.flow.specs.declared.several.PublishedSeveral.{PublishedSeveral}
 use Rattle.flow.specs.declared.several.PublishedSeveral.TheVariants.{End as AllIn, Short as Cut}
 use Rattle.flow.specs.declared.several.PublishedSeveral.TheVariants.{Refused as RecordRefused}
 use Rattle.flow.specs.declared.checkpoint.Checkpoints.{Checkpoints}
-use Rattle.flow.specs.declared.checkpoint.Saved.{Saved}
-use Rattle.flow.specs.declared.checkpoint.Saved.TheVariants.{Done as Saved-done, Refused as NotSaved}
-use Rattle.flow.specs.declared.checkpoint.Restored.{Restored}
-use Rattle.flow.specs.declared.checkpoint.Restored.TheVariants.{Done as Restored-done, Refused as NotRestored}
+use Rattle.flow.specs.Types.{Saved}
+use Rattle.flow.specs.Types.{Restored}
 use Rattle.flow.specs.Ends.{Left, Wrote}
 use Rattle.flow.specs.Several.{Took}
 use Rattle.relay.specs.State.{Box}
@@ -73,41 +53,43 @@ use Rattle.exports.specs.Keeping.{kept_step_numbers, returned_numbers}
 use Rattle.exports.specs.Boxes.{box_opened_numbers, box_confirmed_numbers, box_received_numbers}
 use Rattle.exports.specs.Boxes.{box_received_several_numbers, seat_login_numbers, seat_sent_numbers, seat_packet_numbers}
 use Rattle.exports.specs.Meaning.{row_for, or_refused, bool_for, span_for}
+use Rattle.std.specs.Prelude.{None, Ok, Err}
+use Rattle.flow.specs.Types.{SendAnswer, message_sent, PacketSent, packet_sent}
 
 -- ─── By the members ───
 
 -- Opening: refusal.
 abbrev pub opened_for : ℕ → Opened
-opened_for refusal = or_refused refusal NotOpened Done
+opened_for refusal = or_refused refusal Err (Ok tt)
 
 -- Login: bytes, refusal.
 abbrev pub logged_in_for : ℕ → ℕ → LoggedIn
-logged_in_for bytes refusal = or_refused refusal NotIn (Answered bytes)
+logged_in_for bytes refusal = or_refused refusal Err (Ok bytes)
 
 -- Answer: last, refusal.
 abbrev pub confirmed_for : ℕ → ℕ → Confirmed
-confirmed_for last refusal = or_refused refusal NotConfirmed (Last last)
+confirmed_for last refusal = or_refused refusal Err (Ok last)
 
 -- Keep and return: refusal.
 abbrev pub saved_for : ℕ → Saved
-saved_for refusal = or_refused refusal NotSaved Saved-done
+saved_for refusal = or_refused refusal Err (Ok tt)
 
 abbrev pub restored_for : ℕ → Restored
-restored_for refusal = or_refused refusal NotRestored Restored-done
+restored_for refusal = or_refused refusal Err (Ok tt)
 
 -- enum ftd_send_answer: answer, number, bytes, refusal.
-unfoldable pub sent_for : ℕ → ℕ → ℕ → ℕ → Sent
+unfoldable pub sent_for : ℕ → ℕ → ℕ → ℕ → SendAnswer
 sent_for answer number bytes refusal =
-    cond (eqb answer 0) Drained
-    (cond (eqb answer 1) (Message-sent number bytes)
-    (NotSent (row_for refusal)))
+    cond (eqb answer 0) (Ok None)
+    (cond (eqb answer 1) (message_sent number bytes)
+    (Err (row_for refusal)))
 
 -- The same of one packet, with last.
-unfoldable pub sent_packet_for : ℕ → ℕ → ℕ → ℕ → ℕ → SentPacket
+unfoldable pub sent_packet_for : ℕ → ℕ → ℕ → ℕ → ℕ → PacketSent
 sent_packet_for answer number bytes last refusal =
-    cond (eqb answer 0) NoPacket
-    (cond (eqb answer 1) (Packet-sent number bytes (bool_for last))
-    (NotPacket (row_for refusal)))
+    cond (eqb answer 0) (Ok None)
+    (cond (eqb answer 1) (packet_sent number bytes (bool_for last))
+    (Err (row_for refusal)))
 
 -- enum ftd_origin.
 abbrev pub origin_for : ℕ → Origin
@@ -140,19 +122,19 @@ published_several_for answer missing refusal =
 -- ─── By the struct ───
 
 abbrev pub published_by : FtdPublished → Published
-published_by n = or_refused n.refusal NotPublished (Number n.number)
+published_by n = or_refused n.refusal Err (Ok n.number)
 
 abbrev pub logged_in_by : FtdLoggedIn → LoggedIn
 logged_in_by n = logged_in_for n.bytes n.refusal
 
-abbrev pub sent_by : FtdSent → Sent
+abbrev pub sent_by : FtdSent → SendAnswer
 sent_by n = sent_for n.answer n.number n.bytes n.refusal
 
-abbrev pub sent_packet_by : FtdSentPacket → SentPacket
+abbrev pub sent_packet_by : FtdSentPacket → PacketSent
 sent_packet_by n = sent_packet_for n.answer n.number n.bytes n.last n.refusal
 
 abbrev pub requested_by : FtdWritten → Requested
-requested_by n = or_refused n.refusal NotAsked (Asked n.bytes)
+requested_by n = or_refused n.refusal Err (Ok n.bytes)
 
 abbrev pub confirmed_by : FtdConfirmed → Confirmed
 confirmed_by n = confirmed_for n.last n.refusal
@@ -178,10 +160,10 @@ box_received_several_by n =
 abbrev pub seat_login_by : FtdWritten → LoggedIn
 seat_login_by n = logged_in_for n.bytes n.refusal
 
-abbrev pub seat_sent_by : FtdBoxSent → Sent
+abbrev pub seat_sent_by : FtdBoxSent → SendAnswer
 seat_sent_by n = sent_for n.answer n.number n.bytes n.refusal
 
-abbrev pub seat_packet_by : FtdBoxSentPacket → SentPacket
+abbrev pub seat_packet_by : FtdBoxSentPacket → PacketSent
 seat_packet_by n = sent_packet_for n.answer n.number n.bytes n.last n.refusal
 
 -- ─── The statement ───
@@ -194,8 +176,8 @@ pub record AnswerLaws : Type 0 where
   pub day-opened : (x : Left Sender Opened) → opened_for (day_opened_numbers x).refusal ≡ x.answer
   pub published : (x : Wrote Sender Published) → published_by (published_numbers x) ≡ x.answer
   pub logged-in : (x : Wrote Sender LoggedIn) → logged_in_by (logged_in_numbers x) ≡ x.answer
-  pub sent : (x : Wrote Sender Sent) → sent_by (sent_numbers x) ≡ x.answer
-  pub sent-packet : (x : Wrote Sender SentPacket) → sent_packet_by (sent_packet_numbers x) ≡ x.answer
+  pub sent : (x : Wrote Sender SendAnswer) → sent_by (sent_numbers x) ≡ x.answer
+  pub sent-packet : (x : Wrote Sender PacketSent) → sent_packet_by (sent_packet_numbers x) ≡ x.answer
   pub published-several : (x : Took Sender PublishedSeveral)
       → published_several_by (published_several_numbers x) ≡ x.answer
   pub records-taken : (x : Took Sender PublishedSeveral) → (published_several_numbers x).taken ≡ x.taken
@@ -218,13 +200,13 @@ pub record AnswerLaws : Type 0 where
       → box_received_several_by (box_received_several_numbers x) ≡ x.answer
   pub box-taken : (x : Took Logged ReceivedSeveral) → (box_received_several_numbers x).taken ≡ x.taken
   pub seat-login : (a : LoggedIn) → seat_login_by (seat_login_numbers a) ≡ a
-  pub seat-sent : (a : Sent) → seat_sent_by (seat_sent_numbers a) ≡ a
-  pub seat-packet : (a : SentPacket) → seat_packet_by (seat_packet_numbers a) ≡ a
+  pub seat-sent : (a : SendAnswer) → seat_sent_by (seat_sent_numbers a) ≡ a
+  pub seat-packet : (a : PacketSent) → seat_packet_by (seat_packet_numbers a) ≡ a
   -- Whoever looks at `refusal` before `answer` is told the same.
-  pub sent-first : (x : Wrote Sender Sent) →
-      let n = sent_numbers x in or_refused n.refusal NotSent (sent_by n) ≡ x.answer
-  pub packet-first : (x : Wrote Sender SentPacket) →
-      let n = sent_packet_numbers x in or_refused n.refusal NotPacket (sent_packet_by n) ≡ x.answer
+  pub sent-first : (x : Wrote Sender SendAnswer) →
+      let n = sent_numbers x in or_refused n.refusal Err (sent_by n) ≡ x.answer
+  pub packet-first : (x : Wrote Sender PacketSent) →
+      let n = sent_packet_numbers x in or_refused n.refusal Err (sent_packet_by n) ≡ x.answer
   pub records-first : (x : Took Sender PublishedSeveral) →
       let n = published_several_numbers x in or_refused n.refusal RecordRefused (published_several_by n) ≡ x.answer
   pub received-first : (x : Wrote Receiver Received) →
@@ -235,7 +217,7 @@ pub record AnswerLaws : Type 0 where
       let n = box_received_numbers x in or_refused n.refusal NotTaken (box_received_by n) ≡ x.answer
   pub box-several-first : (x : Took Logged ReceivedSeveral) →
       let n = box_received_several_numbers x in or_refused n.refusal StopRefused (box_received_several_by n) ≡ x.answer
-  pub seat-sent-first : (a : Sent) →
-      let n = seat_sent_numbers a in or_refused n.refusal NotSent (seat_sent_by n) ≡ a
-  pub seat-packet-first : (a : SentPacket) →
-      let n = seat_packet_numbers a in or_refused n.refusal NotPacket (seat_packet_by n) ≡ a
+  pub seat-sent-first : (a : SendAnswer) →
+      let n = seat_sent_numbers a in or_refused n.refusal Err (seat_sent_by n) ≡ a
+  pub seat-packet-first : (a : PacketSent) →
+      let n = seat_packet_numbers a in or_refused n.refusal Err (seat_packet_by n) ≡ a

@@ -5,10 +5,8 @@
 use Rattle.std.specs.Prelude.{ℕ, ◌+◌, ◌-◌, ◌<◌, ◌≤◌, ◌≡◌, List, Bool, true, false, cond, length, eqb}
 use Rattle.ftd.specs.Bytes.{be16_of, be32_of}
 use Rattle.ftd.specs.Packet.{dated_of}
-use Rattle.ftd.specs.declared.tags.TradeDate.{TradeDate}
-use Rattle.ftd.specs.declared.tags.TradeDate.TheVariants.{None, At}
-use Rattle.ftd.specs.declared.tags.PacketPlace.{PacketPlace}
-use Rattle.ftd.specs.declared.tags.PacketPlace.TheVariants.{NoPlace, Nth}
+use Rattle.ftd.specs.Types.{TradeDate}
+use Rattle.ftd.specs.Types.{PacketPlace}
 use Rattle.ftd.specs.declared.packet.Chain.{Chain}
 use Rattle.ftd.specs.declared.packet.Chain.TheVariants.{Single, First, Middle, Last}
 use Rattle.ftd.specs.declared.packet.Header.{Header}
@@ -16,18 +14,10 @@ use Rattle.ftd.specs.declared.packet.Packet.{Packet}
 use Rattle.ftd.specs.declared.packet.Packet.TheVariants.{Short, Link, Skipped, Message}
 use Rattle.ftd.specs.declared.packet.Packet.TheVariants.{Refused as WrongPacket}
 use Rattle.ftd.specs.declared.packet.Dated.{Dated}
-use Rattle.ftd.specs.declared.fields.FieldPlace.{FieldPlace}
-use Rattle.ftd.specs.declared.fields.FieldPlace.TheVariants.{NoField, Field}
 use Rattle.ftd.specs.declared.composition.Direction.TheVariants.{Up, Down}
-use Rattle.ftd.specs.declared.items.Checked.{Checked}
-use Rattle.ftd.specs.declared.items.Checked.TheVariants.{Passed}
-use Rattle.ftd.specs.declared.items.Checked.TheVariants.{Refused as Against}
-use Rattle.ftd.specs.declared.chain.ChainSize.{ChainSize}
-use Rattle.ftd.specs.declared.chain.ChainSize.TheVariants.{Takes}
-use Rattle.ftd.specs.declared.chain.ChainSize.TheVariants.{Refused as NoSize}
-use Rattle.ftd.specs.declared.write.Written.{Written}
-use Rattle.ftd.specs.declared.write.Written.TheVariants.{Bytes, NotPlain}
-use Rattle.ftd.specs.declared.write.Written.TheVariants.{Refused as NotWritten}
+use Rattle.ftd.specs.Types.{Checked}
+use Rattle.ftd.specs.Types.{ChainSize}
+use Rattle.ftd.specs.Types.{Written}
 use Rattle.ftd.specs.declared.resume.Resume.{Resume}
 use Rattle.ftd.specs.declared.resume.Resume.TheVariants.{Absent, Next, Misshapen, Several}
 use Rattle.ftd.specs.declared.item.FieldItem.{FieldItem}
@@ -35,23 +25,13 @@ use Rattle.ftd.specs.declared.item.FieldItem.TheVariants.{NoItem, NoValue, Char,
 use Rattle.ftd.specs.declared.dates.Date.TheVariants.{NoDate, Unused, Day}
 use Rattle.ftd.specs.declared.mode.Mode.{Mode}
 use Rattle.ftd.specs.declared.mode.Mode.TheVariants.{Private, Broadcast, Management, Dialog, Unknown}
-use Rattle.calendar.specs.declared.trading.SetAnswer.{SetAnswer}
-use Rattle.calendar.specs.declared.trading.SetAnswer.TheVariants.{Done as Set-done, Refused as NotSet}
+use Rattle.calendar.specs.Types.{SetAnswer}
 use Rattle.calendar.specs.declared.trading.SetStep.{SetStep}
-use Rattle.calendar.specs.declared.trading.TradeTime.{TradeTime}
-use Rattle.calendar.specs.declared.trading.TradeTime.TheVariants.{Outside, Inside}
-use Rattle.book.specs.declared.calls.Outcome.{Outcome}
-use Rattle.book.specs.declared.calls.Outcome.TheVariants.{Done as Book-done, Refused as NotBooked}
+use Rattle.calendar.specs.Types.{TradeTime}
+use Rattle.book.specs.Types.{Outcome}
 use Rattle.book.specs.declared.calls.Step.{Step}
-use Rattle.book.specs.declared.levels.Listed.{Listed}
-use Rattle.book.specs.declared.levels.Listed.TheVariants.{NoLevel}
-use Rattle.book.specs.declared.levels.Listed.TheVariants.{At as LevelAt}
-use Rattle.book.specs.declared.sums.Mean.{Mean}
-use Rattle.book.specs.declared.sums.Mean.TheVariants.{NoMean, Price}
-use Rattle.fix.specs.declared.fields.Front.{Front}
-use Rattle.fix.specs.declared.fields.Front.TheVariants.{NoField as NoFront, Field as FrontAt}
-use Rattle.fix.specs.declared.text.Number.{Number as TextNumber}
-use Rattle.fix.specs.declared.text.Number.TheVariants.{NoNumber, Is}
+use Rattle.book.specs.Types.{Mean}
+use Rattle.fix.specs.Types.{Number as TextNumber}
 use Rattle.exports.specs.declared.FtdPacket.{FtdPacket}
 use Rattle.exports.specs.declared.FtdField.{FtdField}
 use Rattle.exports.specs.declared.FtdMessage.{FtdMessage}
@@ -74,15 +54,22 @@ use Rattle.exports.specs.Quotes.{level_numbers, mean_numbers}
 use Rattle.exports.specs.Quotes.{step_numbers as book_step_numbers}
 use Rattle.exports.specs.Frames.{front_numbers, text_numbers}
 use Rattle.exports.specs.Meaning.{row_for, or_refused, bool_for, span_for}
+use Rattle.std.specs.Prelude.{Some, None, Ok, Err}
+use Rattle.ftd.specs.Types.{MaybeField, some_field}
+use Rattle.book.specs.Types.{MaybeLevel, some_level}
+use Rattle.fix.specs.Types.{MaybeFront, some_front}
+use Rattle.ftd.specs.declared.write.WriteError.TheVariants.{Refused, NotPlain}
+use Rattle.ftd.specs.declared.refusal.Refusal.{Refusal}
+use Rattle.ftd.specs.declared.write.WriteError.TheVariants.{NotPlain}
 
 -- ─── Packets ───
 
 -- dated, date; placed, place.
 abbrev pub trade_date_for : ℕ → ℕ → TradeDate
-trade_date_for dated date = cond (eqb dated 1) (At date) None
+trade_date_for dated date = cond (eqb dated 1) (Some date) None
 
 abbrev pub packet_place_for : ℕ → ℕ → PacketPlace
-packet_place_for placed place = cond (eqb placed 1) (Nth place) NoPlace
+packet_place_for placed place = cond (eqb placed 1) (Some place) None
 
 -- The letter 'S', 'F', 'C' or 'L'.
 unfoldable pub chain_for : ℕ → Chain
@@ -128,18 +115,18 @@ date_by n = trade_date_for n.dated n.date
 
 -- ─── Fields, checks, writers ───
 
-abbrev pub field_by : FtdField → FieldPlace
-field_by n = cond (eqb n.found 0) NoField (Field n.fid n.start n.len)
+abbrev pub field_by : FtdField → MaybeField
+field_by n = cond (eqb n.found 0) None (some_field n.fid n.start n.len)
 
 abbrev pub checked_for : ℕ → Checked
-checked_for n = or_refused n Against Passed
+checked_for n = or_refused n Err (Ok tt)
 
 abbrev pub size_by : FtdSize → ChainSize
-size_by n = or_refused n.refusal NoSize (Takes (record { packets = n.packets; bytes = n.bytes }))
+size_by n = or_refused n.refusal Err (Ok (record { packets = n.packets; bytes = n.bytes }))
 
 -- FTD_NOT_PLAIN is not in the table.
 abbrev pub written_by : FtdWritten → Written
-written_by n = cond (eqb n.refusal 255) NotPlain (or_refused n.refusal NotWritten (Bytes n.bytes))
+written_by n = cond (eqb n.refusal 255) (Err NotPlain) (or_refused n.refusal (λ (r : Refusal). Err (Refused r)) (Ok n.bytes))
 
 -- enum ftd_start.
 unfoldable pub resume_by : FtdResume → Resume
@@ -203,25 +190,25 @@ mode_for n =
 -- ─── Calendar, book, frames ───
 
 abbrev pub set_for : ℕ → SetAnswer
-set_for refusal = or_refused refusal NotSet Set-done
+set_for refusal = or_refused refusal Err (Ok tt)
 
 abbrev pub trade_time_by : FtdTradeTime → TradeTime
-trade_time_by n = cond (eqb n.inside 0) Outside (Inside n.date)
+trade_time_by n = cond (eqb n.inside 0) None (Some n.date)
 
 abbrev pub booked_for : ℕ → Outcome
-booked_for refusal = or_refused refusal NotBooked Book-done
+booked_for refusal = or_refused refusal Err (Ok tt)
 
-abbrev pub level_by : FtdListed → Listed
-level_by n = cond (eqb n.found 0) NoLevel (LevelAt n.price n.quantity)
+abbrev pub level_by : FtdListed → MaybeLevel
+level_by n = cond (eqb n.found 0) None (some_level n.price n.quantity)
 
 abbrev pub mean_by : FtdMean → Mean
-mean_by n = cond (eqb n.found 0) NoMean (Price n.price)
+mean_by n = cond (eqb n.found 0) None (Some n.price)
 
-abbrev pub front_by : FtdTagged → Front
-front_by n = cond (eqb n.found 0) NoFront (FrontAt n.tag n.start n.len)
+abbrev pub front_by : FtdTagged → MaybeFront
+front_by n = cond (eqb n.found 0) None (some_front n.tag n.start n.len)
 
 abbrev pub text_number_by : FtdNumber → TextNumber
-text_number_by n = cond (eqb n.found 0) NoNumber (Is n.number)
+text_number_by n = cond (eqb n.found 0) None (Some n.number)
 
 -- ─── The statement ───
 
@@ -232,8 +219,8 @@ pub record ValueLaws : Type 0 where
   pub trade-date : (d : TradeDate) → date_by (trade_date_numbers d) ≡ d
   pub keep-alive : (b : Bool) → bool_for (flag b) ≡ b
   -- Fields, the content check, a message's size and every writer.
-  pub field : (x : FieldPlace) → field_by (field_numbers x) ≡ x
-  -- (At a place that the caller knows: FID, length and that many bytes, or not all of them.)
+  pub field : (x : MaybeField) → field_by (field_numbers x) ≡ x
+  -- (Some a place that the caller knows: FID, length and that many bytes, or not all of them.)
   pub step : (content : List ℕ) (at : ℕ) → 6 + be16_of content (at + 4) ≤ length content - at
       → step_of content at ≡ record { len = be16_of content (at + 4); fid = be32_of content at; found = 1 }
   pub no_step : (content : List ℕ) (at : ℕ) → length content - at < 6 + be16_of content (at + 4)
@@ -245,7 +232,7 @@ pub record ValueLaws : Type 0 where
   pub written : (x : Written) → written_by (written_numbers x) ≡ x
   pub start : (x : Resume) → resume_by (resume_numbers x) ≡ x
   -- A message that is given: what its packets bear.
-  pub given-date : (m : FtdMessage) → (message_for m).date ≡ cond (eqb m.dated 0) None (At m.date)
+  pub given-date : (m : FtdMessage) → (message_for m).date ≡ cond (eqb m.dated 0) None (Some m.date)
   pub given-tid : (m : FtdMessage) → (message_for m).tid ≡ m.tid
   pub given-series : (m : FtdMessage) → (message_for m).series ≡ m.series
   pub given-number : (m : FtdMessage) → (message_for m).number ≡ m.number
@@ -258,7 +245,7 @@ pub record ValueLaws : Type 0 where
   pub set : (x : SetStep) → set_for (set_numbers x).refusal ≡ x.answer
   pub time : (x : TradeTime) → trade_time_by (trade_time_numbers x) ≡ x
   pub booked : (x : Step) → booked_for (book_step_numbers x).refusal ≡ x.answer
-  pub level : (x : Listed) → level_by (level_numbers x) ≡ x
+  pub level : (x : MaybeLevel) → level_by (level_numbers x) ≡ x
   pub mean : (x : Mean) → mean_by (mean_numbers x) ≡ x
-  pub front : (x : Front) → front_by (front_numbers x) ≡ x
+  pub front : (x : MaybeFront) → front_by (front_numbers x) ≡ x
   pub text : (x : TextNumber) → text_number_by (text_numbers x) ≡ x

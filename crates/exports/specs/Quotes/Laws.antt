@@ -5,10 +5,10 @@ use Rattle.book.specs.Event.{faced}
 use Rattle.book.specs.declared.calls.Book.{Book}
 use Rattle.book.specs.declared.event.Event.TheVariants.{Quotation}
 use Rattle.book.specs.declared.levels.Level.{Level}
-use Rattle.book.specs.declared.levels.Listed.{Listed}
-use Rattle.book.specs.declared.sums.Mean.{Mean}
+use Rattle.book.specs.Types.{Mean}
 use Rattle.exports.specs.declared.quotes.FtdBook.{FtdBook}
 use Rattle.exports.specs.Quotes.{book_for, book_numbers, step_numbers, buying_for, level_numbers, mean_numbers}
+use Rattle.book.specs.Types.{MaybeLevel}
 
 -- Numbers that are a book: they say it.
 abbrev pub BookIs : FtdBook → Book → Type 0
@@ -28,5 +28,5 @@ pub record BookNumberLaws : Type 0 where
   pub side : (absolute buying : Bool) (direction : ℕ) (o : Level)
       → faced absolute direction o ≡ Quotation absolute buying o → buying_for direction ≡ buying
   -- The numbers of a level or a mean are of no other answer.
-  pub level : (x y : Listed) → level_numbers x ≡ level_numbers y → x ≡ y
+  pub level : (x y : MaybeLevel) → level_numbers x ≡ level_numbers y → x ≡ y
   pub mean : (x y : Mean) → mean_numbers x ≡ mean_numbers y → x ≡ y

@@ -7,14 +7,14 @@ use lib.ListN.{length, take, drop, length-drop}
 use lib.Seq.{drop-drop, length-take-le}
 use Rattle.ftd.specs.Bytes.{part}
 use Rattle.fix.specs.declared.fields.Last.{Last}
-use Rattle.fix.specs.declared.fields.Front.{Front}
-use Rattle.fix.specs.declared.fields.Front.TheVariants.{NoField, Field}
 use Rattle.fix.specs.Fields.{last_of, front_of, in_front, field_of, cut_off, cut_in, cut_from}
 use Rattle.fix.specs.FieldPlaces.{FrontInside}
 use Rattle.fix.proofs.fields.Fronts.{front-inside}
+use Rattle.std.specs.Prelude.{Some, None}
+use Rattle.fix.specs.Types.{MaybeFront, some_front}
 
 -- No bytes hold no field.
-front-none : (last : Last) (l : List ℕ) → length l ≤ 0 → front_of last l ≡ NoField
+front-none : (last : Last) (l : List ℕ) → length l ≤ 0 → front_of last l ≡ None
 unfolding front_of
 front-none last [] h = refl
 front-none last (x ∷ l) h = absurd (omega arith)
@@ -25,40 +25,40 @@ fuel zero (suc m) last l h k = rw (front-none last l h)
 fuel (suc n) zero last l h k = rw (front-none last l k)
 fuel (suc n) (suc m) last l h k = go (front_of last l) (λ a r p q. fuel n m a r p q)
   where
-    go : (f : Front) → ((a : Last) (r : List ℕ) → length r ≤ n → length r ≤ m → cut_in n a r ≡ cut_in m a r)
+    go : (f : MaybeFront) → ((a : Last) (r : List ℕ) → length r ≤ n → length r ≤ m → cut_in n a r ≡ cut_in m a r)
         → cut_off (cut_in n) l f ≡ cut_off (cut_in m) l f
-    go NoField ih = refl
-    go (Field tag start len) ih =
-        ap (in_front (field_of tag start len l))
-        (ih (last_of tag (part l start len)) (drop (start + len + 1) l)
+    go None ih = refl
+    go (Some found) ih =
+        ap (in_front (field_of found.tag found.start found.len l))
+        (ih (last_of found.tag (part l found.start found.len)) (drop (found.start + found.len + 1) l)
         (rw length-drop (omega arith)) (rw length-drop (omega arith)))
 
 pub cut_step : (last : Last) (l : List ℕ) → cut_from last l ≡ cut_off cut_from l (front_of last l)
 unfolding cut_from
 cut_step last l = fuel (length l) (suc (length l)) last l (omega arith) (omega arith) ∙ go (front_of last l)
   where
-    go : (f : Front) → cut_off (cut_in (length l)) l f ≡ cut_off (λ (a : Last) (r : List ℕ). cut_in (length r) a r) l f
-    go NoField = refl
-    go (Field tag start len) =
-        ap (in_front (field_of tag start len l))
-        (fuel (length l) (length (drop (start + len + 1) l)) (last_of tag (part l start len)) (drop (start + len + 1) l)
+    go : (f : MaybeFront) → cut_off (cut_in (length l)) l f ≡ cut_off (λ (a : Last) (r : List ℕ). cut_in (length r) a r) l f
+    go None = refl
+    go (Some found) =
+        ap (in_front (field_of found.tag found.start found.len l))
+        (fuel (length l) (length (drop (found.start + found.len + 1) l)) (last_of found.tag (part l found.start found.len)) (drop (found.start + found.len + 1) l)
         (rw length-drop (omega arith)) (omega arith))
 
 -- A field ends before the bytes do.
-pub field-within : (n : ℕ) (f : Front) → FrontInside n f → (tag start len : ℕ) → f ≡ Field tag start len
+pub field-within : (n : ℕ) (f : MaybeFront) → FrontInside n f → (tag start len : ℕ) → f ≡ some_front tag start len
     → start + len < n
-field-within n f h tag start len q = let g : FrontInside n (Field tag start len) = rw q at h in g.2
+field-within n f h tag start len q = let g : FrontInside n (some_front tag start len) = rw q at h in g.2
 
 -- The run from a place on, by the field there.
-module _ (last : Last) (run : List ℕ) (at : ℕ) (f : Front) (e : f ≡ front_of last (drop at run)) where
+module _ (last : Last) (run : List ℕ) (at : ℕ) (f : MaybeFront) (e : f ≡ front_of last (drop at run)) where
   -- None stands there: the run is over.
-  pub cut-over : f ≡ NoField → cut_from last (drop at run) ≡ record { fields = []; rest = drop at run }
+  pub cut-over : f ≡ None → cut_from last (drop at run) ≡ record { fields = []; rest = drop at run }
   cut-over q = rw (cut_step last (drop at run), ← e, q)
 
-  module _ (tag start len : ℕ) (q : f ≡ Field tag start len) where
+  module _ (tag start len : ℕ) (q : f ≡ some_front tag start len) where
     pub field-inside : (1 ≤ start) × (1 ≤ len) × (start + len < length run - at)
     field-inside =
-        let g : front_of last (drop at run) ≡ Field tag start len = sym e ∙ q in
+        let g : front_of last (drop at run) ≡ some_front tag start len = sym e ∙ q in
         rw (g, length-drop) at (front-inside last (drop at run))
 
     -- Its text, as the code lends it.

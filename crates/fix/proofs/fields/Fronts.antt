@@ -8,33 +8,13 @@ use borrow.Author.Tests.{lt-ltb, le-ltb, ltb-true, ltb-false, eq-eqb, ne_eqb, eq
 use lib.ListN.{length, get_or, take, drop, length-drop, get_or-eq_default}
 use lib.Seq.{get_or-drop, drop-drop}
 use lib.Dec.{ltb, eqb}
-use Rattle.fix.specs.declared.text.Number.{Number}
-use Rattle.fix.specs.declared.text.Number.TheVariants.{NoNumber, Is}
+use Rattle.fix.specs.Types.{Number}
 use Rattle.fix.specs.declared.fields.Last.{Last}
-use Rattle.fix.specs.declared.fields.Front.{Front}
-use Rattle.fix.specs.declared.fields.Front.TheVariants.{NoField, Field}
-use Rattle.fix.specs.Text.{soh, equals, until, number_in, plain_in, or_else}
-use Rattle.fix.specs.Fields.{length_tag, last_of, text_length, closed, tagged, front_of}
+use Rattle.fix.specs.Text.{soh, equals, until, plain_in}
+use Rattle.fix.specs.Fields.{text_length, closed, tagged, front_of}
 use Rattle.fix.specs.FieldPlaces.{FrontInside}
-
--- The field directly before, by its text's number.
-pub last_says : (tag size : ℕ) (x : Number) (text : List ℕ) → x ≡ number_in text → size ≡ or_else 0 x
-    → record { tag = tag; size = size } ≡ last_of tag text
-last_says tag size x text a b = rw (b, a)
-
--- The length of a text.
-module _ (last : Last) (tag by : ℕ) (rest : List ℕ) (e : by ≡ length_tag tag) where
-  pub text-until : by ≡ 0 → (n : ℕ) → n ≡ until soh rest → n ≡ text_length last tag rest
-  unfolding text_length
-  text-until z n q = rw (← e, eq-eqb by 0 z) q
-
-  pub text-said : (by ≡ 0 → ⊥) → by ≡ last.tag → (n : ℕ) → n ≡ last.size → n ≡ text_length last tag rest
-  unfolding text_length
-  text-said z h n q = rw (← e, ne_eqb by 0 z, eq-eqb by last.tag h) q
-
-  pub text-none : (by ≡ 0 → ⊥) → (by ≡ last.tag → ⊥) → 0 ≡ text_length last tag rest
-  unfolding text_length
-  text-none z h = rw (← e, ne_eqb by 0 z, ne_eqb by last.tag h)
+use Rattle.std.specs.Prelude.{Some, None}
+use Rattle.fix.specs.Types.{MaybeFront, some_front}
 
 -- A text closed by SOH.
 module _ (tag start n : ℕ) (s : List ℕ) (at : ℕ) where
@@ -43,27 +23,27 @@ module _ (tag start n : ℕ) (s : List ℕ) (at : ℕ) where
       let k : at + (start + n) ≡ at + start + n = omega arith in
       rw (get_or-drop, k)
 
-  pub closed_none : n ≡ 0 → NoField ≡ closed tag start n (drop at s)
+  pub closed_none : n ≡ 0 → None ≡ closed tag start n (drop at s)
   unfolding closed
   closed_none z = rw (eq-eqb n 0 z)
 
   module _ (z : n ≡ 0 → ⊥) where
-    pub closed-here : get_or s (at + start + n) 0 ≡ 1 → Field tag start n ≡ closed tag start n (drop at s)
+    pub closed-here : get_or s (at + start + n) 0 ≡ 1 → some_front tag start n ≡ closed tag start n (drop at s)
     unfolding closed
     closed-here h = rw (ne_eqb n 0 z, behind, eq-eqb (get_or s (at + start + n) 0) 1 h)
 
-    pub closed-open : (get_or s (at + start + n) 0 ≡ 1 → ⊥) → NoField ≡ closed tag start n (drop at s)
+    pub closed-open : (get_or s (at + start + n) 0 ≡ 1 → ⊥) → None ≡ closed tag start n (drop at s)
     unfolding closed
     closed-open h = rw (ne_eqb n 0 z, behind, ne_eqb (get_or s (at + start + n) 0) 1 h)
 
-    pub closed-short : length s - at - start ≤ n → NoField ≡ closed tag start n (drop at s)
+    pub closed-short : length s - at - start ≤ n → None ≡ closed tag start n (drop at s)
     closed-short h =
         let past : get_or s (at + start + n) 0 ≡ 0 = get_or-eq_default s 0 {n = at + start + n} (omega arith) in
         closed-open (λ q. omega (arith, past, q))
 
 -- The field at a place.
 module _ (last : Last) (s : List ℕ) (at e : ℕ) (q : e ≡ until equals (drop at s)) where
-  pub front-open : length s - at ≤ e → NoField ≡ front_of last (drop at s)
+  pub front-open : length s - at ≤ e → None ≡ front_of last (drop at s)
   unfolding front_of
   front-open h = rw (← q, length-drop, le-ltb e (length s - at) h)
 
@@ -73,12 +53,12 @@ module _ (last : Last) (s : List ℕ) (at e : ℕ) (q : e ≡ until equals (drop
         let k : at + e - at ≡ e = omega arith in
         rw k at p
 
-    pub front-other : x ≡ NoNumber → NoField ≡ front_of last (drop at s)
+    pub front-other : x ≡ None → (r : MaybeFront) → r ≡ None → (r ≡ front_of last (drop at s)) × FrontInside (length s - at) r
     unfolding front_of
-    front-other w = rw (← q, length-drop, lt-ltb e (length s - at) h, ← same, w)
+    front-other w r v = (rw (v, ← q, length-drop, lt-ltb e (length s - at) h, ← same, w), rw v tt)
 
-    pub front-tagged : (tag : ℕ) → x ≡ Is tag → (n : ℕ) → n ≡ text_length last tag (drop (at + e + 1) s)
-        → (r : Front) → r ≡ closed tag (e + 1) n (drop at s) → r ≡ front_of last (drop at s)
+    pub front-tagged : (tag : ℕ) → x ≡ Some tag → (n : ℕ) → n ≡ text_length last tag (drop (at + e + 1) s)
+        → (r : MaybeFront) → r ≡ closed tag (e + 1) n (drop at s) → r ≡ front_of last (drop at s)
     unfolding front_of
     front-tagged tag w n u r v =
         let k : at + (e + 1) ≡ at + e + 1 = omega arith in
@@ -92,7 +72,7 @@ unfolding closed
 closed-inside tag start n l h = go (eqb n 0) refl
   where
     byte : (b : Bool) → eqb (get_or l (start + n) 0) soh ≡ b → (n ≡ 0 → ⊥)
-        → FrontInside (length l) (cond b (Field tag start n) NoField)
+        → FrontInside (length l) (cond b (some_front tag start n) None)
     byte false e z = tt
     byte true e z = (h, omega arith, within (ltb (start + n) (length l)) refl)
       where
@@ -105,23 +85,23 @@ closed-inside tag start n l h = go (eqb n 0) refl
             absurd (omega (arith, one, past))
 
     go : (b : Bool) → eqb n 0 ≡ b
-        → FrontInside (length l) (cond b NoField (cond (eqb (get_or l (start + n) 0) soh) (Field tag start n) NoField))
+        → FrontInside (length l) (cond b None (cond (eqb (get_or l (start + n) 0) soh) (some_front tag start n) None))
     go true e = tt
     go false e = byte (eqb (get_or l (start + n) 0) soh) refl (eqb-false n 0 e)
 
 tagged-inside : (last : Last) (l : List ℕ) (e : ℕ) (x : Number) → FrontInside (length l) (tagged last l e x)
-tagged-inside last l e NoNumber = tt
-tagged-inside last l e (Is tag) = closed-inside tag (e + 1) (text_length last tag (drop (e + 1) l)) l (omega arith)
+tagged-inside last l e None = tt
+tagged-inside last l e (Some tag) = closed-inside tag (e + 1) (text_length last tag (drop (e + 1) l)) l (omega arith)
 
 pub front-inside : (last : Last) (l : List ℕ) → FrontInside (length l) (front_of last l)
 unfolding front_of
 front-inside last l = go (ltb (until equals l) (length l))
   where
     go : (b : Bool)
-        → FrontInside (length l) (cond b (tagged last l (until equals l) (plain_in (take (until equals l) l))) NoField)
+        → FrontInside (length l) (cond b (tagged last l (until equals l) (plain_in (take (until equals l) l))) None)
     go true = tagged-inside last l (until equals l) (plain_in (take (until equals l) l))
     go false = tt
 
-pub at-inside : (last : Last) (s : List ℕ) (at : ℕ) (r : Front) → r ≡ front_of last (drop at s)
+pub at-inside : (last : Last) (s : List ℕ) (at : ℕ) (r : MaybeFront) → r ≡ front_of last (drop at s)
     → FrontInside (length s - at) r
 at-inside last s at r q = rw q (rw length-drop at (front-inside last (drop at s)))

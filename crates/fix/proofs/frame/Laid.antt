@@ -9,7 +9,6 @@ use lib.ListN.{length, take, drop, length-append}
 use lib.Seq.{take_at, drop_at, drop-drop, drop-append-add, take-append_seam}
 use Rattle.ftd.specs.Bytes.{part}
 use Rattle.ftd.specs.Packet.{span}
-use Rattle.fix.specs.declared.frame.Frame.TheVariants.{Framed}
 use Rattle.fix.specs.Text.{soh, until, stands_at, sum_of, length_text}
 use Rattle.fix.specs.Fields.{is_whole}
 use Rattle.fix.specs.Frame.{begin_text, type_text, body_length, body_bytes, summed, trailer, frame_bytes}
@@ -17,6 +16,7 @@ use Rattle.fix.specs.Frame.{type_at, body_at, length_at, outline_of, frame_of}
 use Rattle.fix.proofs.frame.Puts.{length-trailer, length-summed}
 use Rattle.fix.proofs.frame.Words.{begins-own, begins-same, until-seam, digits-plain}
 use Rattle.fix.proofs.frame.Outlines.{name-there, fields-there}
+use Rattle.fix.specs.Types.{some_frame}
 
 -- The frame as one run of its parts.
 module _ (name run : List ℕ) where
@@ -100,7 +100,7 @@ module _ (b name run : List ℕ) (same : b ≡ frame_bytes name run) (n : ℕ) (
 
   pub outline-found : length b ≤ 4096 → (length name ≡ 0 → ⊥) → until soh name ≡ length name
       → outline_of b
-      ≡ Framed (span (13 + n + 3) (length name)) (span (13 + n + 4 + length name) (size - (4 + length name)))
+      ≡ some_frame (span (13 + n + 3) (length name)) (span (13 + n + 4 + length name) (size - (4 + length name)))
   unfolding outline_of length_at body_at type_at body_length
   outline-found most some plain =
       let s : length b - (20 + n) ≡ size = omega (arith, counted) in
@@ -119,6 +119,6 @@ module _ (b name run : List ℕ) (same : b ≡ frame_bytes name run) (n : ℕ) (
 
   pub frame_found : length b ≤ 4096 → (length name ≡ 0 → ⊥) → until soh name ≡ length name → is_whole run ≡ true
       → frame_of b
-      ≡ Framed (span (13 + n + 3) (length name)) (span (13 + n + 4 + length name) (size - (4 + length name)))
+      ≡ some_frame (span (13 + n + 3) (length name)) (span (13 + n + 4 + length name) (size - (4 + length name)))
   unfolding frame_of
   frame_found most some plain cut = rw (outline-found most some plain, fields-part, cut)

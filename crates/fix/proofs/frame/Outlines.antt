@@ -11,16 +11,18 @@ use lib.Dec.{ltb, eqb}
 use Rattle.ftd.specs.Bytes.{part}
 use Rattle.ftd.specs.Packet.{span}
 use Rattle.ftd.specs.declared.packet.Span.{Span}
-use Rattle.fix.specs.declared.frame.Frame.{Frame}
-use Rattle.fix.specs.declared.frame.Frame.TheVariants.{NoFrame, Framed}
 use Rattle.fix.specs.Text.{soh, until, stands_at, sum_of, length_text}
 use Rattle.fix.specs.Fields.{is_whole}
 use Rattle.fix.specs.Frame.{begin_text, type_text, body_length, body_bytes, summed, trailer, frame_bytes}
 use Rattle.fix.specs.Frame.{type_at, body_at, length_at, outline_of, if_whole, frame_of}
 use Rattle.fix.proofs.frame.Puts.{length-trailer, length-summed}
 use Rattle.fix.proofs.frame.Words.{first_taken, other-taken, begins-with, until-seam, until-there, digits-plain}
+use Rattle.std.specs.Prelude.{Some, None}
+use Rattle.fix.specs.Types.{MaybeFrame, some_frame}
+use Rattle.fix.proofs.Options.{same-frame}
+use mathlib.Core.Path.{sym}
 
-pub never-framed : (name fields : Span) → NoFrame ≡ Framed name fields → ⊥
+pub never-framed : (name fields : Span) → None ≡ some_frame name fields → ⊥
 never-framed name fields e = let z : ◌≡◌ {A = ℕ} 0 1 = cc in omega arith
 
 -- ─── The tests, one by one ───
@@ -47,36 +49,37 @@ pub record Outlined (b : List ℕ) (name fields : Span) : Type 0 where
   pub fields_is : fields ≡ span (13 + digits b + 4 + type_bytes b) (size b - (4 + type_bytes b))
 
 module _ (name fields : Span) where
-  no : NoFrame ≡ Framed name fields → ⊥
+  no : None ≡ some_frame name fields → ⊥
   no = never-framed name fields
 
-  abbrev r : Frame
-  r = Framed name fields
+  abbrev r : MaybeFrame
+  r = some_frame name fields
 
-  type-tests : (b : List ℕ) (start n t : ℕ) → type_at b start n t ≡ Framed name fields
+  type-tests : (b : List ℕ) (start n t : ℕ) → type_at b start n t ≡ some_frame name fields
       → (t ≡ 0 → ⊥) × (4 + t ≤ n) × (name ≡ span (start + 3) t) × (fields ≡ span (start + 4 + t) (n - (4 + t)))
   unfolding type_at
   type-tests b start n t e =
-      let f = Framed (span (start + 3) t) (span (start + 4 + t) (n - (4 + t))) in
-      let x = other-taken NoFrame (cond (ltb n (4 + t)) NoFrame f) r (eqb t 0) no e in
-      let y = other-taken NoFrame f r (ltb n (4 + t)) no x.1 in
-      let g : f ≡ Framed name fields = y.1 in
-      (eqb-false t 0 x.0, ltb-false n (4 + t) y.0, cc, cc)
+      let f = some_frame (span (start + 3) t) (span (start + 4 + t) (n - (4 + t))) in
+      let x = other-taken None (cond (ltb n (4 + t)) None f) r (eqb t 0) no e in
+      let y = other-taken None f r (ltb n (4 + t)) no x.1 in
+      let g : f ≡ some_frame name fields = y.1 in
+      let w = same-frame _ _ _ _ g in
+      (eqb-false t 0 x.0, ltb-false n (4 + t) y.0, sym w.0, sym w.1)
 
-  pub outlined : (b : List ℕ) → outline_of b ≡ Framed name fields → Outlined b name fields
+  pub outlined : (b : List ℕ) → outline_of b ≡ some_frame name fields → Outlined b name fields
   unfolding outline_of length_at body_at
   outlined b e =
       let n = digits b in
       let end = 13 + n + size b in
       let typed = type_at b (13 + n) (size b) (type_bytes b) in
-      let more = cond (stands_at b end (trailer (sum_of (take end b)))) typed NoFrame in
-      let body = cond (stands_at b 12 (length_text (size b) ++ type_text)) more NoFrame in
-      let long = cond (ltb (length b) (24 + n)) NoFrame body in
-      let x = other-taken NoFrame (cond (stands_at b 0 begin_text) long NoFrame) r (ltb 4096 (length b)) no e in
-      let y = first_taken long NoFrame r (stands_at b 0 begin_text) no x.1 in
-      let z = other-taken NoFrame body r (ltb (length b) (24 + n)) no y.1 in
-      let u = first_taken more NoFrame r (stands_at b 12 (length_text (size b) ++ type_text)) no z.1 in
-      let v = first_taken typed NoFrame r (stands_at b end (trailer (sum_of (take end b)))) no u.1 in
+      let more = cond (stands_at b end (trailer (sum_of (take end b)))) typed None in
+      let body = cond (stands_at b 12 (length_text (size b) ++ type_text)) more None in
+      let long = cond (ltb (length b) (24 + n)) None body in
+      let x = other-taken None (cond (stands_at b 0 begin_text) long None) r (ltb 4096 (length b)) no e in
+      let y = first_taken long None r (stands_at b 0 begin_text) no x.1 in
+      let z = other-taken None body r (ltb (length b) (24 + n)) no y.1 in
+      let u = first_taken more None r (stands_at b 12 (length_text (size b) ++ type_text)) no z.1 in
+      let v = first_taken typed None r (stands_at b end (trailer (sum_of (take end b)))) no u.1 in
       let w = type-tests b (13 + n) (size b) (type_bytes b) v.1 in
       record {
         most = ltb-false 4096 (length b) x.0;
@@ -92,20 +95,20 @@ module _ (name fields : Span) where
 
 -- The fields of a frame have a cut.
 pub record Whole (b : List ℕ) (name fields : Span) : Type 0 where
-  pub outline : outline_of b ≡ Framed name fields
+  pub outline : outline_of b ≡ some_frame name fields
   pub cut : is_whole (part b fields.start fields.len) ≡ true
 
-pub whole : (b : List ℕ) (name fields : Span) → frame_of b ≡ Framed name fields → Whole b name fields
+pub whole : (b : List ℕ) (name fields : Span) → frame_of b ≡ some_frame name fields → Whole b name fields
 unfolding frame_of
 whole b name fields e = go (outline_of b) refl e
   where
-    go : (f : Frame) → outline_of b ≡ f → if_whole b f ≡ Framed name fields → Whole b name fields
-    go NoFrame o e = absurd (never-framed name fields e)
-    go (Framed nm fl) o e =
-        let x = first_taken (Framed nm fl) NoFrame (Framed name fields) (is_whole (part b fl.start fl.len))
+    go : (f : MaybeFrame) → outline_of b ≡ f → if_whole b f ≡ some_frame name fields → Whole b name fields
+    go None o e = absurd (never-framed name fields e)
+    go (Some found) o e =
+        let x = first_taken (some_frame found.name found.fields) None (some_frame name fields) (is_whole (part b found.fields.start found.fields.len))
         (never-framed name fields) e in
-        let g : Framed nm fl ≡ Framed name fields = x.1 in
-        let k : fl ≡ fields = cc in
+        let g : some_frame found.name found.fields ≡ some_frame name fields = x.1 in
+        let k : found.fields ≡ fields = cc in
         record { outline = o ∙ g; cut = rw k at x.0 }
 
 -- ─── The bytes, part after part ───

@@ -4,17 +4,16 @@ use mathlib.Core.Path.{◌≡◌, refl, ap, ◌∙◌}
 use mathlib.Core.List.{List, [], ◌∷◌, ◌++◌, append_assoc, append-nil}
 use mathlib.Core.Bool.{Bool, true, false}
 use native.Mathlib.Omega.{arith}
-use borrow.Author.Tests.{ne_eqb, le-ltb}
+use borrow.Author.Tests.{le-ltb}
 use lib.ListN.{length, take, drop, length-append, drop_of_length-le}
 use lib.Seq.{take-append_seam}
-use lib.Dec.{eqb}
 use Rattle.ftd.specs.Bytes.{put}
 use Rattle.ftd.proofs.bytes.Put.{put-put, put-zero}
 use Rattle.fix.specs.Text.{soh, until, stands_at, sum_of, length_text, sum_text}
-use Rattle.fix.specs.declared.frame.Frame.{Frame}
-use Rattle.fix.specs.declared.frame.Frame.TheVariants.{NoFrame}
-use Rattle.fix.specs.Frame.{type_at, body_at, length_at, outline_of}
-use Rattle.fix.specs.Frame.{begin_text, type_text, body_length, body_bytes, summed, trailer, frame_bytes, is_name}
+use Rattle.fix.specs.Frame.{length_at, outline_of}
+use Rattle.fix.specs.Frame.{begin_text, type_text, body_length, body_bytes, summed, trailer, frame_bytes}
+use Rattle.std.specs.Prelude.{None}
+use Rattle.fix.specs.Types.{MaybeFrame}
 
 -- One part behind another.
 pub behind : (l m r vs ws : List ℕ) (at next : ℕ) → at ≤ length l → next ≡ at + length vs → m ≡ put l at vs
@@ -95,15 +94,6 @@ whole-trailer l m sum e p =
     p ∙ put-zero l (trailer sum)
     ∙ rw (length-trailer sum, drop_of_length-le l {i = 7} (omega (arith, e)), append-nil (trailer sum))
 
-pub name-some : (l : List ℕ) (r : ℕ) → (length l ≡ 0 → ⊥) → r ≡ until soh (drop 0 l) → eqb r (length l) ≡ is_name l
-unfolding is_name
-name-some l r n e = rw (ne_eqb (length l) 0 n, e)
-
-pub room-body : (name run : List ℕ) (size n room : ℕ) → 20 + n + size ≤ room → size ≡ body_length name run
-    → 12 + n + (5 + length name + length run) ≤ room
-unfolding body_length
-room-body name run size n room h e = omega (arith, e)
-
 pub has-length : (r : Bool) (b l a c : List ℕ) (n size : ℕ) → n ≡ length (length_text size)
     → a ≡ put l 0 (length_text size) → c ≡ put a n type_text → r ≡ stands_at b 12 (take (n + 4) c)
     → r ≡ stands_at b 12 (length_text size ++ type_text)
@@ -117,26 +107,11 @@ has-trailer r b l m sum at e q p f =
 
 -- ─── The reader's tests, by what the comparisons gave ───
 
-module _ (b : List ℕ) (n size : ℕ) (x : Bool) (e : x ≡ stands_at b 12 (length_text size ++ type_text)) where
-  pub body-other : x ≡ false → NoFrame ≡ body_at b n size
-  unfolding body_at
-  body-other f = rw (← e, f)
-
-  module _ (f : x ≡ true) (y : Bool) (g : y ≡ stands_at b (13 + n + size) (trailer (sum_of (take (13 + n + size) b)))) where
-    pub body-sum : y ≡ false → NoFrame ≡ body_at b n size
-    unfolding body_at
-    body-sum h = rw (← e, f, ← g, h)
-
-    pub body-type : y ≡ true → (t : ℕ) → t ≡ until soh (drop (16 + n) b) → (r : Frame) → r ≡ type_at b (13 + n) size t
-        → r ≡ body_at b n size
-    unfolding body_at
-    body-type h t k r q = rw (← e, f, ← g, h, ← k) q
-
 module _ (b : List ℕ) (h : length b ≤ 4096) (x : Bool) (e : x ≡ stands_at b 0 begin_text) where
-  pub other-begin : x ≡ false → NoFrame ≡ outline_of b
+  pub other-begin : x ≡ false → None ≡ outline_of b
   unfolding outline_of
   other-begin f = rw (le-ltb 4096 (length b) h, ← e, f)
 
-  pub right-begin : x ≡ true → (n : ℕ) → n ≡ until soh (drop 12 b) → (r : Frame) → r ≡ length_at b n → r ≡ outline_of b
+  pub right-begin : x ≡ true → (n : ℕ) → n ≡ until soh (drop 12 b) → (r : MaybeFrame) → r ≡ length_at b n → r ≡ outline_of b
   unfolding outline_of
   right-begin f n k r q = rw (le-ltb 4096 (length b) h, ← e, f, ← k) q

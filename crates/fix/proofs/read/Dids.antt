@@ -1,28 +1,16 @@
 -- What one read does with the number expected. Assumes nothing.
 use Prim.Native.Nat.{ℕ, ◌+◌}
-use mathlib.Core.Path.{◌≡◌, refl, sym, ap, ◌∙◌}
-use mathlib.Core.List.{List}
+use mathlib.Core.Path.{◌≡◌, refl, ap}
 use mathlib.Core.Bool.{Bool, true, false, cond}
-use mathlib.Core.Option.{none, some, none-ne-some}
+use mathlib.Core.Option.{none, some}
 use borrow.Author.Tests.{eqb-true}
 use lib.Dec.{ltb, eqb}
-use Rattle.ftd.specs.Follow.{NumberedLaw, Follows}
-use Rattle.ftd.proofs.Follow.{follows}
-use Rattle.ftd.specs.declared.refusal.Refusal.TheVariants.{NotOneFrame, RequiredTag, LowNumber}
-use Rattle.fix.specs.declared.frame.Frame.{Frame}
-use Rattle.fix.specs.declared.frame.Frame.TheVariants.{NoFrame, Framed}
+use Rattle.ftd.specs.declared.refusal.Refusal.TheVariants.{LowNumber}
 use Rattle.fix.specs.declared.read.Message.{Message}
-use Rattle.fix.specs.declared.read.Judged.TheVariants.{Refused, Next, Again, Gap, Reset}
+use Rattle.fix.specs.declared.read.Judged.TheVariants.{Refused, Next, Again, Gap}
 use Rattle.fix.specs.declared.read.Reading.{Reading}
-use Rattle.fix.specs.Kinds.{is_reset}
-use Rattle.fix.specs.Fields.{Given, says_yes}
-use Rattle.fix.specs.Check.{wrong_numbers, wrong_tags}
-use Rattle.fix.specs.Frame.{frame_of}
-use Rattle.fix.specs.Read.{reading, numbered_of, judged_of, checked_of, framed_of, read_of}
-use Rattle.ftd.specs.Return.{Returns}
-use Rattle.ftd.proofs.Return.{returns}
-use Rattle.fix.specs.Follow.{ComesBack}
-use Rattle.fix.specs.Follow.{Event, frame, set_to, number_if_next, took_number, is_set, expected_then, frames}
+use Rattle.fix.specs.Read.{reading, numbered_of}
+use Rattle.fix.specs.Follow.{number_if_next}
 
 pub data Did (expected : ℕ) (r : Reading) : Type 0 where
   stays : number_if_next r.answer ≡ none → r.expected ≡ expected → Did expected r

@@ -11,11 +11,7 @@ use Rattle.ftd.specs.Packet.{span}
 use Rattle.ftd.specs.declared.packet.Span.{Span}
 use Rattle.ftd.specs.declared.refusal.Refusal.TheVariants.{NotOneFrame, RequiredTag, LowNumber}
 use Rattle.fix.specs.declared.kinds.Kind.{Kind}
-use Rattle.fix.specs.declared.fields.Front.{Front}
-use Rattle.fix.specs.declared.fields.Front.TheVariants.{NoField, Field}
 use Rattle.fix.specs.declared.tally.Walked.{Walked}
-use Rattle.fix.specs.declared.frame.Frame.{Frame}
-use Rattle.fix.specs.declared.frame.Frame.TheVariants.{NoFrame, Framed}
 use Rattle.fix.specs.declared.read.Message.{Message}
 use Rattle.fix.specs.declared.read.Judged.TheVariants.{Refused, Next, Again, Gap, Reset}
 use Rattle.fix.specs.declared.read.Reading.{Reading}
@@ -27,23 +23,25 @@ use Rattle.fix.specs.Check.{wrong_numbers, wrong_tags}
 use Rattle.fix.specs.Frame.{outline_of, if_whole, frame_of, FrameInside}
 use Rattle.fix.specs.Read.{moved_to, message_with, message_of, reading, numbered_of, judged_of, checked_of, framed_of, read_of}
 use Rattle.fix.proofs.tally.Links.{links-numbers, links-tags, links-duplicate, links-fill}
+use Rattle.std.specs.Prelude.{Some, None}
+use Rattle.fix.specs.Types.{MaybeFront, some_front, MaybeFrame, some_frame}
 
 -- ─── Places moved on ───
 
-pub moved_none : (at : ℕ) (f : Front) → f ≡ NoField → span 0 0 ≡ moved_to at f
+pub moved_none : (at : ℕ) (f : MaybeFront) → f ≡ None → span 0 0 ≡ moved_to at f
 moved_none at f e = rw e
 
-pub moved-some : (at tag start len : ℕ) (f : Front) → f ≡ Field tag start len → span (at + start) len ≡ moved_to at f
+pub moved-some : (at tag start len : ℕ) (f : MaybeFront) → f ≡ some_front tag start len → span (at + start) len ≡ moved_to at f
 moved-some at tag start len f e = rw e
 
-pub moved-fits : (at tag start len : ℕ) (f : Front) → MovesIn at f → f ≡ Field tag start len
+pub moved-fits : (at tag start len : ℕ) (f : MaybeFront) → MovesIn at f → f ≡ some_front tag start len
     → at + start < 18446744073709551616
 moved-fits at tag start len f h e = let z : at + start ≤ 18446744073709551615 = rw e at h in omega arith
 
-pub moves-in : (b : List ℕ) (start end : ℕ) (f : Front) → PlaceInside (take (end - start) (drop start b)) f
+pub moves-in : (b : List ℕ) (start end : ℕ) (f : MaybeFront) → PlaceInside (take (end - start) (drop start b)) f
     → end ≤ 18446744073709551615 → MovesIn start f
-moves-in b start end NoField h m = tt
-moves-in b start end (Field tag s len) h m =
+moves-in b start end None h m = tt
+moves-in b start end (Some found) h m =
     let z = length-take (end - start) (drop start b) in omega (arith, z)
 
 -- ─── The message ───
@@ -53,7 +51,7 @@ part-is b start len = let e : start + len - start ≡ len = omega arith in rw e
 
 pub message-made : (b : List ℕ) (name fields : Span) (kind : Kind) (fill : Bool) (run : List ℕ)
     → run ≡ take (fields.start + fields.len - fields.start) (drop fields.start b)
-    → (one two number first second : ℕ) (front : Front) (text : Span) → one ≡ first_tag kind → two ≡ second_tag kind
+    → (one two number first second : ℕ) (front : MaybeFront) (text : Span) → one ≡ first_tag kind → two ≡ second_tag kind
     → number ≡ number_at 34 (fields_of run) → first ≡ number_at one (fields_of run) → second ≡ number_at two (fields_of run)
     → front ≡ first_of run one → text ≡ moved_to fields.start front
     → ◌≡◌ {A = Message} record {
@@ -143,11 +141,11 @@ module _ (b : List ℕ) (name fields : Span) (expected : ℕ) (kind : Kind)
   message-is m q = q ∙ rw (fill_is, kind-is)
 
   pub no_run : w.whole ≡ false → (r : Reading) → r ≡ reading expected (Refused NotOneFrame)
-      → r ≡ framed_of b expected (if_whole b (Framed name fields))
+      → r ≡ framed_of b expected (if_whole b (some_frame name fields))
   no_run f r q = q ∙ rw (← walk-whole, f)
 
   module _ (f : w.whole ≡ true) where
-    checked : framed_of b expected (if_whole b (Framed name fields))
+    checked : framed_of b expected (if_whole b (some_frame name fields))
         ≡ cond (numbers_wrong kind w.tally) (reading expected (Refused NotOneFrame))
         (cond (tags_wrong kind w.tally) (reading expected (Refused RequiredTag))
         (judged_of (message_of b name fields) w.tally.duplicate expected))
@@ -156,31 +154,31 @@ module _ (b : List ℕ) (name fields : Span) (expected : ℕ) (kind : Kind)
 
     module _ (x : Bool) (n : x ≡ numbers_wrong kind w.tally) where
       pub number-wrong : x ≡ true → (r : Reading) → r ≡ reading expected (Refused NotOneFrame)
-          → r ≡ framed_of b expected (if_whole b (Framed name fields))
+          → r ≡ framed_of b expected (if_whole b (some_frame name fields))
       number-wrong t r q = q ∙ rw (checked, ← n, t)
 
       module _ (t : x ≡ false) (y : Bool) (g : y ≡ tags_wrong kind w.tally) where
         pub tag-wrong : y ≡ true → (r : Reading) → r ≡ reading expected (Refused RequiredTag)
-            → r ≡ framed_of b expected (if_whole b (Framed name fields))
+            → r ≡ framed_of b expected (if_whole b (some_frame name fields))
         tag-wrong u r q = q ∙ rw (checked, ← n, t, ← g, u)
 
         pub both_right : y ≡ false → (m : Message) → m ≡ message_with b name fields kind w.tally.fill
             → (r : Reading) → r ≡ judged_of m w.tally.duplicate expected
-            → r ≡ framed_of b expected (if_whole b (Framed name fields))
+            → r ≡ framed_of b expected (if_whole b (some_frame name fields))
         both_right u m p r q = q ∙ rw (checked, ← n, t, ← g, u, message-is m p)
 
 -- ─── The frame ───
 
-module _ (b : List ℕ) (expected : ℕ) (f : Frame) (e : f ≡ outline_of b) where
-  pub read_none : f ≡ NoFrame → (r : Reading) → r ≡ reading expected (Refused NotOneFrame) → r ≡ read_of b expected
+module _ (b : List ℕ) (expected : ℕ) (f : MaybeFrame) (e : f ≡ outline_of b) where
+  pub read_none : f ≡ None → (r : Reading) → r ≡ reading expected (Refused NotOneFrame) → r ≡ read_of b expected
   unfolding read_of frame_of
   read_none n r q = q ∙ rw (← e, n)
 
-  pub read_some : (name fields : Span) → f ≡ Framed name fields → (r : Reading)
-      → r ≡ framed_of b expected (if_whole b (Framed name fields)) → r ≡ read_of b expected
+  pub read_some : (name fields : Span) → f ≡ some_frame name fields → (r : Reading)
+      → r ≡ framed_of b expected (if_whole b (some_frame name fields)) → r ≡ read_of b expected
   unfolding read_of frame_of
   read_some name fields n r q = q ∙ rw (← e, n)
 
-pub places-inside : (b : List ℕ) (f : Frame) (name fields : Span) → FrameInside b f → f ≡ Framed name fields
+pub places-inside : (b : List ℕ) (f : MaybeFrame) (name fields : Span) → FrameInside b f → f ≡ some_frame name fields
     → (name.start + name.len ≤ length b) × (fields.start + fields.len ≤ length b)
 places-inside b f name fields h e = rw e at h

@@ -1,5 +1,5 @@
--- The range of a resend request: some last number that isn't 0 is below some first one exactly where the least such last
--- number is below the greatest first one. Numbers are at most 999,999,999. Assumes nothing.
+-- The range of a resend request: some last number that isn't 0 is below some first one exactly where the least such
+-- last number is below the greatest first one. Numbers are at most 999,999,999. Assumes nothing.
 use Prim.Native.Nat.{ℕ, zero, suc, ◌+◌, ◌*◌, ◌-◌, ◌<◌, ◌≤◌}
 use mathlib.Core.Path.{◌≡◌, refl, sym, ap, ◌∙◌}
 use mathlib.Core.List.{List, [], ◌∷◌}
@@ -8,13 +8,13 @@ use native.Mathlib.Omega.{arith}
 use borrow.Author.Tests.{lt-ltb, le-ltb, ltb-true, ltb-false}
 use lib.ListN.{length}
 use lib.Dec.{ltb, eqb}
-use Rattle.fix.specs.declared.text.Number.{Number}
-use Rattle.fix.specs.declared.text.Number.TheVariants.{NoNumber, Is}
+use Rattle.fix.specs.Types.{Number}
 use Rattle.fix.specs.Text.{number_from, number_in, or_else}
 use Rattle.fix.specs.Fields.{Given}
 use Rattle.fix.specs.Check.{number_then, numbers_at, below_any, any_below}
 use Rattle.fix.specs.Tally.{greater, lesser, no_least}
 use Rattle.fix.proofs.tally.Folds.{folded, or_assoc, or-false}
+use Rattle.std.specs.Prelude.{Some, None}
 
 -- ─── The bound of a number ───
 
@@ -33,12 +33,12 @@ from-bound (suc j) (c ∷ l) n k h g = low (ltb c 48) (λ x p. from-bound j l x 
   where
     high : (b : Bool) → ltb 57 c ≡ b
         → ((x : ℕ) → x ≤ k * 10 + 9 → or_else 0 (number_from x l) ≤ most j (k * 10 + 9))
-        → or_else 0 (cond b NoNumber (number_from (n * 10 + (c - 48)) l)) ≤ most j (k * 10 + 9)
+        → or_else 0 (cond b None (number_from (n * 10 + (c - 48)) l)) ≤ most j (k * 10 + 9)
     high true e ih = omega arith
     high false e ih = let i : c ≤ 57 = ltb-false 57 c e in ih (n * 10 + (c - 48)) (omega (arith, i, g))
 
     low : (b : Bool) → ((x : ℕ) → x ≤ k * 10 + 9 → or_else 0 (number_from x l) ≤ most j (k * 10 + 9))
-        → or_else 0 (cond b NoNumber (cond (ltb 57 c) NoNumber (number_from (n * 10 + (c - 48)) l))) ≤ most j (k * 10 + 9)
+        → or_else 0 (cond b None (cond (ltb 57 c) None (number_from (n * 10 + (c - 48)) l))) ≤ most j (k * 10 + 9)
     low true ih = omega arith
     low false ih = high (ltb 57 c) refl ih
 
@@ -47,7 +47,7 @@ unfolding number_in
 number_bound l = go (eqb (length l) 0) (ltb 9 (length l)) refl
   where
     go : (a b : Bool) → ltb 9 (length l) ≡ b
-        → or_else 0 (cond a NoNumber (cond b NoNumber (number_from 0 l))) ≤ 999999999
+        → or_else 0 (cond a None (cond b None (number_from 0 l))) ≤ 999999999
     go true b e = omega arith
     go false true e = omega arith
     go false false e = from-bound 9 l 0 0 (ltb-false 9 (length l) e) (omega arith)
@@ -75,8 +75,8 @@ greatest-fold n tag (f ∷ fs) =
     step : (hit : Bool) (x : Number) (l : List ℕ)
         → greatest (greater n hit x) l ≡ greatest n (cond hit (number_then x l) l)
     step false x l = refl
-    step true NoNumber l = refl
-    step true (Is m) l = refl
+    step true None l = refl
+    step true (Some m) l = refl
 
 pub least-fold : (n tag : ℕ) (fs : List Given)
     → folded (λ (n : ℕ) (f : Given). lesser n (eqb f.tag tag) (number_in f.text)) n fs
@@ -89,8 +89,8 @@ least-fold n tag (f ∷ fs) =
   where
     step : (hit : Bool) (x : Number) (l : List ℕ) → least (lesser n hit x) l ≡ least n (cond hit (number_then x l) l)
     step false x l = refl
-    step true NoNumber l = refl
-    step true (Is m) l = refl
+    step true None l = refl
+    step true (Some m) l = refl
 
 -- The greatest is a number too.
 greatest-bound : (n tag : ℕ) (fs : List Given) → n ≤ 999999999 → greatest n (numbers_at tag fs) ≤ 999999999
@@ -108,8 +108,8 @@ greatest-bound n tag (f ∷ fs) h = go (eqb f.tag tag) (number_in f.text) (numbe
         → ((k : ℕ) → k ≤ 999999999 → greatest k (numbers_at tag fs) ≤ 999999999)
         → greatest n (cond hit (number_then x (numbers_at tag fs)) (numbers_at tag fs)) ≤ 999999999
     go false x p ih = ih n h
-    go true NoNumber p ih = ih n h
-    go true (Is m) p ih = pick (ltb n m) m p ih
+    go true None p ih = ih n h
+    go true (Some m) p ih = pick (ltb n m) m p ih
 
 -- ─── Below some, and some below ───
 

@@ -7,17 +7,17 @@ use native.Mathlib.Omega.{arith}
 use borrow.Author.Tests.{eq-eqb, ne_eqb, eqb-true, eqb-false}
 use lib.ListN.{length, take, drop, length-drop}
 use lib.Dec.{eqb}
-use Rattle.fix.specs.declared.text.Number.{Number}
+use Rattle.fix.specs.Types.{Number}
 use Rattle.fix.specs.declared.kinds.Kind.{Kind}
 use Rattle.fix.specs.declared.fields.Last.{Last}
-use Rattle.fix.specs.declared.fields.Front.{Front}
-use Rattle.fix.specs.declared.fields.Front.TheVariants.{NoField, Field}
 use Rattle.fix.specs.declared.tally.Tally.{Tally}
 use Rattle.fix.specs.declared.tally.Walked.{Walked}
 use Rattle.fix.specs.Text.{number_in, is_yes}
 use Rattle.fix.specs.Fields.{last_of, no_last, front_of, Cut, cut_from, ended}
 use Rattle.fix.specs.Tally.{no_tally, tallied_with, tallied_from, walked_of}
 use Rattle.fix.proofs.fields.Cuts.{cut-over, text-part, cut-next}
+use Rattle.std.specs.Prelude.{None}
+use Rattle.fix.specs.Types.{MaybeFront, some_front}
 
 -- What is still to be walked, behind a tally.
 abbrev pub walked_from : Kind → Tally → Cut → Walked
@@ -36,12 +36,12 @@ at-end at n h = go (eqb at n) refl
     go true e = let q : at ≡ n = eqb-true at n e in sym (eq-eqb (n - at) 0 (omega (arith, q)))
     go false e = sym (ne_eqb (n - at) 0 (λ z. eqb-false at n e (omega (arith, z, h))))
 
-module _ (kind : Kind) (last : Last) (run : List ℕ) (at : ℕ) (f : Front) (e : f ≡ front_of last (drop at run)) (t : Tally)
+module _ (kind : Kind) (last : Last) (run : List ℕ) (at : ℕ) (f : MaybeFront) (e : f ≡ front_of last (drop at run)) (t : Tally)
     (w : Walked) (inv : walked_from kind t (cut_from last (drop at run)) ≡ w) where
-  pub walk-over : f ≡ NoField → at ≤ length run → record { whole = eqb at (length run); tally = t } ≡ w
+  pub walk-over : f ≡ None → at ≤ length run → record { whole = eqb at (length run); tally = t } ≡ w
   walk-over q h = rw (at-end at (length run) h) (rw (cut-over last run at f e q, length-drop) at inv)
 
-  pub walk_turn : (tag start len : ℕ) → f ≡ Field tag start len
+  pub walk_turn : (tag start len : ℕ) → f ≡ some_front tag start len
       → (x : Number) → x ≡ number_in (take (at + start + len - (at + start)) (drop (at + start) run))
       → (says : Bool) → says ≡ is_yes (take (at + start + len - (at + start)) (drop (at + start) run))
       → (more : Tally) → more ≡ tallied_with kind t tag x says

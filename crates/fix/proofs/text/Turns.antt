@@ -1,91 +1,83 @@
--- The turns of the loops over a text's bytes, over plain variables. Assumes nothing.
-use Prim.Native.Nat.{ℕ, zero, suc, ◌+◌, ◌*◌, ◌-◌, ◌%◌, ◌<◌, ◌≤◌}
-use mathlib.Core.Path.{◌≡◌, refl, ◌∙◌}
+-- Texts by std's words: what `position`, `starts_with` and `fold` give, and the turns of the loop over digits. Assumes
+-- nothing.
+use Prim.Native.Nat.{ℕ, zero, suc, min, ◌+◌, ◌*◌, ◌-◌, ◌%◌, ◌<◌, ◌≤◌}
+use mathlib.Core.Path.{◌≡◌, refl, sym, ◌∙◌}
 use mathlib.Core.List.{List, [], ◌∷◌}
-use mathlib.Core.Bool.{Bool, true, false, cond, ◌&&◌}
-use native.Mathlib.Nat.{add-zero}
-use native.Mathlib.Numerals.{add-one}
+use mathlib.Core.Bool.{Bool, true, false, cond, not}
 use native.Mathlib.Omega.{arith}
-use borrow.Author.Tests.{le-ltb, lt-ltb, eq-eqb, ne_eqb}
-use lib.ListN.{length, get_or, drop, length-drop, drop_of_length-le}
-use lib.Seq.{drop-cons}
-use lib.Dec.{eqb, ltb}
-use Rattle.ftd.specs.Bytes.{put}
-use Rattle.ftd.proofs.bytes.Put.{put-put}
-use Rattle.fix.specs.declared.text.Number.{Number}
-use Rattle.fix.specs.declared.text.Number.TheVariants.{NoNumber, Is}
-use Rattle.fix.specs.Text.{until, begins, stands_at, number_from, number_in, plain_in, total, sum_of}
+use borrow.Author.Tests.{eq-eqb, ne_eqb, eqb-true, eqb-false, leb-true, leb-false, ltb-false}
+use lib.ListN.{length, take, drop, length-drop, drop_of_length-le}
+use lib.Dec.{eqb, ltb, leb}
+use Rattle.std.specs.declared.option.Option.{Option}
+use Rattle.std.specs.declared.option.Option.TheVariants.{None, Some}
+use Rattle.std.specs.Option.{unwrap_or}
+use Rattle.std.specs.List.{fold, prefix_len, starts_with}
+use Rattle.std.proofs.lemmas.List.{take_all}
+use Rattle.std.proofs.lemmas.List.Sums.{prefix_len-le-length}
+use Rattle.fix.specs.Types.{Number}
+use Rattle.fix.specs.Text.{until, begins, stands_at, number_from, total}
+
+-- The bytes from a place on, or none.
+pub rest-from : (l : List ℕ) (at m : ℕ) → m ≡ min at (length l) → take (length l - m) (drop m l) ≡ drop at l
+rest-from l at m e =
+    let whole = take_all (length l - m) (drop m l) (omega (arith, length-drop m l)) in
+    rw whole (go (leb at (length l)) refl)
+  where
+    go : (b : Bool) → leb at (length l) ≡ b → drop m l ≡ drop at l
+    go true h =
+        let s : m ≡ at = omega (arith, leb-true at (length l) h) in
+        rw s
+    go false h =
+        let k = leb-false at (length l) h in
+        rw (drop_of_length-le l {i = m} (omega arith), drop_of_length-le l {i = at} (omega arith))
 
 -- ─── Up to a byte ───
 
-module _ (c : ℕ) (l : List ℕ) (i e : ℕ) (inv : i + until c (drop i l) ≡ e) where
-  pub found_here : i < length l → get_or l i 0 ≡ c → i ≡ e
-  found_here h s = rw add-zero at (rw (drop-cons l i 0 h, eq-eqb (get_or l i 0) c s) at inv)
+pub until-is : (c : ℕ) (l : List ℕ) → prefix_len (λ x. not (eqb x c)) l ≡ until c l
+until-is c [] = refl
+until-is c (x ∷ l) = go (eqb x c) _ _ (until-is c l)
+  where
+    go : (b : Bool) (m n : ℕ) → m ≡ n → cond (not b) (1 + m) 0 ≡ cond b 0 (suc n)
+    go true m n e = refl
+    go false m n e = omega (arith, e)
 
-  pub not-here : i < length l → (get_or l i 0 ≡ c → ⊥) → (i + 1) + until c (drop (i + 1) l) ≡ e
-  not-here h s =
-      let z : i + suc (until c (drop (suc i) l)) ≡ e = rw (drop-cons l i 0 h, ne_eqb (get_or l i 0) c s) at inv in
-      rw (add-one i) (omega arith)
+-- The place of the first, or the length.
+pub position-until : (c : ℕ) (l : List ℕ) (o : Option ℕ)
+    → o ≡ cond (ltb (prefix_len (λ x. not (eqb x c)) l) (length l)) (Some (prefix_len (λ x. not (eqb x c)) l)) None
+    → unwrap_or o (length l) ≡ until c l
+position-until c l o e = go (ltb n (length l)) refl e
+  where
+    n : ℕ
+    n = prefix_len (λ x. not (eqb x c)) l
 
-  pub none_left : length l ≤ i → i ≡ e
-  none_left h = rw add-zero at (rw (drop_of_length-le l h) at inv)
+    go : (b : Bool) → ltb n (length l) ≡ b → o ≡ cond b (Some n) None → unwrap_or o (length l) ≡ until c l
+    go true h q = rw q (until-is c l)
+    go false h q =
+        let k : length l ≡ n = omega (arith, ltb-false n (length l) h, prefix_len-le-length (λ x. not (eqb x c)) l) in
+        rw q (k ∙ until-is c l)
 
-module _ (c : ℕ) (l : List ℕ) (at i : ℕ) (inv : i + until c (drop i l) ≡ at + until c (drop at l)) where
-  pub found-count : i < length l → get_or l i 0 ≡ c → i - at ≡ until c (drop at l)
-  found-count h s = let e = found_here c l i (at + until c (drop at l)) inv h s in omega (arith, e)
-
-  pub none-count : length l ≤ i → i - at ≡ until c (drop at l)
-  none-count h = let e = none_left c l i (at + until c (drop at l)) inv h in omega (arith, e)
-
-pub until-behind : (c : ℕ) (l : List ℕ) (at : ℕ) → length l < at → 0 ≡ until c (drop at l)
-until-behind c l at h = rw (drop_of_length-le l {i = at} (omega arith))
+pub until-within : (c : ℕ) (l : List ℕ) → until c l ≤ length l
+until-within c l = rw (until-is c l) at (prefix_len-le-length (λ x. not (eqb x c)) l)
 
 -- ─── Words ───
 
-module _ (l w : List ℕ) (at : ℕ) where
-  pub behind-all : length l < at → eqb (length w) 0 ≡ stands_at l at w
-  unfolding stands_at
-  behind-all h = rw (drop_of_length-le l {i = at} (omega arith)) (go w)
-    where
-      go : (w : List ℕ) → eqb (length w) 0 ≡ begins [] w
-      go [] = refl
-      go (x ∷ w) = ne_eqb (suc (length w)) 0 (λ e. omega arith)
-
-short-of : (l w : List ℕ) → length l < length w → false ≡ begins l w
-short-of l [] h = absurd (omega arith)
-short-of [] (y ∷ w) h = refl
-short-of (x ∷ l) (y ∷ w) h = go (eqb x y) (short-of l w (omega arith))
+same-turned : (x y : ℕ) → eqb x y ≡ eqb y x
+same-turned x y = go (eqb x y) refl
   where
-    go : (b : Bool) → false ≡ begins l w → false ≡ (b && begins l w)
-    go true ih = ih
-    go false ih = refl
+    go : (b : Bool) → eqb x y ≡ b → b ≡ eqb y x
+    go true e = sym (eq-eqb y x (sym (eqb-true x y e)))
+    go false e = sym (ne_eqb y x (λ q. eqb-false x y e (sym q)))
 
-pub longer-word : (l w : List ℕ) (at : ℕ) → length l - at < length w → false ≡ stands_at l at w
+starts-begins : (l w : List ℕ) → starts_with eqb l w ≡ begins l w
+starts-begins l [] = refl
+starts-begins [] (y ∷ w) = refl
+starts-begins (x ∷ l) (y ∷ w) = rw (same-turned y x, starts-begins l w)
+
+pub starts-stands : (l w : List ℕ) (at m : ℕ) → m ≡ min at (length l)
+    → starts_with eqb (take (length l - m) (drop m l)) w ≡ stands_at l at w
 unfolding stands_at
-longer-word l w at h = short-of (drop at l) w (rw (length-drop at l) h)
-
-module _ (l w : List ℕ) (at i : ℕ) (t : Bool) (inv : begins (drop (at + i) l) (drop i w) ≡ t) where
-  module _ (room : at + length w ≤ length l) (k : i < length w) where
-    h : at + i < length l
-    h = omega arith
-
-    stands-step : (eqb (get_or l (at + i) 0) (get_or w i 0) && begins (drop (suc (at + i)) l) (drop (suc i) w)) ≡ t
-    stands-step = rw (drop-cons l (at + i) 0 h, drop-cons w i 0 k) at inv
-
-    pub byte-differs : (get_or l (at + i) 0 ≡ get_or w i 0 → ⊥) → false ≡ t
-    byte-differs n = rw (ne_eqb (get_or l (at + i) 0) (get_or w i 0) n) at stands-step
-
-    pub byte-same : get_or l (at + i) 0 ≡ get_or w i 0 → begins (drop (at + (i + 1)) l) (drop (i + 1) w) ≡ t
-    byte-same e =
-        let f : at + (i + 1) ≡ suc (at + i) = omega arith in
-        rw (f, add-one i) (rw (eq-eqb (get_or l (at + i) 0) (get_or w i 0) e) at stands-step)
-
-  pub word_over : length w ≤ i → true ≡ t
-  word_over h = rw (drop_of_length-le w h) at inv
-
-pub word-start : (l w : List ℕ) (at : ℕ) → begins (drop (at + 0) l) (drop 0 w) ≡ stands_at l at w
-unfolding stands_at
-word-start l w at = rw (add-zero at)
+starts-stands l w at m e =
+    rw (rest-from l at m e) (starts-begins (drop at l) w)
 
 -- ─── Numbers ───
 
@@ -105,33 +97,8 @@ power-least (suc (suc (suc (suc (suc (suc (suc zero))))))) h = omega arith
 power-least (suc (suc (suc (suc (suc (suc (suc (suc zero)))))))) h = omega arith
 power-least (suc (suc (suc (suc (suc (suc (suc (suc (suc i))))))))) h = absurd (omega arith)
 
-module _ (l : List ℕ) (i n : ℕ) (t : Number) (inv : number_from n (drop i l) ≡ t) where
-  module _ (h : i < length l) where
-    number_step : cond (ltb (get_or l i 0) 48) NoNumber
-        (cond (ltb 57 (get_or l i 0)) NoNumber (number_from (n * 10 + (get_or l i 0 - 48)) (drop (suc i) l))) ≡ t
-    number_step = rw (drop-cons l i 0 h) at inv
-
-    pub below-digit : get_or l i 0 < 48 → NoNumber ≡ t
-    below-digit b = rw (lt-ltb (get_or l i 0) 48 b) at number_step
-
-    module _ (a : 48 ≤ get_or l i 0) where
-      pub above-digit : 57 < get_or l i 0 → NoNumber ≡ t
-      above-digit b = rw (le-ltb (get_or l i 0) 48 a, lt-ltb 57 (get_or l i 0) b) at number_step
-
-      pub digit-more : get_or l i 0 ≤ 57 → (d : ℕ) → d ≡ get_or l i 0 - 48 → number_from (n * 10 + d) (drop (i + 1) l) ≡ t
-      digit-more b d e =
-          rw (add-one i, e) (rw (le-ltb (get_or l i 0) 48 a, le-ltb 57 (get_or l i 0) b) at number_step)
-
-  pub number-over : length l ≤ i → Is n ≡ t
-  number-over h = rw (drop_of_length-le l h) at inv
-
-pub number-start : (l : List ℕ) → (length l ≡ 0 → ⊥) → length l ≤ 9 → number_from 0 l ≡ number_in l
-unfolding number_in
-number-start l n h = rw (ne_eqb (length l) 0 n, le-ltb 9 (length l) h)
-
--- The bound of a step, and of a number of at most nine digits.
-pub power-next : (i n d : ℕ) → n < power i → d ≤ 9 → n * 10 + d < power (i + 1)
-power-next i n d h k = rw (add-one i) (omega arith)
+pub number-over : (l : List ℕ) (i n : ℕ) (t : Number) → number_from n (drop i l) ≡ t → length l ≤ i → Some n ≡ t
+number-over l i n t inv h = rw (drop_of_length-le l h) at inv
 
 -- At most nine digits: no step passes 32 bits.
 module _ (i n len : ℕ) (h : len ≤ 9) (b : n < power i) where
@@ -148,46 +115,8 @@ power-most (suc i) h = let q = power-least i (omega arith) in omega (arith, q)
 pub number_fits : (i n len : ℕ) → len ≤ 9 → i ≤ len → n < power i → n ≤ 999999999
 number_fits i n len h k b = let q = power-most i (omega arith) in omega (arith, q)
 
--- ─── Plain numbers ───
-
-module _ (l : List ℕ) where
-  pub plain-nothing : length l ≡ 0 → NoNumber ≡ plain_in l
-  unfolding plain_in number_in
-  plain-nothing e = go l e
-    where
-      go : (l : List ℕ) → length l ≡ 0
-          → NoNumber ≡ cond (eqb (get_or l 0 0) 48) NoNumber
-          (cond (eqb (length l) 0) NoNumber (cond (ltb 9 (length l)) NoNumber (number_from 0 l)))
-      go [] e = refl
-      go (x ∷ l) e = absurd (omega arith)
-
-  pub plain-zero : get_or l 0 0 ≡ 48 → NoNumber ≡ plain_in l
-  unfolding plain_in
-  plain-zero e = rw (eq-eqb (get_or l 0 0) 48 e)
-
-  pub plain-some : (r : Number) → (get_or l 0 0 ≡ 48 → ⊥) → r ≡ number_in l → r ≡ plain_in l
-  unfolding plain_in
-  plain-some r n e = rw (ne_eqb (get_or l 0 0) 48 n) e
-
 -- ─── Sums ───
 
-pub sum-start : (l : List ℕ) → (0 + total (drop 0 l)) % 256 ≡ sum_of l
-unfolding sum_of
-sum-start l = let e : 0 + total l ≡ total l = omega arith in rw e
-
-module _ (l : List ℕ) (i n t : ℕ) (inv : (n + total (drop i l)) % 256 ≡ t) where
-  pub sum_more : i < length l → (c : ℕ) → c ≡ get_or l i 0 → ((n + c) % 256 + total (drop (i + 1) l)) % 256 ≡ t
-  sum_more h c e =
-      let z : (n + (get_or l i 0 + total (drop (suc i) l))) % 256 ≡ t = rw (drop-cons l i 0 h) at inv in
-      rw (add-one i, e) (omega (arith, z))
-
-  pub sum_over : length l ≤ i → n < 256 → n ≡ t
-  sum_over h b =
-      let z : (n + 0) % 256 ≡ t = rw (drop_of_length-le l h) at inv in
-      omega (arith, z)
-
--- ─── Digits ───
-
-pub then-put : (l m r : List ℕ) (at x : ℕ) (ws : List ℕ) → at ≤ length l → m ≡ put l at (x ∷ []) → r ≡ put m (at + 1) ws
-    → r ≡ put l at (x ∷ ws)
-then-put l m r at x ws h e f = f ∙ (rw e (put-put l at (x ∷ []) ws h))
+pub fold-sum : (l : List ℕ) (n : ℕ) → n < 256 → fold (λ n b. (n + b) % 256) n l ≡ (n + total l) % 256
+fold-sum [] n h = omega arith
+fold-sum (x ∷ l) n h = omega (arith, fold-sum l ((n + x) % 256) (omega arith))

@@ -11,7 +11,6 @@ use Rattle.ftd.specs.Bytes.{put}
 use Rattle.ftd.proofs.bytes.Put.{put-zero}
 use Rattle.ftd.specs.declared.refusal.Refusal.{Refusal}
 use Rattle.ftd.specs.declared.refusal.Refusal.TheVariants.{NotOneFrame, RequiredTag, TooSmall}
-use Rattle.ftd.specs.declared.write.Written.TheVariants.{Bytes, Refused}
 use Rattle.fix.specs.declared.kinds.Kind.{Kind}
 use Rattle.fix.specs.declared.tally.Walked.{Walked}
 use Rattle.fix.specs.Text.{letter, length_text, sum_of}
@@ -23,6 +22,8 @@ use Rattle.fix.specs.Tally.{no_tally, tallied_from, walked_of, numbers_wrong, ta
 use Rattle.fix.specs.Write.{write_answer, write_output}
 use Rattle.fix.proofs.frame.Puts.{length-summed, length-trailer}
 use Rattle.fix.proofs.tally.Links.{links-numbers, links-tags}
+use Rattle.std.specs.Prelude.{Ok, Err}
+use Rattle.ftd.specs.declared.write.WriteError.TheVariants.{Refused}
 
 -- ─── Lengths ───
 
@@ -55,12 +56,12 @@ four-digits n h = rw (le-ltb n 10 (omega arith), le-ltb n 100 (omega arith), le-
 
 -- ─── The output ───
 
-pub kept : (name run out : List ℕ) (r : Refusal) → Refused r ≡ write_answer name run (length out)
+pub kept : (name run out : List ℕ) (r : Refusal) → Err (Refused r) ≡ write_answer name run (length out)
     → out ≡ write_output name run out
 unfolding write_output
 kept name run out r e = rw (← e)
 
-pub put-out : (name run out after : List ℕ) (n : ℕ) → Bytes n ≡ write_answer name run (length out)
+pub put-out : (name run out after : List ℕ) (n : ℕ) → Ok n ≡ write_answer name run (length out)
     → n ≡ length (frame_bytes name run) → after ≡ put out 0 (frame_bytes name run) → after ≡ write_output name run out
 unfolding write_output
 put-out name run out after n e f p = rw (← e, f) (p ∙ put-zero out (frame_bytes name run))
@@ -80,18 +81,18 @@ module _ (name run : List ℕ) where
 
   -- ─── 28: no frame ───
 
-  unframed : (room : ℕ) → is_framed name run ≡ false → Refused NotOneFrame ≡ write_answer name run room
+  unframed : (room : ℕ) → is_framed name run ≡ false → Err (Refused NotOneFrame) ≡ write_answer name run room
   unfolding write_answer
   unframed room e = rw e
 
-  pub no_name : (room : ℕ) (x : Bool) → x ≡ is_name name → x ≡ false → Refused NotOneFrame ≡ write_answer name run room
+  pub no_name : (room : ℕ) (x : Bool) → x ≡ is_name name → x ≡ false → Err (Refused NotOneFrame) ≡ write_answer name run room
   unfolding is_framed
   no_name room x e f = unframed room (framed-false (sym e ∙ f))
     where
       framed-false : is_name name ≡ false → is_framed name run ≡ false
       framed-false g = rw g
 
-  pub too_long : (room : ℕ) → 4072 < body_length name run → Refused NotOneFrame ≡ write_answer name run room
+  pub too_long : (room : ℕ) → 4072 < body_length name run → Err (Refused NotOneFrame) ≡ write_answer name run room
   unfolding is_framed
   too_long room h = unframed room (framed-false (is_name name) (is_whole run) refl refl)
     where
@@ -100,16 +101,16 @@ module _ (name run : List ℕ) where
       framed-false true false e f = rw (e, f)
       framed-false false y e f = rw e
 
-  pub long-name : (room : ℕ) → 4072 < length name → Refused NotOneFrame ≡ write_answer name run room
+  pub long-name : (room : ℕ) → 4072 < length name → Err (Refused NotOneFrame) ≡ write_answer name run room
   unfolding body_length
   long-name room h = too_long room (omega arith)
 
-  pub long-run : (room : ℕ) → 4072 < length run → Refused NotOneFrame ≡ write_answer name run room
+  pub long-run : (room : ℕ) → 4072 < length run → Err (Refused NotOneFrame) ≡ write_answer name run room
   unfolding body_length
   long-run room h = too_long room (omega arith)
 
   pub long-body : (room size : ℕ) → size ≡ 4 + length name + length run → 4072 < size
-      → Refused NotOneFrame ≡ write_answer name run room
+      → Err (Refused NotOneFrame) ≡ write_answer name run room
   unfolding body_length
   long-body room size e h = too_long room (omega (arith, e))
 
@@ -122,7 +123,7 @@ module _ (name run : List ℕ) where
     unfolding walked_of
     tally-is = ap (λ (v : Walked). v.tally) ew ∙ ap (λ (j : Kind). tallied_from j no_tally (fields_of run)) ek
 
-    pub not-whole : (room : ℕ) → w.whole ≡ false → Refused NotOneFrame ≡ write_answer name run room
+    pub not-whole : (room : ℕ) → w.whole ≡ false → Err (Refused NotOneFrame) ≡ write_answer name run room
     unfolding is_framed
     not-whole room f = unframed room (framed-false (is_name name) refl (sym whole_is ∙ f))
       where
@@ -148,23 +149,23 @@ module _ (name run : List ℕ) where
       size_is n e = rw (e, es) (length-frame name run)
 
       module _ (y : Bool) (ey : y ≡ numbers_wrong k w.tally) where
-        pub odd-numbers : (room : ℕ) → y ≡ true → Refused NotOneFrame ≡ write_answer name run room
+        pub odd-numbers : (room : ℕ) → y ≡ true → Err (Refused NotOneFrame) ≡ write_answer name run room
         unfolding write_answer
         odd-numbers room f = rw (is_framed-here, ← numbers-is y ey, f)
 
         module _ (fy : y ≡ false) (n : ℕ) (en : n ≡ length (length_text size)) (all : ℕ) (ea : all ≡ 20 + n + size) where
-          pub no_room : (room : ℕ) → room < all → Refused TooSmall ≡ write_answer name run room
+          pub no_room : (room : ℕ) → room < all → Err (Refused TooSmall) ≡ write_answer name run room
           unfolding write_answer
           no_room room r =
               rw (is_framed-here, ← numbers-is y ey, fy, size_is n en, ← ea, lt-ltb room all r)
 
           module _ (room : ℕ) (r : all ≤ room) (z : Bool) (ez : z ≡ tags_wrong k w.tally) where
-            pub odd-tags : z ≡ true → Refused RequiredTag ≡ write_answer name run room
+            pub odd-tags : z ≡ true → Err (Refused RequiredTag) ≡ write_answer name run room
             unfolding write_answer
             odd-tags f =
                 rw (is_framed-here, ← numbers-is y ey, fy, size_is n en, ← ea, le-ltb room all r, ← tags-is z ez, f)
 
-            pub all_right : z ≡ false → Bytes all ≡ write_answer name run room
+            pub all_right : z ≡ false → Ok all ≡ write_answer name run room
             unfolding write_answer
             all_right f =
                 rw (is_framed-here, ← numbers-is y ey, fy, size_is n en, ← ea, le-ltb room all r, ← tags-is z ez, f)

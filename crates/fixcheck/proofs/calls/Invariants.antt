@@ -2,5 +2,5 @@
 use Rattle.std.proofs.Common.{length}
 use Rattle.fixcheck.proofs.calls.Given as goal
 
-abbrev pub decreases-loop-rest : goal.decreases-loop-rest
-decreases-loop-rest g l = length l.rest
+abbrev pub decreases-loop-n : goal.decreases-loop-n
+decreases-loop-n g l = length l.rest

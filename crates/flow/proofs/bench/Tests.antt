@@ -5,14 +5,13 @@ use mathlib.Core.List.{List, [], ◌∷◌, ◌++◌, map}
 use mathlib.Core.Bool.{Bool, true, false, cond, ◌&&◌}
 use lib.Dec.{T, eqb, leb, eqb→eq, leb→le}
 use lib.ListN.{length}
-use Rattle.ftd.specs.declared.tags.TradeDate.{TradeDate}
-use Rattle.ftd.specs.declared.tags.TradeDate.TheVariants.{None, At}
-use Rattle.flow.specs.declared.sender.Sent.{Sent}
-use Rattle.flow.specs.declared.sender.Sent.TheVariants.{Drained, Wrote, Refused}
+use Rattle.ftd.specs.Types.{TradeDate}
 use Rattle.flow.specs.Ends.{is_day, all_parts}
 use Rattle.flow.specs.Serving.{send_of}
 use Rattle.flow.specs.World.{InSeries, in_series, Delivery, answer, message, World}
 use Rattle.flow.specs.Agreement.{Subsequence, done, skip, keep, since, in_that, CaughtUp}
+use Rattle.std.specs.Prelude.{Some, None, Ok, Err}
+use Rattle.flow.specs.Types.{SendAnswer}
 
 both : (a b : Bool) → T (a && b) → T a × T b
 both true b t = (tt, t)
@@ -108,9 +107,9 @@ delivery-eq (message ps) (message qs) h = let e = alike-eq same_bytes bytes_eq p
 
 -- ─── The second half's conditions ───
 
-is-day : (d : ℕ) (e : TradeDate) → T (is_day d e) → e ≡ At d
+is-day : (d : ℕ) (e : TradeDate) → T (is_day d e) → e ≡ Some d
 is-day d None t = absurd t
-is-day d (At e) t = let h = eqb→eq e d t in rw h
+is-day d (Some e) t = let h = eqb→eq e d t in rw h
 
 abbrev pub is_empty : {A : Type 0} → List A → Bool
 is_empty [] = true
@@ -120,15 +119,15 @@ pub is-empty : {A : Type 0} (l : List A) → T (is_empty l) → l ≡ []
 is-empty [] t = refl
 is-empty (x ∷ l) t = absurd t
 
-abbrev pub is_drained : Sent → Bool
-is_drained Drained = true
-is_drained (Wrote number len) = false
-is_drained (Refused r) = false
+abbrev pub is_drained : SendAnswer → Bool
+is_drained (Ok None) = true
+is_drained (Ok (Some found)) = false
+is_drained (Err r) = false
 
-is-drained : (a : Sent) → T (is_drained a) → a ≡ Drained
-is-drained Drained t = refl
-is-drained (Wrote number len) t = absurd t
-is-drained (Refused r) t = absurd t
+is-drained : (a : SendAnswer) → T (is_drained a) → a ≡ (Ok None)
+is-drained (Ok None) t = refl
+is-drained (Ok (Some found)) t = absurd t
+is-drained (Err r) t = absurd t
 
 -- One test for each condition, in their order.
 abbrev tests : World → World → World → ℕ → ℕ → List ℕ → List ℕ → List Bool

@@ -17,8 +17,8 @@ use Rattle.ftd.specs.Refusal.{number_of}
 use Rattle.ftd.specs.declared.refusal.Refusal.{Refusal}
 use Rattle.ftd.specs.declared.refusal.Refusal.TheVariants.{NotOnePacket, UnknownSeries, NotLoggedIn, OtherDay}
 use Rattle.ftd.specs.declared.refusal.Refusal.TheVariants.{OutOfLine, BrokenChain, TooSmall}
-use Rattle.ftd.specs.declared.tags.TradeDate.{TradeDate}
-use Rattle.ftd.specs.declared.tags.PacketPlace.{PacketPlace}
+use Rattle.ftd.specs.Types.{TradeDate}
+use Rattle.ftd.specs.Types.{PacketPlace}
 use Rattle.ftd.specs.declared.packet.Span.{Span}
 use Rattle.ftd.specs.declared.packet.Chain.{Chain}
 use Rattle.ftd.specs.declared.packet.Chain.TheVariants.{Single, First, Middle, Last}

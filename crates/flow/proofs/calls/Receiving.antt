@@ -15,19 +15,14 @@ use Rattle.ftd.specs.declared.composition.Direction.TheVariants.{Down}
 use Rattle.ftd.specs.declared.refusal.Refusal.{Refusal}
 use Rattle.ftd.specs.declared.refusal.Refusal.TheVariants.{FieldLength, Item, Composition, Opening, NotOnePacket}
 use Rattle.ftd.specs.declared.refusal.Refusal.TheVariants.{UnknownSeries, OtherDay, OutOfLine}
-use Rattle.ftd.specs.declared.tags.TradeDate.{TradeDate}
-use Rattle.ftd.specs.declared.tags.TradeDate.TheVariants.{None, At}
+use Rattle.ftd.specs.Types.{TradeDate}
 use Rattle.ftd.specs.declared.packet.Header.{Header}
 use Rattle.ftd.specs.declared.packet.Packet.{Packet}
 use Rattle.ftd.specs.declared.packet.Packet.TheVariants.{Short, Link, Skipped, Message}
 use Rattle.ftd.specs.declared.packet.Packet.TheVariants.{Refused as Unread}
-use Rattle.flow.specs.declared.sender.Opened.{Opened}
-use Rattle.flow.specs.declared.sender.Opened.TheVariants.{Done}
-use Rattle.flow.specs.declared.sender.Opened.TheVariants.{Refused as NotOpened}
+use Rattle.flow.specs.Types.{Opened}
 use Rattle.flow.specs.declared.receiver.Receiver.{Receiver}
-use Rattle.flow.specs.declared.receiver.Confirmed.{Confirmed}
-use Rattle.flow.specs.declared.receiver.Confirmed.TheVariants.{Last as In}
-use Rattle.flow.specs.declared.receiver.Confirmed.TheVariants.{Refused as NotIn}
+use Rattle.flow.specs.Types.{Confirmed}
 use Rattle.flow.specs.Ends.{Left, left, wrong_series, before, logged_in, is_open, kept_of, with_series}
 use Rattle.flow.specs.Serving.{no_login, not_zero}
 use Rattle.flow.specs.Receiving.{wrong_end_opening, open_end_of, wrong_day, last_after, confirm_with, confirm_read}
@@ -35,12 +30,13 @@ use Rattle.flow.specs.Receiving.{confirm_login_of}
 use Rattle.flow.proofs.common.Rows.{by-when}
 use Rattle.flow.proofs.common.Bools.{or-neither}
 use Rattle.flow.proofs.ends.ReceiverOpened.{opened_with}
+use Rattle.std.specs.Prelude.{Some, None, Ok, Err}
 
 -- ─── Opening ───
 
 pub data Opened-as (e : Receiver) (ss : List ℕ) : Left Receiver Opened → Type 0 where
-  refuses : Opened-as e ss (left e (NotOpened Opening))
-  opens : e.kept.count ≡ 0 → wrong_series ss ≡ false → Opened-as e ss (left (opened_with ss) Done)
+  refuses : Opened-as e ss (left e (Err Opening))
+  opens : e.kept.count ≡ 0 → wrong_series ss ≡ false → Opened-as e ss (left (opened_with ss) (Ok tt))
 
 pub open-as : (e : Receiver) (ss : List ℕ) → Opened-as e ss (open_end_of e ss)
 unfolding open_end_of
@@ -53,14 +49,14 @@ open-as e ss =
 
 -- Taken, it bears a day, and one that is not below the kept one.
 pub data Confirmed-as (e : Receiver) (s : ℕ) (date : TradeDate) : Left Receiver Confirmed → Type 0 where
-  refuses : (r : Refusal) → Confirmed-as e s date (left e (NotIn r))
-  confirms : (d : ℕ) → date ≡ At d → is_open e s ≡ true → before (At d) (kept_of e s).date ≡ false
-      → Confirmed-as e s date (left (with_series e s date (last_after e s date) logged_in) (In (last_after e s date)))
+  refuses : (r : Refusal) → Confirmed-as e s date (left e (Err r))
+  confirms : (d : ℕ) → date ≡ Some d → is_open e s ≡ true → before (Some d) (kept_of e s).date ≡ false
+      → Confirmed-as e s date (left (with_series e s date (last_after e s date) logged_in) (Ok (last_after e s date)))
 
 right-day : (e : Receiver) (s : ℕ) (date : TradeDate) → wrong_day e s date ≡ false
-    → (d : ℕ) × (date ≡ At d) × (before (At d) (kept_of e s).date ≡ false)
+    → (d : ℕ) × (date ≡ Some d) × (before (Some d) (kept_of e s).date ≡ false)
 right-day e s None q = let z : ◌≡◌ {A = ℕ} 0 1 = cc in absurd (omega arith)
-right-day e s (At d) q = (d, refl, q)
+right-day e s (Some d) q = (d, refl, q)
 
 confirm-with : (e : Receiver) (s : ℕ) (h : Header) (date : TradeDate) (content : List ℕ)
     → Confirmed-as e s date (confirm_with e s h date content)

@@ -21,29 +21,16 @@ use Rattle.ftd.specs.declared.refusal.Refusal.TheVariants.{FieldRun, FieldLength
 use Rattle.ftd.specs.declared.refusal.Refusal.TheVariants.{NotOnePacket, UnknownSeries, NotLoggedIn, OtherDay}
 use Rattle.ftd.specs.declared.refusal.Refusal.TheVariants.{OutOfLine, TooSmall, WrongStart, DamagedLog, DayFull}
 use Rattle.ftd.specs.declared.composition.Direction.TheVariants.{Up, Down}
-use Rattle.ftd.specs.declared.tags.TradeDate.{TradeDate}
+use Rattle.ftd.specs.Types.{TradeDate}
 use Rattle.ftd.specs.declared.packet.Header.{Header}
 use Rattle.ftd.specs.declared.packet.Span.{Span}
 use Rattle.ftd.specs.declared.packet.Packet.{Packet}
 use Rattle.ftd.specs.declared.packet.Packet.TheVariants.{Short, Link, Skipped, Message}
 use Rattle.ftd.specs.declared.packet.Packet.TheVariants.{Refused as Unread}
 use Rattle.flow.specs.declared.sender.Sender.{Sender}
-use Rattle.flow.specs.declared.sender.Opened.{Opened}
-use Rattle.flow.specs.declared.sender.Opened.TheVariants.{Done, Refused}
-use Rattle.flow.specs.declared.sender.Published.{Published}
-use Rattle.flow.specs.declared.sender.Published.TheVariants.{Number}
-use Rattle.flow.specs.declared.sender.Published.TheVariants.{Refused as NotPublished}
-use Rattle.flow.specs.declared.sender.LoggedIn.{LoggedIn}
-use Rattle.flow.specs.declared.sender.LoggedIn.TheVariants.{Wrote as Answered}
-use Rattle.flow.specs.declared.sender.LoggedIn.TheVariants.{Refused as NotIn}
-use Rattle.flow.specs.declared.sender.Sent.{Sent}
-use Rattle.flow.specs.declared.sender.Sent.TheVariants.{Drained}
-use Rattle.flow.specs.declared.sender.Sent.TheVariants.{Wrote as Message-sent}
-use Rattle.flow.specs.declared.sender.Sent.TheVariants.{Refused as NotSent}
-use Rattle.flow.specs.declared.sender.SentPacket.{SentPacket}
-use Rattle.flow.specs.declared.sender.SentPacket.TheVariants.{Drained as NoPacket}
-use Rattle.flow.specs.declared.sender.SentPacket.TheVariants.{Wrote as Packet-sent}
-use Rattle.flow.specs.declared.sender.SentPacket.TheVariants.{Refused as NotPacket}
+use Rattle.flow.specs.Types.{Opened}
+use Rattle.flow.specs.Types.{Published}
+use Rattle.flow.specs.Types.{LoggedIn}
 use Rattle.flow.specs.Ends.{Left, Wrote, left, wrote, over, most_messages, wrong_series, before, up_to, is_served}
 use Rattle.flow.specs.Ends.{published_of, place_of, with_entry, with_place, sum_of, shares_of}
 use Rattle.flow.specs.Log.{entry_bytes, log_short, entry_fits, entry_of}
@@ -54,14 +41,16 @@ use Rattle.flow.specs.Serving.{send_packet_entry, send_packet_of}
 use Rattle.flow.proofs.common.Bools.{or-neither}
 use Rattle.flow.proofs.common.Rows.{by-when}
 use Rattle.flow.proofs.ends.SenderOpened.{opened_sender}
+use Rattle.std.specs.Prelude.{None, Ok, Err}
+use Rattle.flow.specs.Types.{SendAnswer, message_sent, PacketSent, packet_sent}
 
 -- ─── Opening ───
 
 pub data OpenDone (e : Sender) (date : ℕ) (ss rs log : List ℕ) : Left Sender Opened → Type 0 where
-  open-refused : (r : Refusal) → OpenDone e date ss rs log (left e (Refused r))
+  open-refused : (r : Refusal) → OpenDone e date ss rs log (left e (Err r))
   open-taken : wrong_series ss ≡ false → up_to date e.day.date ≡ false → sum_of rs ≤ length log
       → length rs ≡ length ss
-      → OpenDone e date ss rs log (left (opened_sender date ss rs) Done)
+      → OpenDone e date ss rs log (left (opened_sender date ss rs) (Ok tt))
 
 pub open-cases : (e : Sender) (date : ℕ) (ss rs log : List ℕ)
     → OpenDone e date ss rs log (open_day_of e date ss rs log)
@@ -88,10 +77,10 @@ pub record PublishTests (e : Sender) (s tid : ℕ) (content log : List ℕ) : Ty
   pub few : published_of e s < most_messages
 
 pub data PublishDone (e : Sender) (s tid : ℕ) (content log : List ℕ) : Wrote Sender Published → Type 0 where
-  publish-refused : (r : Refusal) → PublishDone e s tid content log (wrote e (NotPublished r) log)
+  publish-refused : (r : Refusal) → PublishDone e s tid content log (wrote e (Err r) log)
   publish-taken : PublishTests e s tid content log →
       PublishDone e s tid content log
-      (wrote (with_entry e s (16 + length content)) (Number (published_of e s + 1))
+      (wrote (with_entry e s (16 + length content)) (Ok (published_of e s + 1))
       (put log e.day.used (entry_bytes s tid (published_of e s + 1) content)))
 
 module _ (e : Sender) (s tid : ℕ) (content log : List ℕ) where
@@ -155,11 +144,11 @@ pub record LoginTests (e : Sender) (s : ℕ) (h : Header) (date : TradeDate) (as
 -- The answer that was written.
 abbrev pub answered : Sender → ℕ → ℕ → List ℕ → List ℕ → Wrote Sender LoggedIn
 answered e s next content out =
-    wrote (with_place e s next 0) (Answered (length (login_bytes e.day.date content)))
+    wrote (with_place e s next 0) (Ok (length (login_bytes e.day.date content)))
     (over (login_bytes e.day.date content) out)
 
 pub data LoginDone (e : Sender) (s : ℕ) (p content out : List ℕ) : Wrote Sender LoggedIn → Type 0 where
-  login-refused : (r : Refusal) → LoginDone e s p content out (wrote e (NotIn r) out)
+  login-refused : (r : Refusal) → LoginDone e s p content out (wrote e (Err r) out)
   login-taken : (h : Header) (x c : Span) → not_one_packet p ≡ false → no_message_packet p ≡ false
       → (dated_of p).packet ≡ Message h x c →
       LoginTests e s h (dated_of p).date (part p c.start c.len) content out →
@@ -168,7 +157,7 @@ pub data LoginDone (e : Sender) (s : ℕ) (p content out : List ℕ) : Wrote Sen
 
 module _ (e : Sender) (s : ℕ) (h : Header) (date : TradeDate) (asked content out : List ℕ)
     (P : Wrote Sender LoggedIn → Type 0) where
-  login-with : ((r : Refusal) → P (wrote e (NotIn r) out)) →
+  login-with : ((r : Refusal) → P (wrote e (Err r) out)) →
       (LoginTests e s h date asked content out → P (answered e s (start_of e date (resume_of asked)) content out))
       → P (login_with e s h date asked content out)
   unfolding login_with
@@ -230,21 +219,21 @@ pub record Seated (e : Sender) (s : ℕ) : Type 0 where
   pub served : is_served e s ≡ true
   pub login : (place_of e s).login ≡ true
 
-pub data SendDone (e : Sender) (s : ℕ) (log out : List ℕ) : Wrote Sender Sent → Type 0 where
-  send-unknown : is_served e s ≡ false → SendDone e s log out (wrote e (NotSent UnknownSeries) out)
+pub data SendDone (e : Sender) (s : ℕ) (log out : List ℕ) : Wrote Sender SendAnswer → Type 0 where
+  send-unknown : is_served e s ≡ false → SendDone e s log out (wrote e (Err UnknownSeries) out)
   send-outside : is_served e s ≡ true → (place_of e s).login ≡ false
-      → SendDone e s log out (wrote e (NotSent NotLoggedIn) out)
-  send-drained : Seated e s → published_of e s < (place_of e s).next → SendDone e s log out (wrote e Drained out)
+      → SendDone e s log out (wrote e (Err NotLoggedIn) out)
+  send-drained : Seated e s → published_of e s < (place_of e s).next → SendDone e s log out (wrote e (Ok None) out)
   send-damaged : Seated e s → (place_of e s).next ≤ published_of e s → entry_of e log s (place_of e s).next ≡ none →
-      SendDone e s log out (wrote e (NotSent DamagedLog) out)
+      SendDone e s log out (wrote e (Err DamagedLog) out)
   send-small : (x : List ℕ) → Seated e s → (place_of e s).next ≤ published_of e s
       → entry_of e log s (place_of e s).next ≡ some x →
-      length out < length (send_bytes e s x) → SendDone e s log out (wrote e (NotSent TooSmall) out)
+      length out < length (send_bytes e s x) → SendDone e s log out (wrote e (Err TooSmall) out)
   send-taken : (x : List ℕ) → Seated e s → (place_of e s).next ≤ published_of e s
       → entry_of e log s (place_of e s).next ≡ some x →
       length (send_bytes e s x) ≤ length out →
       SendDone e s log out
-      (wrote (with_place e s (suc (place_of e s).next) 0) (Message-sent (place_of e s).next (length (send_bytes e s x)))
+      (wrote (with_place e s (suc (place_of e s).next) 0) (message_sent (place_of e s).next (length (send_bytes e s x)))
       (over (send_bytes e s x) out))
 
 module _ (e : Sender) (s : ℕ) (log out : List ℕ) where
@@ -277,25 +266,25 @@ module _ (e : Sender) (s : ℕ) (log out : List ℕ) where
 
 -- ─── Send of one packet ───
 
-pub data PacketDone (e : Sender) (s : ℕ) (log out : List ℕ) : Wrote Sender SentPacket → Type 0 where
-  packet-unknown : is_served e s ≡ false → PacketDone e s log out (wrote e (NotPacket UnknownSeries) out)
+pub data PacketDone (e : Sender) (s : ℕ) (log out : List ℕ) : Wrote Sender PacketSent → Type 0 where
+  packet-unknown : is_served e s ≡ false → PacketDone e s log out (wrote e (Err UnknownSeries) out)
   packet-outside : is_served e s ≡ true → (place_of e s).login ≡ false
-      → PacketDone e s log out (wrote e (NotPacket NotLoggedIn) out)
-  packet-drained : Seated e s → published_of e s < (place_of e s).next → PacketDone e s log out (wrote e NoPacket out)
+      → PacketDone e s log out (wrote e (Err NotLoggedIn) out)
+  packet-drained : Seated e s → published_of e s < (place_of e s).next → PacketDone e s log out (wrote e (Ok None) out)
   packet-damaged : Seated e s → (place_of e s).next ≤ published_of e s → entry_of e log s (place_of e s).next ≡ none →
-      PacketDone e s log out (wrote e (NotPacket DamagedLog) out)
+      PacketDone e s log out (wrote e (Err DamagedLog) out)
   packet-missing : (x : List ℕ) → Seated e s → (place_of e s).next ≤ published_of e s
       → entry_of e log s (place_of e s).next ≡ some x →
-      length (send_packets e s x) ≤ (place_of e s).piece → PacketDone e s log out (wrote e (NotPacket DamagedLog) out)
+      length (send_packets e s x) ≤ (place_of e s).piece → PacketDone e s log out (wrote e (Err DamagedLog) out)
   packet-small : (x : List ℕ) → Seated e s → (place_of e s).next ≤ published_of e s
       → entry_of e log s (place_of e s).next ≡ some x → (place_of e s).piece < length (send_packets e s x) →
-      length out < length (next_packet e s x) → PacketDone e s log out (wrote e (NotPacket TooSmall) out)
+      length out < length (next_packet e s x) → PacketDone e s log out (wrote e (Err TooSmall) out)
   packet-taken : (x : List ℕ) → Seated e s → (place_of e s).next ≤ published_of e s
       → entry_of e log s (place_of e s).next ≡ some x → (place_of e s).piece < length (send_packets e s x) →
       length (next_packet e s x) ≤ length out →
       PacketDone e s log out
       (wrote (after_packet e s (last_packet e s x))
-      (Packet-sent (place_of e s).next (length (next_packet e s x)) (last_packet e s x)) (over (next_packet e s x) out))
+      (packet_sent (place_of e s).next (length (next_packet e s x)) (last_packet e s x)) (over (next_packet e s x) out))
 
 module _ (e : Sender) (s : ℕ) (log out : List ℕ) where
   no-packet : (x : List ℕ) → no_packet e s x ≡ true → length (send_packets e s x) ≤ (place_of e s).piece

@@ -14,10 +14,7 @@ use Rattle.ftd.specs.declared.refusal.Refusal.TheVariants.{WrongName, FifthName,
 use Rattle.flow.specs.declared.receiver.Receiver.{Receiver}
 use Rattle.flow.specs.declared.checkpoint.Checkpoint.{Checkpoint}
 use Rattle.flow.specs.declared.checkpoint.Checkpoints.{Checkpoints}
-use Rattle.flow.specs.declared.checkpoint.NamePlace.{NamePlace}
-use Rattle.flow.specs.declared.checkpoint.NamePlace.TheVariants.{Unused, At}
-use Rattle.flow.specs.declared.checkpoint.Saved.TheVariants.{Done as Saved-done, Refused as NotSaved}
-use Rattle.flow.specs.declared.checkpoint.Restored.TheVariants.{Done as Restored-done, Refused as NotRestored}
+use Rattle.flow.specs.Types.{NamePlace}
 use Rattle.flow.specs.declared.checkpoint.KeepStep.{KeepStep}
 use Rattle.flow.specs.Ends.{◌when◌else◌, member, index_of, fresh_receiver}
 use Rattle.flow.specs.Checkpoints.{wrong_name, name_code, checkpoint, used_names, is_used, checkpoint_of, with_checkpoint}
@@ -25,19 +22,20 @@ use Rattle.flow.specs.Checkpoints.{keep_of, restored, restore_of}
 use Rattle.flow.specs.Promises.{Keeps, Restores}
 use Rattle.flow.specs.CheckpointHelpers.{FindsName, placed_name, kept_new}
 use Rattle.flow.proofs.rewind.Lookups.{index-absent, used-length}
+use Rattle.std.specs.Prelude.{Some, None, Ok, Err}
 
 -- The number of a name.
 abbrev pub name_in : Checkpoint → ℕ
 name_in x = x.name
 
 -- What `find` answered, where it is a place.
-pub name-at : (c : Checkpoints) (n : ℕ) (f : NamePlace) (i : ℕ) → FindsName c n f → f ≡ At i → FindsName c n (At i)
+pub name-at : (c : Checkpoints) (n : ℕ) (f : NamePlace) (i : ℕ) → FindsName c n f → f ≡ Some i → FindsName c n (Some i)
 name-at c n f i g u = rw u at g
 
-pub name-inside : (c : Checkpoints) (n : ℕ) (f : NamePlace) (i : ℕ) → FindsName c n f → f ≡ At i → i < 4
+pub name-inside : (c : Checkpoints) (n : ℕ) (f : NamePlace) (i : ℕ) → FindsName c n f → f ≡ Some i → i < 4
 name-inside c n f i g u = (name-at c n f i g u).2
 
-pub name-scaled : (c : Checkpoints) (n : ℕ) (f : NamePlace) (i size : ℕ) → FindsName c n f → f ≡ At i
+pub name-scaled : (c : Checkpoints) (n : ℕ) (f : NamePlace) (i size : ℕ) → FindsName c n f → f ≡ Some i
     → 4 * size < 2 ^ 63 → Fits w64 (i * size)
 name-scaled c n f i size g u q = scaled_Fits i 4 size (name-inside c n f i g u) q
 
@@ -51,13 +49,13 @@ get_d-inside (x ∷ l) (suc i) d e h = get_d-inside l i d e (omega arith)
 
 -- `wrong` is what row 31 told of the name, `code` its number, `f` where it stands.
 module _ (c : Checkpoints) (e : Receiver) (name : List ℕ) (wrong : Bool) (w : wrong ≡ wrong_name name) where
-  pub keep-wrong : wrong ≡ true → Keeps c e name (record { checkpoints = c; answer = NotSaved WrongName })
+  pub keep-wrong : wrong ≡ true → Keeps c e name (record { checkpoints = c; answer = Err WrongName })
   unfolding keep_of
   keep-wrong t =
       let h = sym w ∙ t in
       rw h (refl, (refl, refl))
 
-  pub restore-wrong : wrong ≡ true → Restores c e name (record { end = e; answer = NotRestored WrongName })
+  pub restore-wrong : wrong ≡ true → Restores c e name (record { end = e; answer = Err WrongName })
   unfolding restore_of
   restore-wrong t =
       let h = sym w ∙ t in
@@ -65,7 +63,7 @@ module _ (c : Checkpoints) (e : Receiver) (name : List ℕ) (wrong : Bool) (w : 
 
   module _ (good : wrong ≡ false) (code : ℕ) (n : code ≡ name_code name) (f : NamePlace) (g : FindsName c code f) where
     -- Not in use.
-    module _ (u : f ≡ Unused) where
+    module _ (u : f ≡ None) where
       unused : is_used c name ≡ false
       unfolding is_used
       unused = ap (λ (k : ℕ). member k (used_names c)) (sym n) ∙ (rw u at g)
@@ -78,11 +76,11 @@ module _ (c : Checkpoints) (e : Receiver) (name : List ℕ) (wrong : Bool) (w : 
 
       new : length c.places ≡ 4 → c.count < 4
           → Keeps c e name
-          (record { checkpoints = placed_name c (c.count + 1) c.count code e.kept; answer = Saved-done })
+          (record { checkpoints = placed_name c (c.count + 1) c.count code e.kept; answer = (Ok tt) })
       unfolding keep_of with_checkpoint
       new h few = rw (sym w ∙ good, unused, lt-leb 4 c.count few, behind h few, n) (refl, (refl, refl))
 
-      full : 4 ≤ c.count → Keeps c e name (record { checkpoints = c; answer = NotSaved FifthName })
+      full : 4 ≤ c.count → Keeps c e name (record { checkpoints = c; answer = Err FifthName })
       unfolding keep_of
       full many = rw (sym w ∙ good, unused, le-leb 4 c.count many) (refl, (refl, refl))
 
@@ -91,17 +89,17 @@ module _ (c : Checkpoints) (e : Receiver) (name : List ℕ) (wrong : Bool) (w : 
         where
           go : (b : Bool) → ltb c.count 4 ≡ b
               → Keeps c e name
-              (record { checkpoints = placed_name c (c.count + 1) c.count code e.kept; answer = Saved-done }
-              when b else record { checkpoints = c; answer = NotSaved FifthName })
+              (record { checkpoints = placed_name c (c.count + 1) c.count code e.kept; answer = (Ok tt) }
+              when b else record { checkpoints = c; answer = Err FifthName })
           go true z = new h (ltb-true c.count 4 z)
           go false z = full (ltb-false c.count 4 z)
 
-      pub restore-unused : Restores c e name (record { end = e; answer = NotRestored UnknownName })
+      pub restore-unused : Restores c e name (record { end = e; answer = Err UnknownName })
       unfolding restore_of
       restore-unused = rw (sym w ∙ good, unused) (refl, (refl, refl))
 
     -- In use, at a place.
-    module _ (i : ℕ) (u : f ≡ At i) where
+    module _ (i : ℕ) (u : f ≡ Some i) where
       used : is_used c name ≡ true
       unfolding is_used
       used = ap (λ (k : ℕ). member k (used_names c)) (sym n) ∙ (name-at c code f i g u).0
@@ -110,13 +108,13 @@ module _ (c : Checkpoints) (e : Receiver) (name : List ℕ) (wrong : Bool) (w : 
       place = ap (λ (k : ℕ). index_of k (used_names c)) (sym n) ∙ sym (name-at c code f i g u).1
 
       pub keep-used : (v : Checkpoints) → v ≡ placed_name c c.count i code e.kept
-          → Keeps c e name (record { checkpoints = v; answer = Saved-done })
+          → Keeps c e name (record { checkpoints = v; answer = (Ok tt) })
       unfolding keep_of with_checkpoint
       keep-used v q = rw (q, sym w ∙ good, used, place, n) (refl, (refl, refl))
 
       pub restore-used : length c.places ≡ 4 → (d : Checkpoint) (v : Receiver)
           → v ≡ restored e (get_or c.places i d).kept
-          → Restores c e name (record { end = v; answer = Restored-done })
+          → Restores c e name (record { end = v; answer = (Ok tt) })
       unfolding restore_of checkpoint_of
       restore-used h d v q =
           let inside = name-inside c code f i g u in

@@ -6,11 +6,11 @@ use mathlib.Core.List.{List, [], ◌∷◌, ◌++◌, map, append-nil}
 use mathlib.Core.Bool.{Bool, true, false, cond, ◌&&◌}
 use borrow.Author.Tests.{eq-eqb, ne_eqb}
 use lib.Dec.{eqb}
-use Rattle.ftd.specs.declared.tags.TradeDate.{TradeDate}
-use Rattle.ftd.specs.declared.tags.TradeDate.TheVariants.{At}
+use Rattle.ftd.specs.Types.{TradeDate}
 use Rattle.flow.specs.Ends.{is_day}
 use Rattle.flow.specs.World.{InSeries, in_series, Dated, dated, latest_of}
 use Rattle.flow.specs.Agreement.{of, latest, EachDated}
+use Rattle.std.specs.Prelude.{Some}
 
 -- ─── Of a series and a day ───
 
@@ -28,7 +28,7 @@ module _ {A : Type 0} where
       go true e = ap (λ (r : List A). x.what ∷ r) e
       go false e = e
 
-  of-all : (s d : ℕ) (xs : List A) → of s d (map (dated s (At d)) xs) ≡ xs
+  of-all : (s d : ℕ) (xs : List A) → of s d (map (dated s (Some d)) xs) ≡ xs
   of-all s d [] = refl
   of-all s d (x ∷ xs) = rw (eq-eqb s s refl, eq-eqb d d refl) (ap (λ (r : List A). x ∷ r) (of-all s d xs))
 
@@ -38,14 +38,14 @@ module _ {A : Type 0} where
   of_none s x t day (y ∷ xs) q = rw q (of_none s x t day xs q)
 
   -- What is new of the same series and day; of the same series and another day; of another series.
-  pub of-here : (s d : ℕ) (l : List (Dated A)) (xs : List A) → of s d (l ++ map (dated s (At d)) xs) ≡ of s d l ++ xs
-  of-here s d l xs = of-append s d l (map (dated s (At d)) xs) ∙ ap (λ (r : List A). of s d l ++ r) (of-all s d xs)
+  pub of-here : (s d : ℕ) (l : List (Dated A)) (xs : List A) → of s d (l ++ map (dated s (Some d)) xs) ≡ of s d l ++ xs
+  of-here s d l xs = of-append s d l (map (dated s (Some d)) xs) ∙ ap (λ (r : List A). of s d l ++ r) (of-all s d xs)
 
   pub of-away : (s d x : ℕ) (l : List (Dated A)) (xs : List A) → (d ≡ x → ⊥)
-      → of s x (l ++ map (dated s (At d)) xs) ≡ of s x l
+      → of s x (l ++ map (dated s (Some d)) xs) ≡ of s x l
   of-away s d x l xs n =
-      of-append s x l (map (dated s (At d)) xs)
-      ∙ ap (λ (r : List A). of s x l ++ r) (of_none s x s (At d) xs (and_no (eqb s s) (eqb d x) (ne_eqb d x n)))
+      of-append s x l (map (dated s (Some d)) xs)
+      ∙ ap (λ (r : List A). of s x l ++ r) (of_none s x s (Some d) xs (and_no (eqb s s) (eqb d x) (ne_eqb d x n)))
       ∙ append-nil (of s x l)
 
   pub of-else : (t s x : ℕ) (day : TradeDate) (l : List (Dated A)) (xs : List A) → (t ≡ s → ⊥)
@@ -79,6 +79,6 @@ module _ {A : Type 0} where
   each_append [] k a b = b
   each_append (x ∷ l) k a b = (a.0, each_append l k a.1 b)
 
-  pub each_at : (s d : ℕ) (day : TradeDate) (xs : List A) → day ≡ At d → EachDated (map (dated s day) xs)
+  pub each_at : (s d : ℕ) (day : TradeDate) (xs : List A) → day ≡ Some d → EachDated (map (dated s day) xs)
   each_at s d day [] q = tt
   each_at s d day (x ∷ xs) q = ((d, q), each_at s d day xs q)

@@ -11,18 +11,13 @@ use Rattle.ftd.specs.declared.refusal.Refusal.{Refusal}
 use Rattle.ftd.specs.declared.refusal.Refusal.TheVariants.{FieldLength, Item, Composition, UnknownSeries, OtherDay}
 use Rattle.ftd.specs.declared.refusal.Refusal.TheVariants.{OutOfLine}
 use Rattle.ftd.specs.declared.composition.Direction.TheVariants.{Down}
-use Rattle.ftd.specs.declared.items.Checked.{Checked}
-use Rattle.ftd.specs.declared.items.Checked.TheVariants.{Passed, Refused}
-use Rattle.ftd.specs.declared.tags.TradeDate.{TradeDate}
-use Rattle.ftd.specs.declared.tags.TradeDate.TheVariants.{None, At as On}
+use Rattle.ftd.specs.Types.{Checked}
+use Rattle.ftd.specs.Types.{TradeDate}
 use Rattle.ftd.specs.declared.packet.Header.{Header}
-use Rattle.flow.specs.declared.series.SeriesPlace.{SeriesPlace}
-use Rattle.flow.specs.declared.series.SeriesPlace.TheVariants.{Unknown, At}
+use Rattle.flow.specs.Types.{SeriesPlace}
 use Rattle.flow.specs.declared.receiver.Receiver.{Receiver}
-use Rattle.flow.specs.declared.receiver.Confirmed.{Confirmed}
-use Rattle.flow.specs.declared.receiver.Confirmed.TheVariants.{Last as In}
-use Rattle.flow.specs.declared.receiver.Confirmed.TheVariants.{Refused as NotIn}
-use Rattle.flow.specs.Ends.{◌when◌else◌, Left, left, differs, index_of, kept_series, is_open, kept_of, new_kept}
+use Rattle.flow.specs.Types.{Confirmed}
+use Rattle.flow.specs.Ends.{◌when◌else◌, Left, left, index_of, kept_series, is_open, kept_of, new_kept}
 use Rattle.flow.specs.Ends.{logged_in, with_series}
 use Rattle.flow.specs.Serving.{no_login, not_zero}
 use Rattle.flow.specs.Receiving.{wrong_day, last_after, confirm_with}
@@ -30,59 +25,25 @@ use Rattle.flow.specs.Helpers.{FindsKept, series_at}
 use Rattle.flow.specs.RequestHelpers.{answer_content, wrong_date, last_on, confirm_at}
 use Rattle.flow.proofs.common.Contents.{on_check}
 use Rattle.flow.proofs.receiver.Lookups.{found_at}
-
--- ─── Rows 8 to 10 ───
-
-module _ (h : Header) (content : List ℕ) (a : Bool) (p : a ≡ wrong_width content) where
-  pub by_width : a ≡ true → Refused FieldLength ≡ answer_content h content
-  unfolding answer_content
-  by_width x = rw (← p, x)
-
-  module _ (y1 : a ≡ false) (b : Bool) (q : b ≡ wrong_item content) where
-    pub by-item : b ≡ true → Refused Item ≡ answer_content h content
-    unfolding answer_content
-    by-item x = rw (← p, y1, ← q, x)
-
-    module _ (y2 : b ≡ false) (d : Bool) (s : d ≡ no_login h) where
-      pub by-header : d ≡ true → Refused Composition ≡ answer_content h content
-      unfolding answer_content
-      by-header x = rw (← p, y1, ← q, y2, ← s, x)
-
-      module _ (y3 : d ≡ false) (m : Bool) (t : m ≡ composed 22 Down content) where
-        pub by-make-up : m ≡ false → Refused Composition ≡ answer_content h content
-        unfolding answer_content
-        by-make-up x = rw (← p, y1, ← q, y2, ← s, y3, ← t, x)
-
-        pub by-passing : m ≡ true → Passed ≡ answer_content h content
-        unfolding answer_content
-        by-passing x = rw (← p, y1, ← q, y2, ← s, y3, ← t, x)
-
--- ─── The last number on a trade date ───
-
-module _ (own : TradeDate) (last : ℕ) (date : TradeDate) (b : Bool) (p : b ≡ differs date own) where
-  pub last-anew : b ≡ true → 0 ≡ last_on own last date
-  last-anew x = rw (← p, x)
-
-  pub last-stays : b ≡ false → last ≡ last_on own last date
-  last-stays x = rw (← p, x)
+use Rattle.std.specs.Prelude.{Some, None, Ok, Err}
 
 -- ─── 15, 16, and the login ───
 
 module _ (e : Receiver) (i s : ℕ) (h : Header) (date : TradeDate) (a : Bool)
     (p : a ≡ wrong_date (get_or e.kept.series i (new_kept 0)).date date) where
-  pub confirm-day : a ≡ true → left e (NotIn OtherDay) ≡ confirm_at e i s h date
+  pub confirm-day : a ≡ true → left e (Err OtherDay) ≡ confirm_at e i s h date
   unfolding confirm_at
   confirm-day x = rw (← p, x)
 
   module _ (y1 : a ≡ false) (b : Bool) (q : b ≡ not_zero h) where
-    pub confirm-number : b ≡ true → left e (NotIn OutOfLine) ≡ confirm_at e i s h date
+    pub confirm-number : b ≡ true → left e (Err OutOfLine) ≡ confirm_at e i s h date
     unfolding confirm_at
     confirm-number x = rw (← p, y1, ← q, x)
 
     pub confirm-login : b ≡ false → (last : ℕ)
         → last ≡ last_on (get_or e.kept.series i (new_kept 0)).date (get_or e.kept.series i (new_kept 0)).last date
         → (f : Receiver) → f ≡ series_at e i (record { series = s; date = date; last = last }) logged_in
-        → left f (In last) ≡ confirm_at e i s h date
+        → left f (Ok last) ≡ confirm_at e i s h date
     unfolding confirm_at
     confirm-login x last k f g = rw (← p, y1, ← q, x, g, k)
 
@@ -90,13 +51,13 @@ module _ (e : Receiver) (i s : ℕ) (h : Header) (date : TradeDate) (a : Bool)
 
 module _ (e : Receiver) where
   abbrev refused : Refusal → Left Receiver Confirmed
-  refused r = left e (NotIn r)
+  refused r = left e (Err r)
 
   -- One row of tests is two, one behind the other.
   rows : (a b c : Bool) (w : Left Receiver Confirmed)
       → (refused FieldLength when a else refused Item when b else refused Composition when c else w)
       ≡ on_check refused w
-      (Refused FieldLength when a else Refused Item when b else Refused Composition when c else Passed)
+      (Err FieldLength when a else Err Item when b else Err Composition when c else (Ok tt))
   rows true b c w = refl
   rows false true c w = refl
   rows false false true w = refl
@@ -105,12 +66,12 @@ module _ (e : Receiver) where
 module _ (e : Receiver) (s : ℕ) (h : Header) (date : TradeDate) (content : List ℕ) where
   by-date : (d : TradeDate) → wrong_day e s d ≡ wrong_date (kept_of e s).date d
   by-date None = refl
-  by-date (On d) = refl
+  by-date (Some d) = refl
 
   -- The row from 15 on.
   line : (refused e OtherDay when wrong_day e s date else
       refused e OutOfLine when not_zero h else
-      left (with_series e s date (last_after e s date) logged_in) (In (last_after e s date)))
+      left (with_series e s date (last_after e s date) logged_in) (Ok (last_after e s date)))
       ≡ confirm_at e (index_of s (kept_series e)) s h date
   unfolding confirm_at kept_of with_series last_after
   line = rw (by-date date)
@@ -128,13 +89,13 @@ module _ (e : Receiver) (s : ℕ) (h : Header) (date : TradeDate) (content : Lis
   -- ─── Each way through the code ───
 
   module _ (v : Checked) (p : v ≡ answer_content h content) where
-    pub confirm-content : (r : Refusal) → v ≡ Refused r → left e (NotIn r) ≡ confirm_with e s h date content
+    pub confirm-content : (r : Refusal) → v ≡ Err r → left e (Err r) ≡ confirm_with e s h date content
     confirm-content r x = rw (confirm-rows, ← p, x)
 
-    module _ (y1 : v ≡ Passed) (f : SeriesPlace) (g : FindsKept e s f) where
-      pub confirm-unknown : f ≡ Unknown → left e (NotIn UnknownSeries) ≡ confirm_with e s h date content
+    module _ (y1 : v ≡ (Ok tt)) (f : SeriesPlace) (g : FindsKept e s f) where
+      pub confirm-unknown : f ≡ None → left e (Err UnknownSeries) ≡ confirm_with e s h date content
       confirm-unknown x = let u = rw x at g in rw (confirm-rows, ← p, y1, u)
 
-      pub confirm-found : (i : ℕ) → f ≡ At i → (x : Left Receiver Confirmed) → x ≡ confirm_at e i s h date
+      pub confirm-found : (i : ℕ) → f ≡ Some i → (x : Left Receiver Confirmed) → x ≡ confirm_at e i s h date
           → x ≡ confirm_with e s h date content
       confirm-found i y2 x z = let u = found_at e s f i g y2 in rw (confirm-rows, ← p, y1, u.0, ← u.1) z

@@ -9,7 +9,7 @@ use denote.Enum.Declared.{tag_of}
 use Rattle.ftd.specs.Packet.{not_one_packet, no_message_packet, dated_of}
 use Rattle.ftd.specs.declared.refusal.Refusal.{Refusal}
 use Rattle.ftd.specs.declared.refusal.Refusal.TheVariants.{NotOnePacket}
-use Rattle.ftd.specs.declared.tags.TradeDate.{TradeDate}
+use Rattle.ftd.specs.Types.{TradeDate}
 use Rattle.ftd.specs.declared.packet.Header.{Header}
 use Rattle.ftd.specs.declared.packet.Span.{Span}
 use Rattle.ftd.specs.declared.packet.Dated.{Dated}
@@ -19,13 +19,13 @@ use Rattle.ftd.specs.declared.packet.Packet.TheVariants.{Refused as Unread}
 use Rattle.ftd.specs.contracts.packet.Packet.{the_type}
 use Rattle.flow.specs.declared.receiver.Receiver.{Receiver}
 use Rattle.flow.specs.declared.receiver.ConfirmStep.{ConfirmStep}
-use Rattle.flow.specs.declared.receiver.Confirmed.{Confirmed}
-use Rattle.flow.specs.declared.receiver.Confirmed.TheVariants.{Refused as NotIn}
+use Rattle.flow.specs.Types.{Confirmed}
 use Rattle.flow.specs.Ends.{Left, left}
 use Rattle.flow.specs.Answers.{confirmed_said}
 use Rattle.flow.specs.Receiving.{confirm_with, confirm_read, confirm_login_of}
 use Rattle.flow.specs.Promises.{Confirms}
 use Rattle.flow.proofs.login.Whole.{as-part, other-packet}
+use Rattle.std.specs.Prelude.{Err}
 
 module _ (e : Receiver) (s : ℕ) (p : List ℕ) where
   -- What is left is the definition's: so are its parts.
@@ -40,11 +40,11 @@ module _ (e : Receiver) (s : ℕ) (p : List ℕ) where
 
   -- The end as it was, and a refusal.
   abbrev pub refusing : Refusal → ConfirmStep
-  refusing r = record { end = e; answer = NotIn r }
+  refusing r = record { end = e; answer = Err r }
 
   -- Neither a message packet nor a refusal.
   other-read : (date : TradeDate) (q : Packet) → OneOf (0 ∷ 1 ∷ 2 ∷ []) (tag_of the_type q)
-      → left e (NotIn NotOnePacket) ≡ confirm_read e s p date q
+      → left e (Err NotOnePacket) ≡ confirm_read e s p date q
   other-read date = other-packet (confirm_read e s p date) _ (λ n. refl) (λ k x. refl) (λ k x b. refl)
 
   module _ (b : Bool) (k : b ≡ (not_one_packet p || no_message_packet p)) where

@@ -8,7 +8,6 @@ use borrow.Author.Tests.{ltb-false}
 use lib.ListN.{length, get_or, replicate, length-append, length-replicate, length-map}
 use lib.Seq.{take_at}
 use lib.Dec.{ltb, eqb}
-use Rattle.ftd.specs.declared.tags.TradeDate.TheVariants.{None}
 use Rattle.flow.specs.declared.receiver.KeptSeries.{KeptSeries}
 use Rattle.flow.specs.declared.receiver.Receiver.{Receiver}
 use Rattle.flow.specs.Ends.{member, index_of, differing, most_series, wrong_series, new_kept, no_live, fresh_receiver}
@@ -16,6 +15,7 @@ use Rattle.flow.specs.Ends.{kept_series, is_open, kept_of, live_of, receiver, fi
 use Rattle.flow.specs.Receiving.{connect_of}
 use Rattle.flow.proofs.common.Bools.{or-neither}
 use Rattle.flow.proofs.ends.ReceiverLookups.{Eight}
+use Rattle.std.specs.Prelude.{None}
 
 -- The end with these series open.
 abbrev pub opened_with : List ℕ → Receiver

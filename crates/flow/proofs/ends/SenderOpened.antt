@@ -8,18 +8,18 @@ use borrow.Author.Tests.{ltb-false}
 use lib.ListN.{length, get_or, take, replicate, length-append, length-replicate}
 use lib.Seq.{take_at}
 use lib.Dec.{ltb, eqb}
-use Rattle.ftd.specs.declared.tags.TradeDate.TheVariants.{At}
 use Rattle.flow.specs.declared.sender.DaySeries.{DaySeries}
 use Rattle.flow.specs.declared.sender.Sender.{Sender}
 use Rattle.flow.specs.Ends.{most_series, member, index_of, differing, wrong_series, filled, no_series, opened_series, no_place}
 use Rattle.flow.specs.Ends.{sender, fresh_sender, day_series, published_of, place_of}
 use Rattle.flow.proofs.common.Bools.{or-neither}
 use Rattle.flow.proofs.ends.SenderLookups.{Eight}
+use Rattle.std.specs.Prelude.{Some}
 
 -- What an opening leaves.
 abbrev pub opened_sender : ℕ → List ℕ → List ℕ → Sender
 opened_sender date ss rs =
-    sender (At date) (length ss) (filled no_series (opened_series ss rs)) 0 (replicate most_series no_place)
+    sender (Some date) (length ss) (filled no_series (opened_series ss rs)) 0 (replicate most_series no_place)
 
 -- ─── Fresh ───
 

@@ -6,10 +6,9 @@ use mathlib.Core.Bool.{Bool, true, false}
 use borrow.Author.Tests.{eqb-true, eqb-false}
 use lib.Dec.{eqb}
 use Rattle.ftd.specs.Packet.{dated_of}
-use Rattle.ftd.specs.declared.tags.TradeDate.{TradeDate}
-use Rattle.ftd.specs.declared.tags.TradeDate.TheVariants.{None}
+use Rattle.ftd.specs.Types.{TradeDate}
 use Rattle.flow.specs.declared.receiver.Receiver.{Receiver}
-use Rattle.flow.specs.declared.receiver.Confirmed.{Confirmed}
+use Rattle.flow.specs.Types.{Confirmed}
 use Rattle.flow.specs.Ends.{Left, day_of, logged_in, with_series}
 use Rattle.flow.specs.Answers.{Message, is_taken, confirmed_said, report_in}
 use Rattle.flow.specs.Receiving.{last_after, confirm_login_of}
@@ -23,6 +22,7 @@ use Rattle.flow.proofs.first.Safe.{Safe}
 use Rattle.flow.proofs.steps.Turns.{confirm-turn, turn-eight}
 use Rattle.flow.proofs.common.Days.{upto-same}
 use Rattle.flow.specs.Agreement.{EachDated}
+use Rattle.std.specs.Prelude.{None}
 
 module _ (P : List (Dated Message)) (v : ReceiverSide) (h : Safe P v) (s : ℕ)
     (p : List ℕ) where

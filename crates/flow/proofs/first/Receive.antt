@@ -8,8 +8,7 @@ use borrow.Author.Tests.{eqb-true, eqb-false}
 use lib.ListN.{get_elem?}
 use lib.Dec.{eqb}
 use Rattle.ftd.specs.Packet.{dated_of}
-use Rattle.ftd.specs.declared.tags.TradeDate.{TradeDate}
-use Rattle.ftd.specs.declared.tags.TradeDate.TheVariants.{None, At}
+use Rattle.ftd.specs.Types.{TradeDate}
 use Rattle.flow.specs.declared.receiver.Receiver.{Receiver}
 use Rattle.flow.specs.declared.receiver.Received.{Received}
 use Rattle.flow.specs.Ends.{Wrote, day_of}
@@ -27,6 +26,7 @@ use Rattle.flow.proofs.common.Extends.{place_kept}
 use Rattle.flow.proofs.steps.Turns.{receive-turn, turn-eight}
 use Rattle.flow.specs.Agreement.{EachDated}
 use Rattle.flow.proofs.common.Histories.{each_append, each_at}
+use Rattle.std.specs.Prelude.{Some, None}
 
 -- A packet moves no day.
 same-days : (e after : Receiver) (s : ℕ) (date : TradeDate) (last : ℕ) → Moves e after s date last → date ≡ day_of e s
@@ -98,7 +98,7 @@ module _ (P : List (Dated Message)) (v : ReceiverSide) (h : Safe P v) where
       received-dated =
           rw (take-series found, take-date found, ← (h.days s)) (
             each_append v.handed _ h.dated.0
-                (each_at s g.day (At g.day) (message_in (received_said p r.bytes r.answer)) refl),
+                (each_at s g.day (Some g.day) (message_in (received_said p r.bytes r.answer)) refl),
             each_append v.reports _ h.dated.1
                 (delivered-dated e s g.day (suc g.place) g.what r.end _ _ delivered),
           )

@@ -3,9 +3,8 @@
 use Prim.Native.Nat.{ℕ}
 use mathlib.Core.Path.{◌≡◌, ◌∙◌}
 use mathlib.Core.List.{List, ◌++◌, []}
-use Rattle.ftd.specs.declared.tags.TradeDate.TheVariants.{None}
 use Rattle.flow.specs.declared.receiver.Receiver.{Receiver}
-use Rattle.flow.specs.declared.receiver.Requested.{Requested}
+use Rattle.flow.specs.Types.{Requested}
 use Rattle.flow.specs.Ends.{Wrote, day_of, Left}
 use Rattle.flow.specs.Answers.{Message}
 use Rattle.flow.specs.Receiving.{open_end_of, connect_of, request_login_of}
@@ -18,8 +17,9 @@ use Rattle.flow.proofs.steps.Moves.{connect-same, opened-same}
 use Rattle.flow.proofs.steps.Turns.{open_turn, turn-eight}
 use Rattle.flow.proofs.calls.Receiving.{Opened-as, opens, open-as}
 use mathlib.Core.Bool.{false}
-use Rattle.flow.specs.declared.sender.Opened.{Opened}
+use Rattle.flow.specs.Types.{Opened}
 use Rattle.flow.specs.Agreement.{EachDated}
+use Rattle.std.specs.Prelude.{None}
 
 pub record Safe (P : List (Dated Message)) (v : ReceiverSide) : Type 0 where
   pub eight : Eight v.end

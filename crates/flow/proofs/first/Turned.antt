@@ -5,7 +5,6 @@ use mathlib.Core.List.{List, append-nil}
 use mathlib.Core.Bool.{true}
 use Rattle.ftd.specs.Packet.{dated_of}
 use Rattle.ftd.specs.declared.refusal.Refusal.{Refusal}
-use Rattle.flow.specs.declared.receiver.Confirmed.TheVariants.{Refused as NotIn}
 use Rattle.flow.specs.declared.receiver.Received.TheVariants.{Refused as NotTaken}
 use Rattle.flow.specs.Ends.{left, wrote, is_open, kept_of, logged_in}
 use Rattle.flow.specs.Receiving.{dropped}
@@ -14,9 +13,10 @@ use Rattle.flow.specs.World.{Dated, Transmission, series_in, ReceiverSide, after
 use Rattle.flow.proofs.ends.ReceiverLookups.{eight-stays}
 use Rattle.flow.proofs.right.End.{drop-same, drop-right}
 use Rattle.flow.proofs.first.Safe.{Safe}
+use Rattle.std.specs.Prelude.{Err}
 
 module _ (P : List (Dated Message)) (v : ReceiverSide) (h : Safe P v) (x : Refusal) where
-  pub safe-answer-turned : (s : ℕ) (p : List ℕ) → Safe P (after_confirm v s p (left v.end (NotIn x)))
+  pub safe-answer-turned : (s : ℕ) (p : List ℕ) → Safe P (after_confirm v s p (left v.end (Err x)))
   safe-answer-turned s p =
       record {
         eight = h.eight;

@@ -7,18 +7,17 @@ use mathlib.Core.Option.{some}
 use lib.ListN.{get_elem?}
 use Rattle.ftd.specs.Packet.{dated_of}
 use Rattle.ftd.specs.declared.refusal.Refusal.{Refusal}
-use Rattle.ftd.specs.declared.tags.TradeDate.TheVariants.{At}
-use Rattle.flow.specs.declared.receiver.Confirmed.TheVariants.{Refused as NotIn}
 use Rattle.flow.specs.declared.receiver.Received.TheVariants.{Refused as NotTaken}
 use Rattle.flow.specs.Ends.{left, wrote, is_open, kept_of, live_of}
 use Rattle.flow.specs.Receiving.{dropped}
 use Rattle.flow.specs.World.{InSeries, Transmission, Event, World, receives, after_confirm, after_receive, series_in}
 use Rattle.flow.specs.World.{step, run}
+use Rattle.std.specs.Prelude.{Some, Err}
 
 -- An Answer turned away with a refusal: delivered, and nothing else.
 abbrev pub answer_turned : World → InSeries (List ℕ) → Refusal → World
 answer_turned w a x =
-    receives w (after_confirm w.receiving a.series a.what (left w.receiving.end (NotIn x)))
+    receives w (after_confirm w.receiving a.series a.what (left w.receiving.end (Err x)))
 
 -- A Receive turned away: its series' chain is dropped.
 abbrev pub receive_turned : World → Transmission → ℕ → ℕ → List ℕ → Refusal → World
@@ -48,8 +47,8 @@ pub data Steps : World → World → Type 0 where
 abbrev pub Spares : (s d : ℕ) {w v : World} → LineStep w v → Type 0
 Spares s d (calls e) = Unit
 Spares s d rests = Unit
-Spares s d (turns-answer i a q x) = a.series ≡ s → (dated_of a.what).date ≡ At d → ⊥
-Spares s d {w} (turns-receive i j m p q f o b x) = m.series ≡ s → (kept_of w.receiving.end s).date ≡ At d → ⊥
+Spares s d (turns-answer i a q x) = a.series ≡ s → (dated_of a.what).date ≡ Some d → ⊥
+Spares s d {w} (turns-receive i j m p q f o b x) = m.series ≡ s → (kept_of w.receiving.end s).date ≡ Some d → ⊥
 
 abbrev pub SparesAll : (s d : ℕ) {w v : World} → Steps w v → Type 0
 SparesAll s d none = Unit

@@ -1,13 +1,10 @@
 -- The entry that stands at a place, parts that are lent, and the number behind the last. Assumes nothing.
-use Prim.Native.Nat.{ℕ, suc, ◌+◌, ◌-◌, ◌<◌, ◌≤◌}
-use mathlib.Core.Path.{◌≡◌, refl, sym, ◌∙◌}
+use Prim.Native.Nat.{ℕ, ◌+◌, ◌-◌, ◌<◌, ◌≤◌}
+use mathlib.Core.Path.{◌≡◌, ◌∙◌}
 use mathlib.Core.List.{List}
-use mathlib.Core.Bool.{Bool, true, false}
 use native.Mathlib.Omega.{arith}
-use borrow.Author.Tests.{eq-eqb, ne_eqb, eqb-true, eqb-false}
 use lib.ListN.{length, take, drop, length-drop}
 use lib.Seq.{take_all}
-use lib.Dec.{eqb}
 use Rattle.ftd.specs.Bytes.{be32_of}
 use Rattle.ftd.specs.Runs.{front}
 use Rattle.ftd.proofs.runs.Heads.{be32-drop, front-short, front-whole}
@@ -29,14 +26,3 @@ part-size at n = omega arith
 -- Bytes from a place on, as a part that ends with them.
 pub part_end : (n : ℕ) (x : List ℕ) → take (length x - n) (drop n x) ≡ drop n x
 part_end n x = take_all (length x - n) (drop n x) (rw length-drop (omega arith))
-
--- A number is the one behind the last.
-pub follows-none : (number last : ℕ) → number ≡ 0 → false ≡ eqb number (suc last)
-follows-none number last z = sym (ne_eqb number (suc last) λ q. omega arith)
-
-pub follows-last : (number last : ℕ) → (number ≡ 0 → ⊥) → eqb (number - 1) last ≡ eqb number (suc last)
-follows-last number last z = go (eqb (number - 1) last) refl
-  where
-    go : (b : Bool) → eqb (number - 1) last ≡ b → b ≡ eqb number (suc last)
-    go true q = let h = eqb-true (number - 1) last q in sym (eq-eqb number (suc last) (omega arith))
-    go false q = let h = eqb-false (number - 1) last q in sym (ne_eqb number (suc last) λ p. h (omega arith))

@@ -16,8 +16,6 @@ use Rattle.ftd.specs.Fields.{shaped, most_content}
 use Rattle.ftd.proofs.Lists.{drop-part}
 use Rattle.ftd.proofs.runs.Laws.{run-over, run-next, entry-inside, entry-head, entry_length}
 use Rattle.flow.specs.declared.sender.Sender.{Sender}
-use Rattle.flow.specs.declared.log.EntryPlace.{EntryPlace}
-use Rattle.flow.specs.declared.log.EntryPlace.TheVariants.{Damaged, At}
 use Rattle.flow.specs.declared.log.EntryStep.{EntryStep}
 use Rattle.flow.specs.declared.log.EntryStep.TheVariants.{Wrong, Wanted, Passed}
 use Rattle.flow.specs.Ends.{◌when◌else◌, index_of, day_series, is_served}
@@ -26,6 +24,8 @@ use Rattle.flow.specs.Log.{walk, log_short, entries_of, entry_of}
 use Rattle.flow.specs.Helpers.{checked, PlaceInside, EntryIn}
 use Rattle.flow.proofs.log.Heads.{part-size}
 use Rattle.flow.proofs.ends.SenderLookups.{served-index, served-apart}
+use Rattle.std.specs.Prelude.{Some, None}
+use Rattle.flow.specs.Types.{MaybePlace, some_place}
 
 -- ─── The walk by the last number of each place ───
 
@@ -163,7 +163,7 @@ module _ (e : Sender) (s k : ℕ) (l : List ℕ) (at n : ℕ) (m : n ≡ front e
       pub walk-wrong : r ≡ Wrong → o ≡ none
       walk-wrong q = rw q at opened
 
-      pub walk-wanted : at ≤ length l → r ≡ Wanted → EntryIn o l (At at n)
+      pub walk-wanted : at ≤ length l → r ≡ Wanted → EntryIn o l (some_place at n)
       walk-wanted h q = (
         rw q at opened,
         entry-long,
@@ -194,13 +194,13 @@ module _ (e : Sender) (log : List ℕ) (s k : ℕ) where
         let few : start + size ≤ e.day.used = omega (arith, length-take e.day.used log) in
         rw (drop-part start e.day.used log) (take-take size (e.day.used - start) (drop start log) (omega arith))
 
-    in-used : (r : EntryPlace)
+    in-used : (r : MaybePlace)
         → EntryIn (walk e s k [] (run_of entry (take e.day.used log)).entries) (take e.day.used log) r
         → EntryIn (entry_of e log s k) log r
     unfolding entry_of log_short entries_of
-    in-used Damaged f = rw (le-ltb (length log) e.day.used h) f
-    in-used (At start size) f =
-        let p = used-part start size f.2 in
+    in-used None f = rw (le-ltb (length log) e.day.used h) f
+    in-used (Some found) f =
+        let p = used-part found.start found.size f.2 in
         rw (le-ltb (length log) e.day.used h) (
           f.0 ∙ ap some p,
           f.1,
@@ -208,7 +208,7 @@ module _ (e : Sender) (log : List ℕ) (s k : ℕ) where
           ap (λ (x : List ℕ). shaped (drop 16 x) most_content) (sym p) ∙ f.3,
         )
 
-    pub find-used : (r : EntryPlace)
+    pub find-used : (r : MaybePlace)
         → EntryIn (walk e s k [] (run_of entry (take (e.day.used - 0) log)).entries) (take (e.day.used - 0) log) r
         → EntryIn (entry_of e log s k) log r
     find-used r f =

@@ -11,31 +11,29 @@ use Rattle.ftd.specs.Resume.{resume_of}
 use Rattle.ftd.specs.declared.refusal.Refusal.{Refusal}
 use Rattle.ftd.specs.declared.refusal.Refusal.TheVariants.{FieldRun, FieldLength, Item, Composition, UnknownSeries}
 use Rattle.ftd.specs.declared.refusal.Refusal.TheVariants.{OtherDay, OutOfLine}
-use Rattle.ftd.specs.declared.items.Checked.{Checked}
-use Rattle.ftd.specs.declared.items.Checked.TheVariants.{Passed, Refused}
-use Rattle.ftd.specs.declared.tags.TradeDate.{TradeDate}
+use Rattle.ftd.specs.Types.{Checked}
+use Rattle.ftd.specs.Types.{TradeDate}
 use Rattle.ftd.specs.declared.packet.Header.{Header}
 use Rattle.ftd.specs.declared.resume.Resume.{Resume}
-use Rattle.flow.specs.declared.series.SeriesPlace.{SeriesPlace}
-use Rattle.flow.specs.declared.series.SeriesPlace.TheVariants.{Unknown, At}
+use Rattle.flow.specs.Types.{SeriesPlace}
 use Rattle.flow.specs.declared.sender.Sender.{Sender}
-use Rattle.flow.specs.declared.sender.LoggedIn.{LoggedIn}
-use Rattle.flow.specs.declared.sender.LoggedIn.TheVariants.{Refused as NotIn}
+use Rattle.flow.specs.Types.{LoggedIn}
 use Rattle.flow.specs.Ends.{◌when◌else◌, Wrote, wrote, before, index_of, day_series, is_served, published_of}
 use Rattle.flow.specs.Ends.{with_place}
 use Rattle.flow.specs.Serving.{wrong_run, not_zero, start_elsewhere, wanted, start_of, login_with}
 use Rattle.flow.specs.Helpers.{Finds}
 use Rattle.flow.specs.LoginHelpers.{wrong_login, login_contents, login_line, login_answer}
 use Rattle.flow.proofs.sender.Lookups.{found_at}
+use Rattle.std.specs.Prelude.{Some, None, Ok, Err}
 
 -- A refusal stands; what passed goes on.
 abbrev unless : Sender → List ℕ → Checked → Wrote Sender LoggedIn → Wrote Sender LoggedIn
-unless e out Passed next = next
-unless e out (Refused r) next = wrote e (NotIn r) out
+unless e out (Ok tt) next = next
+unless e out (Err r) next = wrote e (Err r) out
 
 module _ (e : Sender) (out : List ℕ) where
   abbrev refused : Refusal → Wrote Sender LoggedIn
-  refused r = wrote e (NotIn r) out
+  refused r = wrote e (Err r) out
 
   -- One row of tests is three, one behind the other.
   rows : (a b c d f g h k : Bool) (w : Wrote Sender LoggedIn)
@@ -43,11 +41,11 @@ module _ (e : Sender) (out : List ℕ) where
       refused Composition when d else
       refused UnknownSeries when f || g else refused OtherDay when h else refused OutOfLine when k else w)
       ≡ unless e out
-      (Refused FieldRun when a else Refused FieldLength when b else Refused Item when c else Refused Composition when d
-      else Passed)
+      (Err FieldRun when a else Err FieldLength when b else Err Item when c else Err Composition when d
+      else (Ok tt))
       (refused UnknownSeries when f else
       unless e out
-      (Refused UnknownSeries when g else Refused OtherDay when h else Refused OutOfLine when k else Passed) w)
+      (Err UnknownSeries when g else Err OtherDay when h else Err OutOfLine when k else (Ok tt)) w)
   rows true b c d f g h k w = refl
   rows false true c d f g h k w = refl
   rows false false true d f g h k w = refl
@@ -59,14 +57,14 @@ module _ (e : Sender) (out : List ℕ) where
   rows false false false false false false false false w = refl
 
 -- What 7 lets pass has shape.
-whole-if : (b : Bool) (c : Checked) → Passed ≡ (Refused FieldRun when not b else c) → b ≡ true
+whole-if : (b : Bool) (c : Checked) → (Ok tt) ≡ (Err FieldRun when not b else c) → b ≡ true
 whole-if true c x = refl
 whole-if false c x = let z : ◌≡◌ {A = ℕ} 0 1 = cc in absurd (omega arith)
 
 module _ (e : Sender) (s : ℕ) (h : Header) (date : TradeDate) (asked content out : List ℕ) where
   -- The definition of Login, in these parts.
   login-rows : login_with e s h date asked content out ≡ unless e out (login_contents h asked content)
-      (wrote e (NotIn UnknownSeries) out when not (is_served e s) else
+      (wrote e (Err UnknownSeries) out when not (is_served e s) else
       unless e out (login_line e.day.date s h date (resume_of asked))
       (login_answer e (index_of s (day_series e)) (start_of e date (resume_of asked)) content out))
   unfolding login_with login_contents wrong_login login_line login_answer published_of with_place
@@ -79,19 +77,19 @@ module _ (e : Sender) (s : ℕ) (h : Header) (date : TradeDate) (asked content o
   -- ─── Each way through the code ───
 
   module _ (v : Checked) (p : v ≡ login_contents h asked content) where
-    pub login-contents : (r : Refusal) → v ≡ Refused r → wrote e (NotIn r) out ≡ login_with e s h date asked content out
+    pub login-contents : (r : Refusal) → v ≡ Err r → wrote e (Err r) out ≡ login_with e s h date asked content out
     login-contents r x = rw (login-rows, ← p, x)
 
-    module _ (y1 : v ≡ Passed) (at : SeriesPlace) (f : Finds e s at) where
-      pub login-unknown : at ≡ Unknown → wrote e (NotIn UnknownSeries) out ≡ login_with e s h date asked content out
+    module _ (y1 : v ≡ (Ok tt)) (at : SeriesPlace) (f : Finds e s at) where
+      pub login-unknown : at ≡ None → wrote e (Err UnknownSeries) out ≡ login_with e s h date asked content out
       login-unknown x = let u = rw x at f in rw (login-rows, ← p, y1, u)
 
-      module _ (i : ℕ) (y2 : at ≡ At i) (start : Resume) (k : start ≡ resume_of asked) (w : Checked)
+      module _ (i : ℕ) (y2 : at ≡ Some i) (start : Resume) (k : start ≡ resume_of asked) (w : Checked)
           (q : w ≡ login_line e.day.date s h date start) where
-        pub login-line : (r : Refusal) → w ≡ Refused r → wrote e (NotIn r) out ≡ login_with e s h date asked content out
+        pub login-line : (r : Refusal) → w ≡ Err r → wrote e (Err r) out ≡ login_with e s h date asked content out
         login-line r x = let u = found_at e s at i f y2 in rw (login-rows, ← p, y1, u.0, ← k, ← q, x)
 
-        pub login-answer : w ≡ Passed → (n : ℕ) → n ≡ cond (before date e.day.date) 1 (wanted start)
+        pub login-answer : w ≡ (Ok tt) → (n : ℕ) → n ≡ cond (before date e.day.date) 1 (wanted start)
             → (x : Wrote Sender LoggedIn) → x ≡ login_answer e i n content out
             → x ≡ login_with e s h date asked content out
         unfolding start_of
@@ -100,6 +98,6 @@ module _ (e : Sender) (s : ℕ) (h : Header) (date : TradeDate) (asked content o
             rw (login-rows, ← p, y1, u.0, ← k, ← q, y3, ← m, ← u.1) z
 
     -- What passed is whole fields.
-    pub contents-whole : v ≡ Passed → shaped content 4080 ≡ true
+    pub contents-whole : v ≡ (Ok tt) → shaped content 4080 ≡ true
     unfolding login_contents
     contents-whole x = whole-if (shaped content 4080) _ (sym x ∙ p)

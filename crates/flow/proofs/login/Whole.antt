@@ -11,7 +11,7 @@ use Rattle.ftd.specs.Bytes.{part}
 use Rattle.ftd.specs.Packet.{not_one_packet, no_message_packet, with_tags, dated_of}
 use Rattle.ftd.specs.declared.refusal.Refusal.{Refusal}
 use Rattle.ftd.specs.declared.refusal.Refusal.TheVariants.{NotOnePacket}
-use Rattle.ftd.specs.declared.tags.TradeDate.{TradeDate}
+use Rattle.ftd.specs.Types.{TradeDate}
 use Rattle.ftd.specs.declared.packet.Header.{Header}
 use Rattle.ftd.specs.declared.packet.Span.{Span}
 use Rattle.ftd.specs.declared.packet.Dated.{Dated}
@@ -22,12 +22,12 @@ use Rattle.ftd.specs.contracts.packet.Packet.{the_type}
 use Rattle.ftd.proofs.packet.Laws.{content-inside}
 use Rattle.flow.specs.declared.sender.Sender.{Sender}
 use Rattle.flow.specs.declared.sender.LoginStep.{LoginStep}
-use Rattle.flow.specs.declared.sender.LoggedIn.{LoggedIn}
-use Rattle.flow.specs.declared.sender.LoggedIn.TheVariants.{Refused as NotIn}
+use Rattle.flow.specs.Types.{LoggedIn}
 use Rattle.flow.specs.Ends.{Wrote, wrote}
 use Rattle.flow.specs.Answers.{login_said}
 use Rattle.flow.specs.Serving.{login_with, login_read, login_of}
 use Rattle.flow.specs.Promises.{LogsIn}
+use Rattle.std.specs.Prelude.{Err}
 
 -- The content of a packet, lent as a part of it.
 pub as-part : (p : List ℕ) (c : Span) → take (c.start + c.len - c.start) (drop c.start p)
@@ -56,11 +56,11 @@ module _ (e : Sender) (s : ℕ) (p content out : List ℕ) where
 
   -- The end as it was, and a refusal.
   abbrev pub refusing : Refusal → LoginStep
-  refusing r = record { end = e; answer = NotIn r }
+  refusing r = record { end = e; answer = Err r }
 
   -- Neither a message packet nor a refusal.
   other-read : (date : TradeDate) (q : Packet) → OneOf (0 ∷ 1 ∷ 2 ∷ []) (tag_of the_type q)
-      → wrote e (NotIn NotOnePacket) out ≡ login_read e s p content out date q
+      → wrote e (Err NotOnePacket) out ≡ login_read e s p content out date q
   other-read date = other-packet (login_read e s p content out date) _ (λ n. refl) (λ k x. refl) (λ k x b. refl)
 
   module _ (b : Bool) (k : b ≡ (not_one_packet p || no_message_packet p)) where

@@ -6,8 +6,7 @@ use mathlib.Core.List.{List}
 use mathlib.Core.Bool.{Bool, true, false}
 use lib.ListN.{get_elem?}
 use Rattle.ftd.specs.Packet.{dated_of}
-use Rattle.ftd.specs.declared.tags.TradeDate.{TradeDate}
-use Rattle.ftd.specs.declared.tags.TradeDate.TheVariants.{None, At}
+use Rattle.ftd.specs.Types.{TradeDate}
 use Rattle.ftd.specs.declared.packet.Dated.{Dated as Read}
 use Rattle.flow.specs.declared.receiver.KeptSeries.{KeptSeries}
 use Rattle.flow.specs.declared.receiver.LiveSeries.{LiveSeries}
@@ -30,13 +29,14 @@ use Rattle.flow.proofs.steps.Turns.{confirm-turn, receive-turn, by-series}
 use native.Mathlib.Omega.{arith}
 use Rattle.flow.proofs.lines.Steps.{LineStep, calls, rests, turns-answer, turns-receive}
 use Rattle.flow.proofs.steps.Turns.{refused}
+use Rattle.std.specs.Prelude.{Some, None}
 
 pub record Consistent (e : Receiver) : Type 0 where
   pub eight : Eight e
   pub undated : (s : ℕ) → (kept_of e s).date ≡ None → (kept_of e s).last ≡ 0
-  pub dated : (s : ℕ) → (live_of e s).login ≡ true → (d : ℕ) × ((kept_of e s).date ≡ At d)
+  pub dated : (s : ℕ) → (live_of e s).login ≡ true → (d : ℕ) × ((kept_of e s).date ≡ Some d)
 
-none-at : {A : Type 0} (o : TradeDate) (d : ℕ) → o ≡ None → o ≡ At d → A
+none-at : {A : Type 0} (o : TradeDate) (d : ℕ) → o ≡ None → o ≡ Some d → A
 none-at o d p q = let z : ◌≡◌ {A = ℕ} 0 1 = cc in absurd (omega arith)
 
 pub fresh-consistent : Consistent fresh_receiver
@@ -47,10 +47,10 @@ fresh-consistent = record { eight = fresh-eight; undated = λ s c. refl; dated =
 
 module _ (o : TradeDate) (c : Bool) (e : Receiver) (h : Consistent e) where
   abbrev Fits : KeptSeries → LiveSeries → Type 0
-  Fits k l = (k.date ≡ None → k.last ≡ 0) × (l.login ≡ true → (d : ℕ) × (k.date ≡ At d))
+  Fits k l = (k.date ≡ None → k.last ≡ 0) × (l.login ≡ true → (d : ℕ) × (k.date ≡ Some d))
 
   with-consistent : (t : ℕ) (date : TradeDate) (last : ℕ) (live : LiveSeries) → is_open e t ≡ true → (d : ℕ)
-      → date ≡ At d → Consistent (with_series e t date last live)
+      → date ≡ Some d → Consistent (with_series e t date last live)
   with-consistent t date last live r d q =
       record { eight = eight-stays e h.eight t r date last live; undated = λ s. (each s).0; dated = λ s. (each s).1 }
     where
@@ -60,7 +60,7 @@ module _ (o : TradeDate) (c : Bool) (e : Receiver) (h : Consistent e) where
           (λ n. (h.undated s, h.dated s))
 
   no-login : (after : Receiver) (s : ℕ) → (live_of after s).login ≡ false → (live_of after s).login ≡ true
-      → (d : ℕ) × ((kept_of after s).date ≡ At d)
+      → (d : ℕ) × ((kept_of after s).date ≡ Some d)
   no-login after s p q = clash _ q p
 
   pub turn-consistent : (after : Receiver) (ms : List Message) (ks : List ℕ) → Turn o c e after ms ks → Consistent after
@@ -77,7 +77,7 @@ module _ (o : TradeDate) (c : Bool) (e : Receiver) (h : Consistent e) where
         undated = λ s. rw (connect-kept e s) (h.undated s);
         dated = λ s. no-login (connect_of e) s (ap (λ (l : LiveSeries). l.login) (connect-live e s));
       }
-  turn-consistent after ms ks (confirms t d q b u) = with-consistent t (At d) (last_after e t (At d)) logged_in q d refl
+  turn-consistent after ms ks (confirms t d q b u) = with-consistent t (Some d) (last_after e t (Some d)) logged_in q d refl
   turn-consistent after ms ks (receives {last} {live} t q l g) =
       let x = h.dated t l in with-consistent t (kept_of e t).date last live q x.0 x.1
 
@@ -88,7 +88,7 @@ module _ (o : TradeDate) (c : Bool) (e : Receiver) (h : Consistent e) where
   turn-behind b after ms ks (opens ss z r) s = rw (opened-kept ss s).0 tt
   turn-behind b after ms ks (connects x) s = rw (connect-kept e s) (b s)
   turn-behind b after ms ks (confirms t d q n u) s =
-      by-series e h.eight t q (At d) (last_after e t (At d)) logged_in (λ s x k l. Upto k.date o) u s λ n. b s
+      by-series e h.eight t q (Some d) (last_after e t (Some d)) logged_in (λ s x k l. Upto k.date o) u s λ n. b s
   turn-behind b after ms ks (receives {last} {live} t q l g) s =
       by-series e h.eight t q (kept_of e t).date last live (λ s x k l. Upto k.date o) (b t) s λ n. b s
 
@@ -119,9 +119,9 @@ turned t = record { hands = _; reports = _; turn = t }
 -- The day of an answer on the line is not above the serving end's.
 pub answer-upto : (o : TradeDate) (a : InSeries (List ℕ)) → GenuineAnswer o a → Upto (dated_of a.what).date o
 answer-upto o a h =
-    let f : (dated_of a.what).date ≡ At h.date =
+    let f : (dated_of a.what).date ≡ Some h.date =
     ap (λ (p : List ℕ). (dated_of p).date) h.bytes
-    ∙ ap (λ (x : Read). x.date) (login-back (At h.date) h.content h.shape) in
+    ∙ ap (λ (x : Read). x.date) (login-back (Some h.date) h.content h.shape) in
     rw f (upto-test h.date o h.not-later)
 
 -- Of a line's step: a connection or not.

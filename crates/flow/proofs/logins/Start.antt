@@ -17,8 +17,7 @@ use Rattle.ftd.specs.declared.packet.Span.{Span}
 use Rattle.ftd.specs.declared.packet.Header.{Header}
 use Rattle.ftd.specs.declared.packet.Dated.{Dated as Read}
 use Rattle.ftd.specs.declared.packet.Packet.TheVariants.{Message as Accepted}
-use Rattle.ftd.specs.declared.tags.TradeDate.{TradeDate}
-use Rattle.ftd.specs.declared.tags.TradeDate.TheVariants.{None, At}
+use Rattle.ftd.specs.Types.{TradeDate}
 use Rattle.flow.specs.declared.sender.Sender.{Sender}
 use Rattle.flow.specs.declared.receiver.Receiver.{Receiver}
 use Rattle.flow.specs.Ends.{before, is_open, kept_of, day_of, last_of}
@@ -32,6 +31,7 @@ use Rattle.ftd.proofs.login.Laws.{login-back, login-content}
 use Rattle.flow.proofs.packets.Requests.{full_of, full-shaped, request-start, by_written}
 use Rattle.flow.proofs.steps.Turns.{Turn, turn-onward, turn-open}
 use Rattle.flow.proofs.logins.Timely.{Reached, timed-onward, timed-now, Request, start-reached}
+use Rattle.std.specs.Prelude.{Some, None}
 
 -- What Ask writes is a request, if nothing was received without a day.
 pub asked-request : (r : Receiver) (s : ℕ) (c out : List ℕ) → ((kept_of r s).date ≡ None → (kept_of r s).last ≡ 0) →
@@ -76,7 +76,7 @@ request-onward o c r eight r' ms ks t p q =
 span_same : (g h : Header) (a b x y : Span) → Accepted g a b ≡ Accepted h x y → b ≡ y
 span_same g h a b x y q = cc
 
-module _ (e : Sender) (d : ℕ) (day : e.day.date ≡ At d) (r : Receiver) (p : List ℕ) (q : Request r p) (s : ℕ)
+module _ (e : Sender) (d : ℕ) (day : e.day.date ≡ Some d) (r : Receiver) (p : List ℕ) (q : Request r p) (s : ℕ)
     (content out : List ℕ) (h : Header) (x body : Span)
     (read : (dated_of p).packet ≡ Accepted h x body)
     (tests : LoginTests e s h (dated_of p).date (part p body.start body.len) content out)

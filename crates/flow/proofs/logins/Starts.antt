@@ -1,14 +1,13 @@
 -- The start of a login over the world: every login packet on the line is timed, after every list of events; so where a
 -- login is taken on day d with start k, at any later time at which the receiving end keeps d, k is at most last + 1.
 -- Assumes nothing.
-use Prim.Native.Nat.{ℕ, ◌+◌, ◌≤◌}
+use Prim.Native.Nat.{ℕ, ◌≤◌}
 use native.Mathlib.Omega.{arith}
 use mathlib.Core.Path.{◌≡◌, refl, sym, ap, ◌∙◌}
 use mathlib.Core.List.{List, [], ◌∷◌}
 use mathlib.Core.Bool.{Bool, true, false}
 use lib.ListN.{length, drop, get_elem?, length-append}
 use lib.Seq.{drop-append-le}
-use Rattle.ftd.specs.declared.tags.TradeDate.TheVariants.{At}
 use Rattle.flow.specs.declared.receiver.Receiver.{Receiver}
 use Rattle.flow.specs.Ends.{is_open, kept_of, kept_series, fresh_receiver, day_of, last_of}
 use Rattle.flow.specs.Answers.{written, requested_said}
@@ -17,7 +16,7 @@ use Rattle.flow.specs.World
 use Rattle.flow.specs.World.{Event, World, start, step, run}
 use Rattle.flow.proofs.common.Lists.{Every, every_append, every_map, every-from}
 use Rattle.flow.proofs.packets.Requests.{request-end}
-use Rattle.flow.proofs.logins.Timely.{Reached, reached-onward, reached-here, Request}
+use Rattle.flow.proofs.logins.Timely.{Reached, reached-onward, Request}
 use Rattle.flow.proofs.source.Moves.{step-moves}
 use Rattle.flow.proofs.logins.Taken.{LoginTaken, start_at}
 use Rattle.flow.proofs.steps.Turns.{turn-onward}
@@ -29,6 +28,7 @@ use Rattle.flow.proofs.common.Days.{Upto, upto-along}
 use Rattle.flow.proofs.source.Days.{day-rises}
 use Rattle.flow.proofs.source.Sources.{Source, move-source, run-source}
 use Rattle.flow.proofs.logins.Start.{asked-request, request-onward, taken-opens, taken-reached}
+use Rattle.std.specs.Prelude.{Some}
 
 -- ─── The invariant ───
 
@@ -160,8 +160,8 @@ timely-start log buffer =
 
 -- On day d; it starts no later than the receiving end wants, in a series that is open there.
 module _ {from : ℕ} (u : World) (h : Timely from u) (e : Event) (s d : ℕ) (a : List ℕ) (t : LoginTaken u e s a)
-    (asked : from ≤ t.place) (day : (step u e).serving.day ≡ At d) where
-  pub login-day : u.serving.end.day.date ≡ At d
+    (asked : from ≤ t.place) (day : (step u e).serving.day ≡ Some d) where
+  pub login-day : u.serving.end.day.date ≡ Some d
   login-day = h.source.served.same-day ∙ sym (ap (λ (w : World). w.serving.day) t.effect) ∙ day
 
   abbrev q : Request u.receiving.end t.packet
@@ -198,14 +198,3 @@ reached-run s d k w h (e ∷ es) r =
     (reached-onward d k (day_of a s) (last_of a s) (day_of b s) (last_of b s)
     (turn-onward w.serving.day (is_connect e) a h.receiving.eight b _ _
     (step-turn w h.source.answers e).turn s) r)
-
--- At any later time at which the receiving end keeps the login's day, the start is at most last + 1.
-pub start-within : {from : ℕ} (u : World) → Timely from u
-    → (e : Event) (s d : ℕ) (a : List ℕ) (t : LoginTaken u e s a)
-    → from ≤ t.place → (step u e).serving.day ≡ At d → (fs : List Event)
-    → let w = run (step u e) fs in
-    day_of w.receiving.end s ≡ At d → start_at t ≤ last_of w.receiving.end s + 1
-start-within u h e s d a t asked day fs q =
-    let r = reached-run s d (start_at t) (step u e) (timely-step u h e) fs (login-reached u h e s d a t asked day) in
-    let n = reached-here d (start_at t) _ (last_of (run (step u e) fs).receiving.end s) q r in
-    omega arith

@@ -16,7 +16,7 @@ use Rattle.ftd.specs.declared.packet.Header.{Header}
 use Rattle.ftd.specs.declared.packet.Span.{Span}
 use Rattle.ftd.specs.declared.packet.Packet.TheVariants.{Message as Accepted}
 use Rattle.flow.specs.declared.sender.Sender.{Sender}
-use Rattle.flow.specs.declared.sender.LoggedIn.{LoggedIn}
+use Rattle.flow.specs.Types.{LoggedIn}
 use Rattle.flow.specs.Ends.{Wrote, published_of, place_of}
 use Rattle.flow.specs.Serving.{start_of, login_of}
 use Rattle.flow.specs.World.{InSeries, in_series, Event, open_sender, publish, login, send, send_packet, open_receiver, connect}

@@ -7,28 +7,28 @@ use mathlib.Core.Bool.{Bool, true, false, cond}
 use mathlib.Core.Option.{Option, none, some}
 use borrow.Author.Tests.{eq-eqb, ne_eqb}
 use Rattle.ftd.specs.Follow.{run_all, also, counting}
-use Rattle.ftd.specs.declared.tags.TradeDate.{TradeDate}
-use Rattle.ftd.specs.declared.tags.TradeDate.TheVariants.{At}
+use Rattle.ftd.specs.Types.{TradeDate}
 use Rattle.flow.specs.Ends.{is_day, day_of, last_of, fresh_receiver}
 use Rattle.flow.specs.Follows.{Lent, lent, Call, behind, of_series, takes_on, first_on}
 use Rattle.flow.specs.Follows.{OneStretch, FromOne}
 use Rattle.flow.proofs.common.Days.{day-is}
 use Rattle.flow.proofs.ends.ReceiverOpened.{fresh-closed}
 use Rattle.flow.proofs.numbers.Does.{Does, nothing, next, opens, begins, call-does}
+use Rattle.std.specs.Prelude.{Some}
 
 -- Nothing is taken, whichever day it would be of.
 none-on : (x : Bool) (o : Option ℕ) (l : List ℕ) → o ≡ none → also (cond x o none) l ≡ l
 none-on true o l q = rw q
 none-on false o l q = refl
 
-day-itself : (d : ℕ) (x : TradeDate) → x ≡ At d → is_day d x ≡ true
+day-itself : (d : ℕ) (x : TradeDate) → x ≡ Some d → is_day d x ≡ true
 day-itself d x q = rw q (eq-eqb d d refl)
 
 -- ─── A day that is over gets nothing more ───
 
 over-turn : (d k : ℕ) (date : TradeDate) (last : ℕ) (anew : Bool) (took : Option ℕ) (day after : TradeDate) (n : ℕ)
-    (l : List ℕ) → date ≡ At k → d < k → Does date last anew took day after n
-    → ((i : ℕ) × (after ≡ At i) × (d < i)) × (also (cond (is_day d day) took none) l ≡ l)
+    (l : List ℕ) → date ≡ Some k → d < k → Does date last anew took day after n
+    → ((i : ℕ) × (after ≡ Some i) × (d < i)) × (also (cond (is_day d day) took none) l ≡ l)
 over-turn d k date last anew took day after n l q h (nothing a t x y) = ((k, x ∙ q, h), none-on (is_day d day) took l t)
 over-turn d k date last anew took day after n l q h (next a t b x y) = (
   (k, x ∙ q, h),
@@ -40,8 +40,8 @@ over-turn d k date last anew took day after n l q h (begins i a t x b y) =
     let m : k < i = rw q at b in
     ((i, x, omega arith), none-on (is_day d day) took l t)
 
-over : (s d k : ℕ) (v : Lent) (cs : List Call) → day_of v.end s ≡ At k → d < k
-    → (takes_on s d v cs ≡ []) × (day_of (run_all (of_series s) v cs).end s ≡ At d → ⊥)
+over : (s d k : ℕ) (v : Lent) (cs : List Call) → day_of v.end s ≡ Some k → d < k
+    → (takes_on s d v cs ≡ []) × (day_of (run_all (of_series s) v cs).end s ≡ Some d → ⊥)
 over s d k v [] q h = (refl, λ x. let z : k ≡ d = cc in omega arith)
 over s d k v (c ∷ cs) q h =
     let t =
@@ -55,7 +55,7 @@ over s d k v (c ∷ cs) q h =
 record From (d : ℕ) (end : TradeDate) (last first : ℕ) (l : List ℕ) : Type 0 where
   pub count : ℕ
   pub numbers : l ≡ counting first count
-  pub kept : end ≡ At d → last + 1 ≡ first + count
+  pub kept : end ≡ Some d → last + 1 ≡ first + count
 
 abbrev first_at : ℕ → TradeDate → ℕ → ℕ
 first_at d date last = cond (is_day d date) (last + 1) 1
@@ -74,7 +74,7 @@ module _ (d : ℕ) (end : TradeDate) (m : ℕ) (l : List ℕ) where
 
   -- A day begins above the kept one: nothing follows of that, and any other starts at 1.
   fresh-day : (b x : Bool) (last : ℕ) → From d end m (cond x (0 + 1) 1) l
-      → (b ≡ true → (l ≡ []) × (end ≡ At d → ⊥)) → From d end m (cond b (last + 1) 1) l
+      → (b ≡ true → (l ≡ []) × (end ≡ Some d → ⊥)) → From d end m (cond b (last + 1) 1) l
   fresh-day true x last r f =
       record {
         count = 0;
@@ -86,7 +86,7 @@ module _ (d : ℕ) (end : TradeDate) (m : ℕ) (l : List ℕ) where
 
   turn : (date : TradeDate) (last : ℕ) (anew : Bool) (took : Option ℕ) (day after : TradeDate) (n : ℕ)
       → Does date last anew took day after n → From d end m (first_at d after n) l
-      → ((k : ℕ) → after ≡ At k → d < k → (l ≡ []) × (end ≡ At d → ⊥))
+      → ((k : ℕ) → after ≡ Some k → d < k → (l ≡ []) × (end ≡ Some d → ⊥))
       → From d end m (first_at d date last) (also (cond (is_day d day) took none) l)
   turn date last anew took day after n (nothing a t x y) r f = rw (none-on (is_day d day) took l t) (rw (x, y) at r)
   turn date last anew took day after n (next a t b x y) r f = rw (b, t) (more (is_day d date) last (rw (x, y) at r))
@@ -94,7 +94,7 @@ module _ (d : ℕ) (end : TradeDate) (m : ℕ) (l : List ℕ) where
       rw (none-on (is_day d day) took l t, b) (rw x at r)
   turn date last anew took day after n (begins k a t x b y) r f =
       rw (none-on (is_day d day) took l t) (
-      fresh-day (is_day d date) (is_day d (At k)) last (rw (x, y) at r) λ q.
+      fresh-day (is_day d date) (is_day d (Some k)) last (rw (x, y) at r) λ q.
       let i : d < k = rw (day-is d date q) at b in
       f k x i
       )

@@ -9,15 +9,14 @@ use mathlib.Core.Option.{Option, none, some, none-ne-some}
 use borrow.Author.Tests.{ltb-true, ltb-false, eqb-true, eqb-false, eq-eqb, ne_eqb}
 use lib.Dec.{ltb, eqb}
 use Rattle.ftd.specs.Packet.{dated_of}
-use Rattle.ftd.specs.declared.tags.TradeDate.{TradeDate}
-use Rattle.ftd.specs.declared.tags.PacketPlace.{PacketPlace}
-use Rattle.ftd.specs.declared.tags.TradeDate.TheVariants.{None, At}
+use Rattle.ftd.specs.Types.{TradeDate}
+use Rattle.ftd.specs.Types.{PacketPlace}
 use Rattle.ftd.specs.declared.packet.Span.{Span}
 use Rattle.ftd.specs.declared.packet.Header.{Header}
-use Rattle.flow.specs.declared.sender.Opened.{Opened}
+use Rattle.flow.specs.Types.{Opened}
 use Rattle.flow.specs.declared.receiver.LiveSeries.{LiveSeries}
 use Rattle.flow.specs.declared.receiver.Receiver.{Receiver}
-use Rattle.flow.specs.declared.receiver.Confirmed.{Confirmed}
+use Rattle.flow.specs.Types.{Confirmed}
 use Rattle.flow.specs.declared.receiver.Received.{Received}
 use Rattle.flow.specs.Ends.{Left, Wrote, before, differs, logged_in, is_open, kept_of, with_series, day_of, last_of}
 use Rattle.flow.specs.Answers.{is_taken, report_in, opened_said, confirmed_said, received_said}
@@ -32,6 +31,7 @@ use Rattle.flow.proofs.calls.Receive.{Next, Took, unknown, not_in, repeats, hand
 use Rattle.flow.proofs.calls.Receive.{holds-middle, hands-last, Received-as, unread, idles, reads, receive-as}
 use Rattle.flow.proofs.packets.Requests.{request-end}
 use Rattle.flow.proofs.steps.Moves.{Moves, moves-kept, opened-same, connect-same}
+use Rattle.std.specs.Prelude.{Some, None}
 
 -- From a trade date and a last number: whether the numbers start anew, the number taken and its day, and trade date and
 -- last number behind it.
@@ -42,17 +42,17 @@ pub data Does (date : TradeDate) (last : ℕ) (anew : Bool) (took : Option ℕ) 
         → Does date last anew took day after n
     -- Opening: no day is kept, before and behind it.
     opens : anew ≡ true → took ≡ none → date ≡ None → after ≡ None → n ≡ 0 → Does date last anew took day after n
-    begins : (d : ℕ) → anew ≡ true → took ≡ none → after ≡ At d → Above d date → n ≡ 0
+    begins : (d : ℕ) → anew ≡ true → took ≡ none → after ≡ Some d → Above d date → n ≡ 0
         → Does date last anew took day after n
 
 -- ─── Answer, by its trade date ───
 
-confirm-does : (d : ℕ) (date day : TradeDate) (last : ℕ) → before (At d) date ≡ false
-    → Does date last (rises date (At d)) none day (At d) (cond (differs (At d) date) 0 last)
+confirm-does : (d : ℕ) (date day : TradeDate) (last : ℕ) → before (Some d) date ≡ false
+    → Does date last (rises date (Some d)) none day (Some d) (cond (differs (Some d) date) 0 last)
 confirm-does d None day last b = begins d refl refl refl tt refl
-confirm-does d (At k) day last b = go (ltb k d) refl
+confirm-does d (Some k) day last b = go (ltb k d) refl
   where
-    go : (x : Bool) → ltb k d ≡ x → Does (At k) last x none day (At d) (cond (not (eqb d k)) 0 last)
+    go : (x : Bool) → ltb k d ≡ x → Does (Some k) last x none day (Some d) (cond (not (eqb d k)) 0 last)
     go true q =
         let l = ltb-true k d q in
         begins d refl refl refl l (ap (λ (x : Bool). cond (not x) 0 last) (ne_eqb d k λ h. omega arith))
@@ -60,10 +60,10 @@ confirm-does d (At k) day last b = go (ltb k d) refl
         let l = ltb-false d k b in
         let m = ltb-false k d q in
         let h : d ≡ k = omega arith in
-        nothing refl refl (ap At h) (ap (λ (x : Bool). cond (not x) 0 last) (eq-eqb d k h))
+        nothing refl refl (ap Some h) (ap (λ (x : Bool). cond (not x) 0 last) (eq-eqb d k h))
 
-confirm-last : (e : Receiver) (t d : ℕ) (date day : TradeDate) → date ≡ At d → is_open e t ≡ true
-    → before (At d) (kept_of e t).date ≡ false
+confirm-last : (e : Receiver) (t d : ℕ) (date day : TradeDate) → date ≡ Some d → is_open e t ≡ true
+    → before (Some d) (kept_of e t).date ≡ false
     → Does (day_of e t) (last_of e t) (rises (day_of e t) date) none day date (last_after e t date)
 unfolding last_after
 confirm-last e t d date day q o b = rw (q, o) (confirm-does d (kept_of e t).date day (kept_of e t).last b)
@@ -71,7 +71,7 @@ confirm-last e t d date day q o b = rw (q, o) (confirm-does d (kept_of e t).date
 -- A packet without a trade date, or with the kept one, is of the kept one.
 borne-kept : (date kept : TradeDate) → differs date kept ≡ false → borne date kept ≡ kept
 borne-kept None kept q = refl
-borne-kept (At d) kept q = sym (day-same d kept q)
+borne-kept (Some d) kept q = sym (day-same d kept q)
 
 -- ─── Each call's, of series s ───
 

@@ -9,8 +9,7 @@ use borrow.Author.Tests.{eqb-true, eq-eqb, not-false}
 use lib.Dec.{eqb}
 use Rattle.ftd.specs.declared.refusal.Refusal.{Refusal}
 use Rattle.ftd.specs.declared.refusal.Refusal.TheVariants.{UnknownSeries, OtherDay, DamagedLog}
-use Rattle.ftd.specs.declared.tags.TradeDate.{TradeDate}
-use Rattle.ftd.specs.declared.tags.TradeDate.TheVariants.{None, At}
+use Rattle.ftd.specs.Types.{TradeDate}
 use Rattle.flow.specs.declared.sender.Sender.{Sender}
 use Rattle.flow.specs.declared.order.Order.{Order}
 use Rattle.flow.specs.declared.order.Order.TheVariants.{Refused}
@@ -20,18 +19,19 @@ use Rattle.flow.specs.Order.{logged, order_from, order_read, other_date, order_o
 use Rattle.flow.proofs.common.Bools.{clash}
 use Rattle.flow.proofs.order.Lists.{no, never-refused}
 use Rattle.flow.proofs.order.Logged.{logged-damaged}
+use Rattle.std.specs.Prelude.{Some, None}
 
 -- ─── Trade dates ───
 
 pub date-is : (a b : TradeDate) → other_date a b ≡ false → a ≡ b
 date-is None None q = refl
-date-is None (At e) q = clash _ refl q
-date-is (At d) None q = clash _ refl q
-date-is (At d) (At e) q = ap At (eqb-true d e (not-false (eqb d e) q))
+date-is None (Some e) q = clash _ refl q
+date-is (Some d) None q = clash _ refl q
+date-is (Some d) (Some e) q = ap Some (eqb-true d e (not-false (eqb d e) q))
 
 pub date-self : (a : TradeDate) → other_date a a ≡ false
 date-self None = refl
-date-self (At d) = rw (eq-eqb d d refl)
+date-self (Some d) = rw (eq-eqb d d refl)
 
 pub date-same : (a b : TradeDate) → a ≡ b → other_date a b ≡ false
 date-same a b q = ap (other_date a) (sym q) ∙ date-self a

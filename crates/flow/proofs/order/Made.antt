@@ -8,7 +8,6 @@ use mathlib.Core.Option.{some}
 use borrow.Author.Tests.{eqb-true, eq-eqb, ne_eqb, le-ltb}
 use lib.ListN.{length}
 use lib.Dec.{eqb}
-use Rattle.ftd.specs.declared.tags.TradeDate.TheVariants.{At}
 use Rattle.ftd.specs.Fields.{shaped, most_content}
 use Rattle.flow.specs.declared.sender.Sender.{Sender}
 use Rattle.flow.specs.Ends.{◌when◌else◌, is_served, published_of}
@@ -22,6 +21,7 @@ use Rattle.flow.proofs.source.Logs.{tid-back, number-back, content-back}
 use Rattle.flow.proofs.source.Histories.{on_day, messages_of, of_is}
 use Rattle.flow.proofs.source.Served.{ServedSide}
 use Rattle.flow.proofs.source.Kept.{published-count}
+use Rattle.std.specs.Prelude.{Some}
 
 abbrev message_in : Pub → Message
 message_in p = record { tid = p.tid; content = p.content }
@@ -92,7 +92,7 @@ gather-laid e s n j earlier (p ∷ ps) h c q =
 
 -- ─── A serving side that is right ───
 
-module _ (v : SenderSide) (h : ServedSide v) (s d : ℕ) (day : v.day ≡ At d) (served : is_served v.end s ≡ true) where
+module _ (v : SenderSide) (h : ServedSide v) (s d : ℕ) (day : v.day ≡ Some d) (served : is_served v.end s ≡ true) where
   pub logged-published : logged v.end v.log s ≡ some (of s d v.published)
   unfolding logged log_short
   logged-published =

@@ -1,6 +1,6 @@
 -- What the tests on a log and the walk of the entries of a series say together is what `logged` reads off it; and the
 -- order by these. Over plain variables. Assumes nothing.
-use Prim.Native.Nat.{ℕ, zero, suc, ◌-◌, ◌<◌}
+use Prim.Native.Nat.{ℕ, zero, suc}
 use mathlib.Core.Path.{◌≡◌, refl, sym, ap, ◌∙◌}
 use mathlib.Core.List.{List, [], ◌∷◌}
 use mathlib.Core.Bool.{Bool, true, false}
@@ -8,16 +8,11 @@ use mathlib.Core.Option.{Option, none, some}
 use native.Mathlib.Omega.{arith}
 use borrow.Author.Tests.{eq-eqb, ne_eqb, eqb-false}
 use lib.ListN.{length, get_or, take}
-use lib.Seq.{take_all}
 use lib.Dec.{eqb}
 use Rattle.ftd.specs.Runs.{run_of}
 use Rattle.ftd.specs.declared.refusal.Refusal.TheVariants.{UnknownSeries, OtherDay, DamagedLog}
 use Rattle.flow.specs.declared.sender.Sender.{Sender}
-use Rattle.flow.specs.declared.series.SeriesPlace.{SeriesPlace}
-use Rattle.flow.specs.declared.series.SeriesPlace.TheVariants.{Unknown}
-use Rattle.flow.specs.declared.series.SeriesPlace.TheVariants.{At as Stands}
-use Rattle.flow.specs.declared.log.EntryPlace.{EntryPlace}
-use Rattle.flow.specs.declared.log.EntryPlace.TheVariants.{Damaged, At}
+use Rattle.flow.specs.Types.{SeriesPlace}
 use Rattle.flow.specs.declared.order.Order.{Order}
 use Rattle.flow.specs.declared.order.Order.TheVariants.{Refused}
 use Rattle.flow.specs.Ends.{◌when◌else◌, is_served, no_series, published_of}
@@ -32,11 +27,9 @@ use Rattle.flow.proofs.common.Extends.{none-some}
 use Rattle.flow.proofs.order.Logged.{some_is, suc-not, ahead-some, logged-damaged, logged-reads}
 use Rattle.flow.proofs.order.Walked.{none_left}
 use Rattle.flow.proofs.sender.Lookups.{published-at}
-
--- ─── The used part ───
-
-pub all_there : (log : List ℕ) (used : ℕ) → length log < used → take (length log) log ≡ take used log
-all_there log used h = take_all (length log) log (omega arith) ∙ sym (take_all used log (omega arith))
+use Rattle.std.specs.Prelude.{Some, None}
+use Rattle.flow.specs.Types.{MaybePlace, some_place}
+use Rattle.flow.specs.declared.log.EntryPlace.{EntryPlace}
 
 -- ─── The last entry ───
 
@@ -45,15 +38,15 @@ module _ (e : Sender) (log : List ℕ) (s n : ℕ) where
   unfolding last_found
   last_none z = rw (eq-eqb n 0 z)
 
-  module _ (z : n ≡ 0 → ⊥) (r : EntryPlace) (f : EntryIn (entry_of e log s n) log r) where
-    pub last-damaged : r ≡ Damaged → false ≡ last_found e log s n
+  module _ (z : n ≡ 0 → ⊥) (r : MaybePlace) (f : EntryIn (entry_of e log s n) log r) where
+    pub last-damaged : r ≡ None → false ≡ last_found e log s n
     unfolding last_found
     last-damaged q = let g : entry_of e log s n ≡ none = rw q at f in rw (ne_eqb n 0 z, g)
 
-    pub last-there : (start size : ℕ) → r ≡ At start size → true ≡ last_found e log s n
+    pub last-there : (found : EntryPlace) → r ≡ Some found → true ≡ last_found e log s n
     unfolding last_found
-    last-there start size q =
-        let g : EntryIn (entry_of e log s n) log (At start size) = rw q at f in
+    last-there found q =
+        let g : EntryIn (entry_of e log s n) log ((Some found)) = rw q at f in
         rw (ne_eqb n 0 z, g.0)
 
 -- ─── The messages read off are the first of the series ───
@@ -143,20 +136,20 @@ module _ (e : Sender) (log : List ℕ) (s n : ℕ) (p : n ≡ published_of e s) 
 -- ─── The order, test by test ───
 
 module _ (s : ℕ) (a : Sender) (log : List ℕ) (b : Sender) (other : List ℕ) (f : SeriesPlace) (x : Finds a s f) where
-  pub first-unknown : f ≡ Unknown → Refused UnknownSeries ≡ order_of s a log b other
+  pub first-unknown : f ≡ None → Refused UnknownSeries ≡ order_of s a log b other
   unfolding order_of
   first-unknown q = let h : is_served a s ≡ false = rw q at x in rw h
 
-  module _ (i : ℕ) (q : f ≡ Stands i) (g : SeriesPlace) (y : Finds b s g) where
-    first_found : Finds a s (Stands i)
+  module _ (i : ℕ) (q : f ≡ Some i) (g : SeriesPlace) (y : Finds b s g) where
+    first_found : Finds a s (Some i)
     first_found = rw q at x
 
-    pub second-unknown : g ≡ Unknown → Refused UnknownSeries ≡ order_of s a log b other
+    pub second-unknown : g ≡ None → Refused UnknownSeries ≡ order_of s a log b other
     unfolding order_of
     second-unknown r = let h : is_served b s ≡ false = rw r at y in rw (first_found.0, h)
 
-    module _ (j : ℕ) (r : g ≡ Stands j) (d : Bool) (w : d ≡ other_date a.day.date b.day.date) where
-      second-found : Finds b s (Stands j)
+    module _ (j : ℕ) (r : g ≡ Some j) (d : Bool) (w : d ≡ other_date a.day.date b.day.date) where
+      second-found : Finds b s (Some j)
       second-found = rw r at y
 
       pub other-days : d ≡ true → Refused OtherDay ≡ order_of s a log b other
@@ -188,11 +181,9 @@ module _ (s : ℕ) (a : Sender) (log : List ℕ) (b : Sender) (other : List ℕ)
           pub both_read : n ≡ true → (used : ℕ) → UsedPart log a.day.used used
               → (more : ℕ) → UsedPart other b.day.used more → (o : Order)
               → o ≡ order_from 1
-              (take (get_or a.day.series i no_series).published (messages_in s (take (used - 0) log)))
-              (take (get_or b.day.series j no_series).published (messages_in s (take (more - 0) other)))
+              (take (get_or a.day.series i no_series).published (messages_in s (take used log)))
+              (take (get_or b.day.series j no_series).published (messages_in s (take more other)))
               → o ≡ order_of s a log b other
           both_read u used c more e o h =
               let p = read_found b other s _ (published-at b s j second-found.1) n l u in
-              let zu : used - 0 ≡ used = omega arith in
-              let zm : more - 0 ≡ more = omega arith in
-              (rw (zu, zm, c.1, e.1) at h) ∙ (rw (first_read, p) at read)
+              (rw (c.1, e.1) at h) ∙ (rw (first_read, p) at read)

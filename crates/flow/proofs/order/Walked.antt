@@ -7,15 +7,13 @@ use mathlib.Core.Bool.{Bool, true, false}
 use native.Mathlib.Omega.{arith}
 use native.Mathlib.Nat.{add-zero}
 use borrow.Author.Tests.{eq-eqb, ne_eqb}
-use lib.ListN.{length, take, drop, length-take, length-drop}
+use lib.ListN.{take, drop}
 use Rattle.ftd.specs.Bytes.{be16_of, part}
 use Rattle.ftd.specs.Runs.{front, Run, run_of}
 use Rattle.ftd.proofs.runs.Laws.{run-over, run-next, entry-inside, entry-head}
 use Rattle.ftd.proofs.runs.Turns.{entry-byte}
 use Rattle.flow.specs.declared.order.Order.{Order}
-use Rattle.flow.specs.declared.order.Order.TheVariants.{Same, FirstStarts, SecondStarts, Differ}
-use Rattle.flow.specs.declared.order.NextEntry.{NextEntry}
-use Rattle.flow.specs.declared.order.NextEntry.TheVariants.{Over, At}
+use Rattle.flow.specs.declared.order.Order.TheVariants.{Differ}
 use Rattle.flow.specs.Ends.{◌when◌else◌}
 use Rattle.flow.specs.Log.{entry, entry_series}
 use Rattle.flow.specs.Answers.{Message}
@@ -23,6 +21,7 @@ use Rattle.flow.specs.Order.{message_of, same_message, order_from}
 use Rattle.flow.specs.OrderHelpers.{of_series, messages_in, NextIn}
 use Rattle.flow.proofs.log.Heads.{part-size}
 use Rattle.flow.proofs.log.Walked.{some-entry}
+use Rattle.flow.specs.Types.{MaybeEntry, some_entry}
 
 -- ─── To the next entry of a series ───
 
@@ -63,7 +62,7 @@ module _ (l : List ℕ) (s left at n : ℕ) (m : n ≡ front entry (drop at l)) 
         sym inv ∙ ap (λ (r : Run). take left (of_series s r.entries)) (run-next entry some-entry l at n m z)
 
     -- It is of the series.
-    pub next_here : (left ≡ 0 → ⊥) → (t : ℕ) → t ≡ be16_of l at → t ≡ s → NextIn o s left l (At at n)
+    pub next_here : (left ≡ 0 → ⊥) → (t : ℕ) → t ≡ be16_of l at → t ≡ s → NextIn o s left l (some_entry at n)
     unfolding messages_in
     next_here y t a e =
         let q = eq-eqb (entry_series (take n (drop at l))) s (series-at l at n next-long ∙ sym a ∙ e) in
@@ -84,26 +83,17 @@ module _ (l : List ℕ) (s left at n : ℕ) (m : n ≡ front entry (drop at l)) 
 
 -- ─── Both logs ───
 
--- Where an entry lies, of a next one that is there: it is lent as a part of the bytes.
-module _ (o : List Message) (s n : ℕ) (l : List ℕ) (r : NextEntry) (start size : ℕ) (c : NextIn o s n l r)
-    (q : r ≡ At start size) where
-  pub next-at : NextIn o s n l (At start size)
+-- Where an entry lies, of a next one that is there.
+module _ (o : List Message) (s n : ℕ) (l : List ℕ) (r : MaybeEntry) (start size : ℕ) (c : NextIn o s n l r)
+    (q : r ≡ some_entry start size) where
+  next-at : NextIn o s n l (some_entry start size)
   next-at = rw q at c
 
-  pub next-inside : start + size ≤ length l
-  next-inside = next-at.2
-
-  pub next-part : 16 ≤ length (take (start + size - start) (drop start l))
-  next-part = rw (part-size start size, length-take, length-drop) (omega (arith, next-at.1, next-inside))
-
 -- It was one of those left.
-module _ (o : List Message) (s first k : ℕ) (l : List ℕ) (r : NextEntry) (start size : ℕ)
-    (c : NextIn o s (first - k) l r) (q : r ≡ At start size) where
+module _ (o : List Message) (s first k : ℕ) (l : List ℕ) (r : MaybeEntry) (start size : ℕ)
+    (c : NextIn o s (first - k) l r) (q : r ≡ some_entry start size) where
   pub next-left : k + 1 ≤ first
   next-left = omega (arith, (next-at o s (first - k) l r start size c q).3)
-
-  pub next-fewer : first - (k + 1) < first - k
-  next-fewer = omega (arith, next-left)
 
 -- Both from their first entries on.
 pub both-begin : (s first second : ℕ) (l m : List ℕ)
@@ -118,28 +108,10 @@ module _ (s first second k : ℕ) (l m : List ℕ) (at to : ℕ) (o : Order)
     (inv : order_from (suc k) (take (first - k) (messages_in s (drop at l)))
     (take (second - k) (messages_in s (drop to m)))
     ≡ o)
-    (x y : NextEntry) (c : NextIn (take (first - k) (messages_in s (drop at l))) s (first - k) l x)
+    (x y : MaybeEntry) (c : NextIn (take (first - k) (messages_in s (drop at l))) s (first - k) l x)
     (d : NextIn (take (second - k) (messages_in s (drop to m))) s (second - k) m y) where
-  pub both-over : x ≡ Over → y ≡ Over → Same ≡ o
-  both-over p q =
-      let f : take (first - k) (messages_in s (drop at l)) ≡ [] = rw p at c in
-      let g : take (second - k) (messages_in s (drop to m)) ≡ [] = rw q at d in
-      rw (f, g) at inv
-
-  pub first-over : (start size : ℕ) → x ≡ Over → y ≡ At start size → FirstStarts ≡ o
-  first-over start size p q =
-      let f : take (first - k) (messages_in s (drop at l)) ≡ [] = rw p at c in
-      let g = (next-at _ s _ m y start size d q).0 in
-      rw (f, g) at inv
-
-  module _ (start size : ℕ) (p : x ≡ At start size) where
-    pub second-over : y ≡ Over → SecondStarts ≡ o
-    second-over q =
-        let f = (next-at _ s _ l x start size c p).0 in
-        let g : take (second - k) (messages_in s (drop to m)) ≡ [] = rw q at d in
-        rw (f, g) at inv
-
-    module _ (begin width : ℕ) (q : y ≡ At begin width) (b : Bool)
+  module _ (start size : ℕ) (p : x ≡ some_entry start size) where
+    module _ (begin width : ℕ) (q : y ≡ some_entry begin width) (b : Bool)
         (e : b ≡ same_message (message_of (take (start + size - start) (drop start l)))
         (message_of (take (begin + width - begin) (drop begin m)))) where
       here : same_message (message_of (part l start size)) (message_of (part m begin width)) ≡ b

@@ -15,14 +15,12 @@ use Rattle.ftd.specs.Items.{wrong_width, wrong_item}
 use Rattle.ftd.specs.Composition.{composed}
 use Rattle.ftd.specs.declared.refusal.Refusal.TheVariants.{UnknownSeries, OtherDay}
 use Rattle.ftd.specs.declared.composition.Direction.TheVariants.{Up, Down}
-use Rattle.ftd.specs.declared.tags.TradeDate.{TradeDate}
+use Rattle.ftd.specs.Types.{TradeDate}
 use Rattle.ftd.specs.declared.packet.Header.{Header}
 use Rattle.flow.specs.declared.sender.Sender.{Sender}
-use Rattle.flow.specs.declared.sender.LoggedIn.{LoggedIn}
+use Rattle.flow.specs.Types.{LoggedIn}
 use Rattle.flow.specs.declared.receiver.Receiver.{Receiver}
-use Rattle.flow.specs.declared.receiver.Confirmed.{Confirmed}
-use Rattle.flow.specs.declared.receiver.Confirmed.TheVariants.{Last as In}
-use Rattle.flow.specs.declared.receiver.Confirmed.TheVariants.{Refused as NotConfirmed}
+use Rattle.flow.specs.Types.{Confirmed}
 use Rattle.flow.specs.Ends.{◌when◌else◌, Left, Wrote, left, is_open, with_series, logged_in}
 use Rattle.flow.specs.Answers.{is_taken, written, login_said}
 use Rattle.flow.specs.Serving.{no_login, login_of}
@@ -30,6 +28,7 @@ use Rattle.flow.specs.Receiving.{wrong_day, last_after, confirm_with, confirm_lo
 use Rattle.flow.proofs.common.Bools.{or-neither}
 use Rattle.flow.proofs.packets.Logins.{confirm-given}
 use Rattle.flow.proofs.calls.Serving.{LoginTests, LoginDone, login-refused, login-taken, login-cases}
+use Rattle.std.specs.Prelude.{Ok, Err}
 
 -- ─── Content that Login takes for its answer: rows 7 to 10 ───
 
@@ -43,9 +42,9 @@ pub record Answering (content : List ℕ) : Type 0 where
 
 unfoldable pub confirm_by_login : Receiver → ℕ → TradeDate → Left Receiver Confirmed
 confirm_by_login r s date =
-    left r (NotConfirmed UnknownSeries) when not (is_open r s) else
-    left r (NotConfirmed OtherDay) when wrong_day r s date else
-    left (with_series r s date (last_after r s date) logged_in) (In (last_after r s date))
+    left r (Err UnknownSeries) when not (is_open r s) else
+    left r (Err OtherDay) when wrong_day r s date else
+    left (with_series r s date (last_after r s date) logged_in) (Ok (last_after r s date))
 
 pub confirm-by-login : (date : TradeDate) (content : List ℕ) → Answering content → (r : Receiver) (s : ℕ)
     → confirm_login_of r s (login_bytes date content) ≡ confirm_by_login r s date

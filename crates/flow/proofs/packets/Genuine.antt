@@ -9,7 +9,6 @@ use lib.ListN.{length, get_elem?}
 use Rattle.ftd.specs.Chain.{packets_of}
 use Rattle.ftd.proofs.chain.Laws.{chain_laws}
 use Rattle.ftd.specs.Fields.{shaped, most_content}
-use Rattle.ftd.specs.declared.tags.TradeDate.TheVariants.{At}
 use Rattle.ftd.specs.declared.chain.Message.{Message as Headed}
 use Rattle.flow.specs.Answers.{Message}
 use Rattle.flow.specs.World.{InSeries, Dated, Standing, whole, Transmission, transmission, SenderSide}
@@ -18,10 +17,11 @@ use Rattle.flow.proofs.common.Histories.{of-append}
 use Rattle.flow.proofs.common.Extends.{place-append, Extends}
 use Rattle.flow.proofs.common.Lists.{Every}
 use Rattle.flow.specs.Ends.{most_messages}
+use Rattle.std.specs.Prelude.{Some}
 
 -- A message of series s with TID t and number k, of day d.
 abbrev pub headed : ℕ → ℕ → ℕ → ℕ → Headed
-headed s t k d = record { date = At d; tid = t; series = s; number = k; counted = true }
+headed s t k d = record { date = Some d; tid = t; series = s; number = k; counted = true }
 
 -- Packets of series s are those of the published message at a place, from 0, of some day; its number is one more.
 pub record Genuine (P : List (Dated Message)) (s : ℕ) (ps : List (List ℕ)) : Type 0 where

@@ -7,7 +7,7 @@ use mathlib.Core.Bool.{true}
 use Rattle.ftd.specs.Fields.{shaped}
 use Rattle.ftd.specs.Login.{login_header, login_bytes}
 use Rattle.ftd.proofs.login.Laws.{login-back, login-one, login-message, login-content}
-use Rattle.ftd.specs.declared.tags.TradeDate.{TradeDate}
+use Rattle.ftd.specs.Types.{TradeDate}
 use Rattle.flow.specs.declared.sender.Sender.{Sender}
 use Rattle.flow.specs.declared.receiver.Receiver.{Receiver}
 use Rattle.flow.specs.Serving.{login_with, login_of}

@@ -8,7 +8,7 @@ use mathlib.Core.Bool.{true, false, not, ◌||◌}
 use borrow.Author.Tests.{ltb-false, not-false}
 use lib.ListN.{length, drop}
 use lib.Seq.{take-append_seam}
-use lib.Dec.{T, ltb, eqb}
+use lib.Dec.{ltb, eqb}
 use Rattle.ftd.specs.Login.{login_tid, login_header, login_bytes}
 use Rattle.ftd.specs.Fields.{shaped, count_of, packet_content}
 use Rattle.ftd.specs.Items.{wrong_width, wrong_item}
@@ -18,19 +18,15 @@ use Rattle.ftd.specs.declared.refusal.Refusal.{Refusal}
 use Rattle.ftd.specs.declared.refusal.Refusal.TheVariants.{FieldRun, FieldLength, Item, Composition, UnknownSeries}
 use Rattle.ftd.specs.declared.refusal.Refusal.TheVariants.{OtherDay, TooSmall, WrongStart}
 use Rattle.ftd.specs.declared.composition.Direction.TheVariants.{Up, Down}
-use Rattle.ftd.specs.declared.tags.TradeDate.{TradeDate}
+use Rattle.ftd.specs.Types.{TradeDate}
 use Rattle.ftd.specs.declared.resume.Resume.TheVariants.{Next}
 use Rattle.ftd.proofs.resume.Behind.{counts, back}
 use Rattle.flow.specs.declared.sender.Sender.{Sender}
-use Rattle.flow.specs.declared.sender.LoggedIn.{LoggedIn}
-use Rattle.flow.specs.declared.sender.LoggedIn.TheVariants.{Wrote as Answered}
-use Rattle.flow.specs.declared.sender.LoggedIn.TheVariants.{Refused as NotIn}
+use Rattle.flow.specs.Types.{LoggedIn}
 use Rattle.flow.specs.declared.receiver.Receiver.{Receiver}
-use Rattle.flow.specs.declared.receiver.Requested.{Requested}
-use Rattle.flow.specs.declared.receiver.Requested.TheVariants.{Wrote as Asked}
-use Rattle.flow.specs.declared.receiver.Requested.TheVariants.{Refused as NotAsked}
+use Rattle.flow.specs.Types.{Requested}
 use Rattle.flow.specs.Ends.{◌when◌else◌, Wrote, wrote, over, before, is_served, with_place, is_open, kept_of}
-use Rattle.flow.specs.Answers.{is_taken, written, requested_said}
+use Rattle.flow.specs.Answers.{written, requested_said}
 use Rattle.flow.specs.Serving.{wrong_run, start_of, wrong_start, login_with, login_of}
 use Rattle.flow.specs.Receiving.{next_wanted, request_of, request_bytes, request_login_of}
 use Rattle.flow.proofs.common.Rows.{by-when}
@@ -38,6 +34,7 @@ use Rattle.flow.proofs.common.Bools.{or-neither}
 use Rattle.ftd.proofs.chain.Singles.{shaped-ended}
 use Rattle.ftd.proofs.resume.Content.{start-shaped}
 use Rattle.flow.proofs.packets.Logins.{login-given}
+use Rattle.std.specs.Prelude.{Ok, Err}
 
 -- ─── Content with a start field behind it that Ask takes, for a series and a next number ───
 
@@ -78,10 +75,10 @@ login_by_ask e t s date next content out =
     refused OtherDay when before e.day.date date else
     refused TooSmall when ltb (length out) (length answer) else
     refused WrongStart when wrong_start e t start else
-    wrote (with_place e t start 0) (Answered (length answer)) (over answer out)
+    wrote (with_place e t start 0) (Ok (length answer)) (over answer out)
   where
     refused : Refusal → Wrote Sender LoggedIn
-    refused r = wrote e (NotIn r) out
+    refused r = wrote e (Err r) out
 
     start : ℕ
     start = start_of e date (Next s next)
@@ -110,8 +107,8 @@ module _ (e : Receiver) (s : ℕ) (c out : List ℕ) where
   Result = request_login_of e s c out
 
   -- A claim of Ask's outcome: of a refusal, which leaves all as it was, and of the packet written.
-  pub by-request : (P : Wrote Receiver Requested → Type 0) → ((r : Refusal) → P (wrote e (NotAsked r) out))
-      → (Asks e s c out → P (wrote e (Asked (length (request_bytes e s c))) (over (request_bytes e s c) out))) → P Result
+  pub by-request : (P : Wrote Receiver Requested → Type 0) → ((r : Refusal) → P (wrote e (Err r) out))
+      → (Asks e s c out → P (wrote e (Ok (length (request_bytes e s c))) (over (request_bytes e s c) out))) → P Result
   unfolding request_login_of request_of
   by-request P f g =
       by-when P (wrong_run c 4068) (λ q. f FieldRun) λ h7.
@@ -139,12 +136,6 @@ module _ (e : Receiver) (s : ℕ) (c out : List ℕ) where
   -- The end stays.
   pub request-end : Result.end ≡ e
   request-end = by-request (λ (w : Wrote Receiver Requested). w.end ≡ e) (λ r. refl) (λ a. refl)
-
-  -- Taken, its tests passed.
-  pub request-taken : T (is_taken (requested_said Result.answer)) → Asks e s c out
-  request-taken =
-      by-request (λ (w : Wrote Receiver Requested). T (is_taken (requested_said w.answer)) → Asks e s c out)
-      (λ r t. absurd t) (λ a t. a)
 
   -- What it puts on the line: nothing, or the login packet.
   pub by_written : (P : List (List ℕ) → Type 0) → P []

@@ -11,9 +11,7 @@ use lib.Dec.{eqb}
 use Rattle.ftd.specs.Bytes.{part, put}
 use Rattle.ftd.specs.Chain.{pieces_of, chain_at}
 use Rattle.ftd.specs.Chain.Laws.{piece_at_place}
-use Rattle.ftd.specs.declared.tags.TradeDate.{TradeDate}
-use Rattle.ftd.specs.declared.tags.TradeDate.TheVariants.{At}
-use Rattle.ftd.specs.declared.tags.PacketPlace.TheVariants.{Nth}
+use Rattle.ftd.specs.Types.{TradeDate}
 use Rattle.ftd.specs.declared.packet.Span.{Span}
 use Rattle.ftd.specs.declared.packet.Header.{Header}
 use Rattle.flow.specs.declared.receiver.KeptSeries.{KeptSeries}
@@ -29,6 +27,7 @@ use Rattle.flow.proofs.calls.Receive.{holds-first, holds-middle, hands-last}
 use Rattle.flow.proofs.pieces.Pieces.{first_pieces, first-suc, at_first, at-middle}
 use Rattle.flow.proofs.pieces.Buffers.{part-put}
 use Rattle.flow.proofs.common.Days.{day-same}
+use Rattle.std.specs.Prelude.{Some}
 
 -- A series that is open and logged in has a chain.
 pub record Chain-open (e : Receiver) (s : ℕ) : Type 0 where
@@ -43,7 +42,7 @@ pub record Held (e : Receiver) (buffer : List ℕ) (s t k d : ℕ) (c : List ℕ
   pub held : (live_of e s).held ≡ length (first_pieces c n)
   pub pieces : (live_of e s).pieces ≡ n
   pub bytes : part buffer (part_start e s) (length (first_pieces c n)) ≡ first_pieces c n
-  pub date : (kept_of e s).date ≡ At d
+  pub date : (kept_of e s).date ≡ Some d
   pub number : k ≡ (kept_of e s).last + 1
 
 -- If there is a chain at all.
@@ -55,7 +54,7 @@ module _ (e : Receiver) (eight : Eight e) (h : Header) (d : ℕ) (at : Span) (bu
     (letter : h.chain ≡ chain_at (eqb j 0) (eqb (j + 1) (length (pieces_of c))))
     (inside : j < length (pieces_of c))
     (low : j < most_pieces)
-    (before : 0 < j → Next e h (At d) → (live_of e h.series).pieces ≡ j
+    (before : 0 < j → Next e h (Some d) → (live_of e h.series).pieces ≡ j
     → Holding e buffer h.series h.tid h.number d c j)
   where
     abbrev s : ℕ
@@ -84,7 +83,7 @@ module _ (e : Receiver) (eight : Eight e) (h : Header) (d : ℕ) (at : Span) (bu
         )
 
     -- A piece that was held.
-    now-holding : Next e h (At d) → (held pieces : ℕ) (b : List ℕ) → held ≡ length (first_pieces c (suc j))
+    now-holding : Next e h (Some d) → (held pieces : ℕ) (b : List ℕ) → held ≡ length (first_pieces c (suc j))
         → pieces ≡ j → part b (part_start e s) held ≡ first_pieces c (suc j)
         → Holding (with_series e s (kept_of e s).date (kept_of e s).last (holding h.tid held (one_more pieces))) b
         h.series h.tid h.number d c (suc j)
@@ -105,15 +104,15 @@ module _ (e : Receiver) (eight : Eight e) (h : Header) (d : ℕ) (at : Span) (bu
         }
 
     -- What is held where a chain goes on.
-    pub counted : Goes_on (live_of e s) h (Nth j) → (live_of e s).pieces ≡ j
+    pub counted : Goes_on (live_of e s) h (Some j) → (live_of e s).pieces ≡ j
     counted g = sym (eqb-true j (live_of e s).pieces (not-false (eqb j (live_of e s).pieces) g.counted))
 
-    held-here : 0 < j → Next e h (At d) → Goes_on (live_of e s) h (Nth j)
+    held-here : 0 < j → Next e h (Some d) → Goes_on (live_of e s) h (Some j)
         → Held e buffer h.series h.tid h.number d c j
     held-here p n g =
         before p n (counted g) (record { open-series = n.reached.open-series; login = n.reached.login; chain = g.chain })
 
-    pub goes-on-put : 0 < j → Next e h (At d) → Goes_on (live_of e s) h (Nth j)
+    pub goes-on-put : 0 < j → Next e h (Some d) → Goes_on (live_of e s) h (Some j)
         → Room e buffer (live_of e s).held (piece_at_place c j).bytes
         → ((live_of e s).held + length (piece_at_place c j).bytes ≡ length (first_pieces c (suc j)))
         × (part (put buffer (part_start e s + (live_of e s).held) (piece_at_place c j).bytes) (part_start e s)
@@ -122,7 +121,7 @@ module _ (e : Receiver) (eight : Eight e) (h : Header) (d : ℕ) (at : Span) (bu
         let x = held-here p n g in
         piece-put j refl n.reached.open-series (live_of e s).held x.held (rw x.held x.bytes) room
 
-    pub took-holding : (r : Wrote Receiver Received) → Took e h (At d) (Nth j) at (piece_at_place c j).bytes buffer r
+    pub took-holding : (r : Wrote Receiver Received) → Took e h (Some d) (Some j) at (piece_at_place c j).bytes buffer r
         → Holding r.end r.bytes h.series h.tid h.number d c (suc j)
     took-holding r (unknown q) = λ x. clash (is_open e s) x.open-series q
     took-holding r (not_in q) = λ x. clash (live_of e s).login x.login q

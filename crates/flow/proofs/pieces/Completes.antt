@@ -15,8 +15,6 @@ use Rattle.ftd.specs.Fields.{shaped}
 use Rattle.ftd.specs.Chain.Laws.{piece_at_place}
 use Rattle.ftd.proofs.chain.Pieces.{shaped-facts}
 use Rattle.ftd.specs.declared.refusal.Refusal.{Refusal}
-use Rattle.ftd.specs.declared.tags.TradeDate.TheVariants.{At}
-use Rattle.ftd.specs.declared.tags.PacketPlace.TheVariants.{Nth}
 use Rattle.ftd.specs.declared.packet.Span.{Span}
 use Rattle.ftd.specs.declared.packet.Header.{Header}
 use Rattle.flow.specs.declared.receiver.LiveSeries.{LiveSeries}
@@ -36,12 +34,13 @@ use Rattle.flow.proofs.pieces.Pieces.{first_pieces, first-suc, first-inside, at-
 use Rattle.flow.proofs.pieces.Pieces.{at_last}
 use Rattle.flow.proofs.pieces.Chained.{Chain-open, Holding}
 use Rattle.flow.proofs.pieces.Outcomes.{content-single, content-last}
+use Rattle.std.specs.Prelude.{Some}
 
 -- Series s is open and logged in, k is the next number of its kept day d, and the buffer has all parts.
 pub record Wants (e : Receiver) (buffer : List ℕ) (s k d : ℕ) : Type 0 where
   pub open-series : is_open e s ≡ true
   pub login : (live_of e s).login ≡ true
-  pub date : (kept_of e s).date ≡ At d
+  pub date : (kept_of e s).date ≡ Some d
   pub number : k ≡ (kept_of e s).last + 1
   pub few : k ≤ 1000000
   pub room : all_parts e ≤ length buffer
@@ -70,7 +69,7 @@ module _ (e : Receiver) (eight : Eight e) (h : Header) (d : ℕ) (at : Span) (p 
     (inside : j < length (pieces_of c))
     (low : j < most_pieces)
     (piece : part p at.start at.len ≡ (piece_at_place c j).bytes)
-    (before : 0 < j → Next e h (At d) → Holding e buffer h.series h.tid h.number d c j)
+    (before : 0 < j → Next e h (Some d) → Holding e buffer h.series h.tid h.number d c j)
     (opens : 0 < j → Wants e buffer h.series h.number d → Chain-open e h.series)
   where
     abbrev s : ℕ
@@ -94,7 +93,7 @@ module _ (e : Receiver) (eight : Eight e) (h : Header) (d : ℕ) (at : Span) (p 
     sooner (inr q) = (at_first j (length (pieces_of c)) (sym letter ∙ q)).0
 
     -- What a run gives is more than the count gives.
-    by_count : 0 < j → Next e h (At d) → (live_of e s).pieces ≡ j → Holding e buffer h.series h.tid h.number d c j
+    by_count : 0 < j → Next e h (Some d) → (live_of e s).pieces ≡ j → Holding e buffer h.series h.tid h.number d c j
     by_count p n q = before p n
 
     roomy : Wants e buffer s h.number d → (held : ℕ) → held ≡ length (first_pieces c j)
@@ -104,8 +103,8 @@ module _ (e : Receiver) (eight : Eight e) (h : Header) (d : ℕ) (at : Span) (p 
         (le-ltb 32768 (held + length (piece_at_place c j).bytes) (fits held q))
 
     -- Wants, it is not refused from 15 on.
-    not-refused : Wants e buffer s h.number d → (r : Refusal) → Why e h (At d) (Nth j) (piece_at_place c j).bytes buffer r → ⊥
-    not-refused r f (other-day q) = clash (differs (At d) (kept_of e s).date) q (rw (r.date, eq-eqb d d refl))
+    not-refused : Wants e buffer s h.number d → (r : Refusal) → Why e h (Some d) (Some j) (piece_at_place c j).bytes buffer r → ⊥
+    not-refused r f (other-day q) = clash (differs (Some d) (kept_of e s).date) q (rw (r.date, eq-eqb d d refl))
     not-refused r f (out-of-line q) =
         let last = (kept_of e s).last in
         let k = h.number in
@@ -113,11 +112,11 @@ module _ (e : Receiver) (eight : Eight e) (h : Header) (d : ℕ) (at : Span) (p 
         clash (out_of_line last k) q
         (rw (ne_eqb k 0 (λ z. omega arith), le-ltb (last + 1) k (omega arith)) (le-ltb most_messages k r.few))
     not-refused r f (astray n l q) =
-        clash (misplaced (Nth j) 0) q (ap not (eq-eqb j 0 (sooner l)))
+        clash (misplaced (Some j) 0) q (ap not (eq-eqb j 0 (sooner l)))
     not-refused r f (broken n l q) =
         let o = opens (later l) r in
         let x = before (later l) n o in
-        clash (broken_chain (live_of e s) h || misplaced (Nth j) (live_of e s).pieces) q
+        clash (broken_chain (live_of e s) h || misplaced (Some j) (live_of e s).pieces) q
         (rw (o.chain, eq-eqb (live_of e s).tid h.tid x.tid) (ap not (eq-eqb j (live_of e s).pieces (sym x.pieces))))
     not-refused r f (no-room-first n x q) =
         let z = (at_first j (length (pieces_of c)) (sym letter ∙ x)).0 in
@@ -142,7 +141,7 @@ module _ (e : Receiver) (eight : Eight e) (h : Header) (d : ℕ) (at : Span) (p 
         }
 
     pub took-opens : j + 1 < length (pieces_of c) → (r : Wrote Receiver Received)
-        → Took e h (At d) (Nth j) at (piece_at_place c j).bytes buffer r
+        → Took e h (Some d) (Some j) at (piece_at_place c j).bytes buffer r
         → Wants r.end r.bytes s h.number d → Chain-open r.end s
     took-opens more r (unknown q) = λ y. clash (is_open e s) y.open-series q
     took-opens more r (not_in q) = λ y. clash (live_of e s).login y.login q
@@ -163,7 +162,7 @@ module _ (e : Receiver) (eight : Eight e) (h : Header) (d : ℕ) (at : Span) (p 
     -- ─── The last packet: it is handed on ───
 
     pub took-completes : j + 1 ≡ length (pieces_of c) → Wants e buffer s h.number d → (r : Wrote Receiver Received)
-        → Took e h (At d) (Nth j) at (piece_at_place c j).bytes buffer r
+        → Took e h (Some d) (Some j) at (piece_at_place c j).bytes buffer r
         → message_in (received_said p r.bytes r.answer) ≡ record { tid = h.tid; content = c } ∷ []
     took-completes end y r (unknown q) = clash (is_open e s) y.open-series q
     took-completes end y r (not_in q) = clash (live_of e s).login y.login q

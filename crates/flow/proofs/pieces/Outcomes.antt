@@ -10,8 +10,6 @@ use Rattle.ftd.specs.Bytes.{part, put}
 use Rattle.ftd.specs.Chain.{pieces_of, chain_at}
 use Rattle.ftd.specs.Fields.{shaped}
 use Rattle.ftd.specs.Chain.Laws.{piece_at_place}
-use Rattle.ftd.specs.declared.tags.TradeDate.TheVariants.{At}
-use Rattle.ftd.specs.declared.tags.PacketPlace.TheVariants.{Nth}
 use Rattle.ftd.specs.declared.packet.Span.{Span}
 use Rattle.ftd.specs.declared.packet.Chain.TheVariants.{Single, Last}
 use Rattle.ftd.specs.declared.packet.Header.{Header}
@@ -28,14 +26,15 @@ use Rattle.flow.proofs.steps.Moves.{Moves, moves_not, moves-with}
 use Rattle.flow.proofs.pieces.Pieces.{first_pieces, first-suc, first-all, at-single, at_last}
 use Rattle.flow.proofs.pieces.Chained.{Holding, goes-on-put}
 use Rattle.flow.proofs.common.Days.{day-same}
+use Rattle.std.specs.Prelude.{Some}
 
 -- ─── What a packet of the message (d, k, x) of series s comes to: the end, what is handed on, what is reported ───
 
 pub data Delivered (e : Receiver) (s d k : ℕ) (x : Message) : Receiver → List Message → List ℕ → Type 0 where
   keeps : {after : Receiver} → Moves e after s (day_of e s) (last_of e s) → Delivered e s d k x after [] []
-  reports : {after : Receiver} {n : ℕ} → Moves e after s (day_of e s) (last_of e s) → day_of e s ≡ At d → n ≡ last_of e s
+  reports : {after : Receiver} {n : ℕ} → Moves e after s (day_of e s) (last_of e s) → day_of e s ≡ Some d → n ≡ last_of e s
       → Delivered e s d k x after [] (n ∷ [])
-  hands : {after : Receiver} {y : Message} → Moves e after s (At d) k → day_of e s ≡ At d → k ≡ last_of e s + 1 → y ≡ x
+  hands : {after : Receiver} {y : Message} → Moves e after s (Some d) k → day_of e s ≡ Some d → k ≡ last_of e s + 1 → y ≡ x
       → Delivered e s d k x after (y ∷ []) (k ∷ [])
 
 module _ (e : Receiver) (eight : Eight e) (h : Header) (d : ℕ) (at : Span) (p buffer c : List ℕ) (limit j : ℕ)
@@ -44,7 +43,7 @@ module _ (e : Receiver) (eight : Eight e) (h : Header) (d : ℕ) (at : Span) (p 
     (inside : j < length (pieces_of c))
     (piece : part p at.start at.len ≡ (piece_at_place c j).bytes)
     (low : j < most_pieces)
-    (before : 0 < j → Next e h (At d) → (live_of e h.series).pieces ≡ j
+    (before : 0 < j → Next e h (Some d) → (live_of e h.series).pieces ≡ j
     → Holding e buffer h.series h.tid h.number d c j)
   where
     abbrev s : ℕ
@@ -58,22 +57,22 @@ module _ (e : Receiver) (eight : Eight e) (h : Header) (d : ℕ) (at : Span) (p 
         → Moves e (with_series e s (kept_of e s).date (kept_of e s).last live) s (day_of e s) (last_of e s)
     stays live o = rw o (moves-with e eight s o (kept_of e s).date (kept_of e s).last live)
 
-    on-day : Next e h (At d) → (kept_of e s).date ≡ At d
+    on-day : Next e h (Some d) → (kept_of e s).date ≡ Some d
     on-day n = day-same d (kept_of e s).date n.day
 
-    day-open : is_open e s ≡ true → (kept_of e s).date ≡ At d → day_of e s ≡ At d
+    day-open : is_open e s ≡ true → (kept_of e s).date ≡ Some d → day_of e s ≡ Some d
     day-open o q = rw o q
 
     last-open : is_open e s ≡ true → (kept_of e s).last ≡ last_of e s
     last-open o = rw o
 
-    handed : Next e h (At d) → (y : Message) → y ≡ x
+    handed : Next e h (Some d) → (y : Message) → y ≡ x
         → Delivered e s d h.number x (with_series e s (kept_of e s).date h.number logged_in) (y ∷ [])
         (h.number ∷ [])
     handed n y q =
         let o = n.reached.open-series in
-        let m : Moves e (with_series e s (kept_of e s).date h.number logged_in) s (At d) h.number =
-        rw (on-day n) (moves-with e eight s o (At d) h.number logged_in) in
+        let m : Moves e (with_series e s (kept_of e s).date h.number logged_in) s (Some d) h.number =
+        rw (on-day n) (moves-with e eight s o (Some d) h.number logged_in) in
         hands m (day-open o (on-day n)) (n.number ∙ ap (λ (m : ℕ). m + 1) (last-open o)) q
 
     -- The whole content: of the only piece, and of all.
@@ -85,7 +84,7 @@ module _ (e : Receiver) (eight : Eight e) (h : Header) (d : ℕ) (at : Span) (p 
         ap (λ (l : List ℕ). record { tid = h.tid; content = l })
         (piece ∙ sym (rw g at f) ∙ first-all c limit (suc j) good (omega arith))
 
-    pub content-last : Next e h (At d) → h.chain ≡ Last → Goes_on (live_of e s) h (Nth j)
+    pub content-last : Next e h (Some d) → h.chain ≡ Last → Goes_on (live_of e s) h (Some j)
         → Room e buffer (live_of e s).held (piece_at_place c j).bytes
         → record {
           tid = h.tid;
@@ -98,7 +97,7 @@ module _ (e : Receiver) (eight : Eight e) (h : Header) (d : ℕ) (at : Span) (p 
         let b = goes-on-put e eight h d at buffer c j letter inside low before z.0 n g room in
         ap (λ (l : List ℕ). record { tid = h.tid; content = l }) (b.1 ∙ first-all c limit (suc j) good (omega arith))
 
-    pub took-delivered : (r : Wrote Receiver Received) → Took e h (At d) (Nth j) at (piece_at_place c j).bytes buffer r
+    pub took-delivered : (r : Wrote Receiver Received) → Took e h (Some d) (Some j) at (piece_at_place c j).bytes buffer r
         → Delivered e s d h.number x r.end (message_in (received_said p r.bytes r.answer))
         (report_in (received_said p r.bytes r.answer))
     took-delivered r (unknown q) = keeps (moves_not e s)

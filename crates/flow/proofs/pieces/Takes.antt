@@ -14,8 +14,6 @@ use Rattle.ftd.specs.Fields.{shaped, most_content}
 use Rattle.ftd.specs.Chain.Laws.{piece_at_place}
 use Rattle.ftd.specs.Chain.Laws.{packet_at_place as packet_at}
 use Rattle.ftd.proofs.chain.Laws.{chain_laws}
-use Rattle.ftd.specs.declared.tags.TradeDate.TheVariants.{At}
-use Rattle.ftd.specs.declared.tags.PacketPlace.TheVariants.{Nth}
 use Rattle.ftd.proofs.chain.Pieces.{shaped-facts}
 use Rattle.ftd.specs.declared.chain.Message.{Message as Headed}
 use Rattle.ftd.specs.declared.packet.Dated.{Dated}
@@ -34,6 +32,7 @@ use Rattle.flow.proofs.common.Extends.{place_inside, place-get_d}
 use Rattle.flow.proofs.pieces.Others.{Elsewhere, took-elsewhere}
 use Rattle.flow.specs.Ends.{kept_of, live_of, most_pieces}
 use Rattle.flow.proofs.common.Days.{day-same}
+use Rattle.std.specs.Prelude.{Some}
 
 -- p is packet j of the message of series s, TID t, number k and day d with content c.
 pub record PacketAt (s t k d : ℕ) (c : List ℕ) (j : ℕ) (p : List ℕ) : Type 0 where
@@ -42,7 +41,7 @@ pub record PacketAt (s t k d : ℕ) (c : List ℕ) (j : ℕ) (p : List ℕ) : Ty
 
 -- Where it is the next piece, by number and by the count of pieces held, a chain holds the pieces before it.
 pub record Before (e : Receiver) (buffer : List ℕ) (s t k d : ℕ) (c : List ℕ) (j : ℕ) : Type 0 where
-  pub held : 0 < j → (kept_of e s).date ≡ At d → k ≡ (kept_of e s).last + 1 → (live_of e s).pieces ≡ j
+  pub held : 0 < j → (kept_of e s).date ≡ Some d → k ≡ (kept_of e s).last + 1 → (live_of e s).pieces ≡ j
       → Holding e buffer s t k d c j
 
 -- In a run, a chain holds the pieces before it, whatever its count; and there is a chain where the end is ready for the
@@ -73,19 +72,19 @@ module _ {s t k d : ℕ} {c : List ℕ} {j : ℕ} {p : List ℕ} (at : PacketAt 
   unfolding header_for
   take-series = rw (← is) (ap (λ (x : Dated). series_in x.packet) (packet-dated m c j inside most_content at.good))
 
-  pub take-date : (dated_of p).date ≡ At d
+  pub take-date : (dated_of p).date ≡ Some d
   take-date = rw (← is) (ap (λ (x : Dated). x.date) (packet-dated m c j inside most_content at.good))
 
-  pub take-place : (dated_of p).place ≡ Nth j
+  pub take-place : (dated_of p).place ≡ Some j
   take-place = rw (← is) (ap (λ (x : Dated). x.place) (packet-dated m c j inside most_content at.good))
 
   took : (e : Receiver) (buffer : List ℕ)
-      → Took e (header_at m c j inside) (At d) (Nth j) (span_at m c j inside) (piece_at_place c j).bytes buffer
+      → Took e (header_at m c j inside) (Some d) (Some j) (span_at m c j inside) (piece_at_place c j).bytes buffer
       (receive_of e p buffer)
   took e buffer =
       rw (← is)
       (rw (packet-received m c j inside most_content at.good e buffer)
-      (receive-with e (header_at m c j inside) (At d) (Nth j) (span_at m c j inside) (piece_at_place c j).bytes buffer))
+      (receive-with e (header_at m c j inside) (Some d) (Some j) (span_at m c j inside) (piece_at_place c j).bytes buffer))
 
   piece : part p (span_at m c j inside).start (span_at m c j inside).len ≡ (piece_at_place c j).bytes
   piece = rw is at (packet-piece m c j inside)
@@ -108,11 +107,11 @@ module _ {s t k d : ℕ} {c : List ℕ} {j : ℕ} {p : List ℕ} (at : PacketAt 
         → Elsewhere e buffer (receive_of e p buffer).end (receive_of e p buffer).bytes u
     unfolding header_for
     take-elsewhere u n =
-        took-elsewhere e eight (header_at m c j inside) (At d) (Nth j) (span_at m c j inside) (piece_at_place c j).bytes buffer
+        took-elsewhere e eight (header_at m c j inside) (Some d) (Some j) (span_at m c j inside) (piece_at_place c j).bytes buffer
         (receive_of e p buffer) (took e buffer) u n
 
     module _ (before : Before e buffer s t k d c j) where
-      held : 0 < j → Next e (header_at m c j inside) (At d) → (live_of e s).pieces ≡ j → Holding e buffer s t k d c j
+      held : 0 < j → Next e (header_at m c j inside) (Some d) → (live_of e s).pieces ≡ j → Holding e buffer s t k d c j
       unfolding header_for
       held l n = before.held l (day-same d (kept_of e s).date n.day) n.number
 
@@ -133,7 +132,7 @@ module _ {s t k d : ℕ} {c : List ℕ} {j : ℕ} {p : List ℕ} (at : PacketAt 
           letter take_within piece take-low held (receive_of e p buffer) (took e buffer)
 
     module _ (run : Running e buffer s t k d c j) where
-      held-before : 0 < j → Next e (header_at m c j inside) (At d) → Holding e buffer s t k d c j
+      held-before : 0 < j → Next e (header_at m c j inside) (Some d) → Holding e buffer s t k d c j
       held-before l n = run.held l
 
       -- Where the end is still ready for the message, before its last packet, there is a chain.

@@ -13,14 +13,13 @@ use Rattle.ftd.specs.Bytes.{put}
 use Rattle.ftd.specs.Packet.{span}
 use Rattle.ftd.specs.declared.refusal.Refusal.TheVariants.{UnknownSeries, NotLoggedIn, OtherDay, OutOfLine}
 use Rattle.ftd.specs.declared.refusal.Refusal.TheVariants.{BrokenChain, TooSmall}
-use Rattle.ftd.specs.declared.tags.TradeDate.{TradeDate}
-use Rattle.ftd.specs.declared.tags.PacketPlace.{PacketPlace}
+use Rattle.ftd.specs.Types.{TradeDate}
+use Rattle.ftd.specs.Types.{PacketPlace}
 use Rattle.ftd.specs.declared.packet.Span.{Span}
 use Rattle.ftd.specs.declared.packet.Chain.{Chain}
 use Rattle.ftd.specs.declared.packet.Chain.TheVariants.{Single, First, Middle, Last}
 use Rattle.ftd.specs.declared.packet.Header.{Header}
-use Rattle.flow.specs.declared.series.SeriesPlace.{SeriesPlace}
-use Rattle.flow.specs.declared.series.SeriesPlace.TheVariants.{Unknown, At}
+use Rattle.flow.specs.Types.{SeriesPlace}
 use Rattle.flow.specs.declared.receive.OneStep.{OneStep}
 use Rattle.flow.specs.declared.receiver.KeptSeries.{KeptSeries}
 use Rattle.flow.specs.declared.receiver.LiveSeries.{LiveSeries}
@@ -30,9 +29,7 @@ use Rattle.flow.specs.declared.receiver.Origin.TheVariants.{Packet as FromPacket
 use Rattle.flow.specs.declared.receiver.Received.{Received}
 use Rattle.flow.specs.declared.receiver.Received.TheVariants.{Duplicate, Partial}
 use Rattle.flow.specs.declared.receiver.Received.TheVariants.{Refused as NotTaken}
-use Rattle.flow.specs.declared.receiver.Target.{Target}
-use Rattle.flow.specs.declared.receiver.Target.TheVariants.{Nothing}
-use Rattle.flow.specs.declared.receiver.Target.TheVariants.{At as To}
+use Rattle.flow.specs.Types.{Target}
 use Rattle.flow.specs.declared.receiver.Decision.{Decision}
 use Rattle.flow.specs.Ends.{◌when◌else◌, Wrote, wrote, index_of, new_kept, before, differs, no_live, logged_in}
 use Rattle.flow.specs.Ends.{holding, kept_series, is_open, kept_of, live_of, with_series, part_start, all_parts}
@@ -48,6 +45,7 @@ use Rattle.flow.proofs.common.Rows.{by-when}
 use Rattle.flow.proofs.ends.Lookups.{number_at}
 use Rattle.flow.proofs.ends.ReceiverLookups.{Eight, part-inside}
 use Rattle.flow.proofs.receiver.Lookups.{kept_number, found_at, kept_at, live_at, parts-few, parts-most}
+use Rattle.std.specs.Prelude.{Some, None}
 
 -- What is decided, and then the piece copied.
 abbrev pub copying : Decision → List ℕ → List ℕ → Wrote Receiver Received
@@ -168,7 +166,7 @@ module _ (e : Receiver) (places : Eight e) (h : Header) (o : is_open e h.series 
         let b = ltb-false 32768 (held + length content) x.1 in
         omega (arith, a, b, part-inside e places h.series o)
 
-    copied : small ≡ false → copied_to (To to) content buffer ≡ put buffer to content
+    copied : small ≡ false → copied_to (Some to) content buffer ≡ put buffer to content
     copied q = rw (le-leb (to + length content) (length buffer) (room_fits q))
 
     back-holds : back (one_holds kept place_of e.kept.count h held pieces false at.len (length buffer))
@@ -177,7 +175,7 @@ module _ (e : Receiver) (places : Eight e) (h : Header) (o : is_open e h.series 
     back-holds =
         rw (room-same, ← n)
         (by_row back as_is small _ _ _ _ (back-dropped (NotTaken TooSmall))
-        (λ q. back-kept (held + length content) pieces (To to) _ (copied q)))
+        (λ q. back-kept (held + length content) pieces (Some to) _ (copied q)))
 
     back-hands : back (one_holds kept place_of e.kept.count h held pieces true at.len (length buffer))
         ≡ hands_on e h held content buffer
@@ -185,7 +183,7 @@ module _ (e : Receiver) (places : Eight e) (h : Header) (o : is_open e h.series 
     back-hands =
         rw (room-same, ← n)
         (by_row back as_is small _ _ _ _ (back-dropped (NotTaken TooSmall))
-        (λ q. back-complete FromBuffer (span (32768 * place_of) (held + length content)) (To to) _ (copied q)))
+        (λ q. back-complete FromBuffer (span (32768 * place_of) (held + length content)) (Some to) _ (copied q)))
 
     -- It is the end of the message in the part.
     held-lies : (whole : Bool)
@@ -196,7 +194,7 @@ module _ (e : Receiver) (places : Eight e) (h : Header) (o : is_open e h.series 
         (λ q. by-when Lies whole (λ w. whole-lies (sym room-same ∙ q)) (λ w. tt))
       where
         whole-lies : small ≡ false
-            → Lies (one_completing kept h FromBuffer (span (32768 * place_of) (held + at.len)) (To to))
+            → Lies (one_completing kept h FromBuffer (span (32768 * place_of) (held + at.len)) (Some to))
         whole-lies q = (omega arith, omega arith, omega (arith, room_fits q, n))
 
   module _ (place : PacketPlace) where
@@ -205,7 +203,7 @@ module _ (e : Receiver) (places : Eight e) (h : Header) (o : is_open e h.series 
         ≡ next_piece e h place at content buffer c
     back-piece Single =
         by_row back as_is (misplaced place 0) _ _ _ _ (back-dropped (NotTaken BrokenChain))
-        (λ q. back-complete FromPacket at Nothing buffer refl)
+        (λ q. back-complete FromPacket at None buffer refl)
     back-piece First =
         by_row back as_is (misplaced place 0) _ _ _ _ (back-dropped (NotTaken BrokenChain)) (λ q. back-holds 0 0)
     back-piece Middle =
@@ -230,7 +228,7 @@ module _ (e : Receiver) (places : Eight e) (h : Header) (o : is_open e h.series 
     past-handed origin c target = refl
 
     past-piece : (c : Chain) → Past (next_piece e h place at content buffer c)
-    past-piece Single = by-when Past (misplaced place 0) (λ q. refl) (λ q. past-handed FromPacket at Nothing)
+    past-piece Single = by-when Past (misplaced place 0) (λ q. refl) (λ q. past-handed FromPacket at None)
     past-piece First =
         by-when Past (misplaced place 0) (λ q. refl) (λ q. by-when Past (small 0 0) (λ r. refl) (λ r. refl))
     past-piece Middle =
@@ -239,7 +237,7 @@ module _ (e : Receiver) (places : Eight e) (h : Header) (o : is_open e h.series 
     past-piece Last =
         by-when Past (out_of_chain live h place) (λ q. refl)
         (λ q. by-when Past (small live.held 0) (λ r. refl)
-        (λ r. past-handed FromBuffer (span (part_start e h.series) (live.held + length content)) Nothing))
+        (λ r. past-handed FromBuffer (span (part_start e h.series) (live.held + length content)) None))
 
     module _ (floor date : TradeDate) where
       abbrev low : Bool
@@ -306,7 +304,7 @@ module _ (e : Receiver) (places : Eight e) (floor : TradeDate) (h : Header) (dat
 module _ (e : Receiver) (floor : TradeDate) (h : Header) (date : TradeDate) (place : PacketPlace) (at : Span) (size : ℕ)
     (f : SeriesPlace) (g : FindsKept e h.series f) where
   -- 13.
-  pub take-unknown : f ≡ Unknown
+  pub take-unknown : f ≡ None
       → stayed e (NotTaken UnknownSeries) h.series at ≡ decides_with floor e h date place at size
   unfolding decides_with
   take-unknown u =
@@ -314,7 +312,7 @@ module _ (e : Receiver) (floor : TradeDate) (h : Header) (date : TradeDate) (pla
       rw n
 
   -- The series at the place, what the packet leaves of it, and the end with it.
-  pub take_found : (i : ℕ) (u : f ≡ At i) (r : OneStep)
+  pub take_found : (i : ℕ) (u : f ≡ Some i) (r : OneStep)
       → r
       ≡ takes_one floor (get_or e.kept.series i (new_kept 0)) (get_or e.live.series i no_live) i e.kept.count h
       date place at size
@@ -330,13 +328,13 @@ module _ (e : Receiver) (floor : TradeDate) (h : Header) (date : TradeDate) (pla
 -- ─── The chain of a series is dropped ───
 
 module _ (e : Receiver) (s : ℕ) (f : SeriesPlace) (g : FindsKept e s f) where
-  pub drop-unknown : f ≡ Unknown → e ≡ dropped_of e s
+  pub drop-unknown : f ≡ None → e ≡ dropped_of e s
   unfolding dropped_of
   drop-unknown u =
       let n : is_open e s ≡ false = rw u at g in
       rw n
 
-  pub drop-found : (i : ℕ) → f ≡ At i → (end : Receiver)
+  pub drop-found : (i : ℕ) → f ≡ Some i → (end : Receiver)
       → end ≡ series_at e i (get_or e.kept.series i (new_kept 0)) logged_in → end ≡ dropped_of e s
   unfolding dropped_of
   drop-found i u end x =

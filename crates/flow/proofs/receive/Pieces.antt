@@ -1,11 +1,10 @@
 -- A piece behind the bytes held of its chain: what holding it leaves of the series; over plain variables. Assumes
 -- nothing.
-use Prim.Native.Nat.{ℕ, ◌+◌, ◌-◌, ◌*◌, ◌<◌, ◌≤◌}
-use native.Mathlib.Omega.{arith}
-use mathlib.Core.Path.{◌≡◌, refl, sym, ◌∙◌}
+use Prim.Native.Nat.{ℕ, ◌+◌, ◌*◌, ◌≤◌}
+use mathlib.Core.Path.{◌≡◌, sym, ◌∙◌}
 use mathlib.Core.List.{List}
 use mathlib.Core.Bool.{Bool, true, false}
-use borrow.Author.Tests.{ltb-false, lt-leb, leb-true, leb-false, le-leb}
+use borrow.Author.Tests.{ltb-false, leb-true}
 use lib.ListN.{length}
 use lib.Dec.{ltb, leb}
 use Rattle.ftd.specs.Bytes.{put}
@@ -16,11 +15,11 @@ use Rattle.flow.specs.declared.receive.OneStep.{OneStep}
 use Rattle.flow.specs.declared.receiver.KeptSeries.{KeptSeries}
 use Rattle.flow.specs.declared.receiver.Origin.TheVariants.{Buffer}
 use Rattle.flow.specs.declared.receiver.Received.TheVariants.{Refused as NotTaken}
-use Rattle.flow.specs.declared.receiver.Target.{Target}
-use Rattle.flow.specs.declared.receiver.Target.TheVariants.{At}
+use Rattle.flow.specs.Types.{Target}
 use Rattle.flow.specs.Deciding.{copied_to}
 use Rattle.flow.specs.ReceiveHelpers.{parts_of, no_room, one_dropping, one_completing, one_keeping, one_holds}
 use Rattle.flow.proofs.common.Bools.{or-neither}
+use Rattle.std.specs.Prelude.{Some}
 
 -- Where there is room, the piece fits into the part.
 pub piece-fits : (count size held more : ℕ) (b : Bool) → b ≡ no_room count size held more → b ≡ false
@@ -39,30 +38,20 @@ module _ (kept : KeptSeries) (i count : ℕ) (h : Header) (held pieces : ℕ) (w
 
   module _ (x : b ≡ false) where
     pub hold-whole : whole ≡ true → (r : OneStep)
-        → r ≡ one_completing kept h Buffer (span (32768 * i) (held + more)) (At (32768 * i + held))
+        → r ≡ one_completing kept h Buffer (span (32768 * i) (held + more)) (Some (32768 * i + held))
         → r ≡ one_holds kept i count h held pieces whole more size
     unfolding one_holds
     hold-whole w r y = rw (y, ← q, x, w)
 
     pub hold-done : whole ≡ false → (r : OneStep)
-        → r ≡ one_keeping kept h.tid (held + more) pieces (At (32768 * i + held))
+        → r ≡ one_keeping kept h.tid (held + more) pieces (Some (32768 * i + held))
         → r ≡ one_holds kept i count h held pieces whole more size
     unfolding one_holds
     hold-done w r y = rw (y, ← q, x, w)
 
 -- ─── The piece is copied ───
 
-pub fits-never : (at more size : ℕ) → size < more → false ≡ leb (at + more) size
-fits-never at more size h = sym (lt-leb (at + more) size (omega arith))
-
-pub fits-there : (at more size : ℕ) → more ≤ size → leb at (size - more) ≡ leb (at + more) size
-fits-there at more size h = go (leb at (size - more)) refl
-  where
-    go : (b : Bool) → leb at (size - more) ≡ b → b ≡ leb (at + more) size
-    go true p = let a = leb-true at (size - more) p in sym (le-leb (at + more) size (omega arith))
-    go false p = let a = leb-false at (size - more) p in sym (lt-leb (at + more) size (omega arith))
-
-module _ (target : Target) (n : ℕ) (q : target ≡ At n) (content buffer : List ℕ) (b : Bool)
+module _ (target : Target) (n : ℕ) (q : target ≡ Some n) (content buffer : List ℕ) (b : Bool)
     (k : b ≡ leb (n + length content) (length buffer)) where
   pub copy-there : b ≡ true → n + length content ≤ length buffer
   copy-there x = leb-true (n + length content) (length buffer) (sym k ∙ x)

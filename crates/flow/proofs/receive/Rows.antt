@@ -1,12 +1,10 @@
 -- Receive, row by row, over the one series that a packet names: the next piece by its chain letter, and the tests
 -- before it; over plain variables. Assumes nothing.
-use Prim.Native.Nat.{ℕ, ◌<◌, ◌≤◌}
-use mathlib.Core.Path.{◌≡◌, refl, sym, ap, ◌∙◌}
-use mathlib.Core.Bool.{Bool, true, false, not}
-use borrow.Author.Tests.{le-leb, lt-leb}
-use Rattle.ftd.specs.declared.refusal.Refusal.TheVariants.{NotLoggedIn, OtherDay, OutOfLine, BrokenChain}
-use Rattle.ftd.specs.declared.tags.TradeDate.{TradeDate}
-use Rattle.ftd.specs.declared.tags.PacketPlace.{PacketPlace}
+use Prim.Native.Nat.{ℕ}
+use mathlib.Core.Path.{◌≡◌, sym, ap, ◌∙◌}
+use mathlib.Core.Bool.{Bool, true, false}
+use Rattle.ftd.specs.declared.refusal.Refusal.TheVariants.{BrokenChain}
+use Rattle.ftd.specs.Types.{PacketPlace}
 use Rattle.ftd.specs.declared.packet.Span.{Span}
 use Rattle.ftd.specs.declared.packet.Header.{Header}
 use Rattle.ftd.specs.declared.packet.Chain.{Chain}
@@ -15,13 +13,11 @@ use Rattle.flow.specs.declared.receive.OneStep.{OneStep}
 use Rattle.flow.specs.declared.receiver.KeptSeries.{KeptSeries}
 use Rattle.flow.specs.declared.receiver.LiveSeries.{LiveSeries}
 use Rattle.flow.specs.declared.receiver.Origin.TheVariants.{Packet}
-use Rattle.flow.specs.declared.receiver.Received.TheVariants.{Duplicate}
 use Rattle.flow.specs.declared.receiver.Received.TheVariants.{Refused as NotTaken}
-use Rattle.flow.specs.declared.receiver.Target.TheVariants.{Nothing}
-use Rattle.flow.specs.Ends.{◌when◌else◌, before, differs}
-use Rattle.flow.specs.Receiving.{out_of_line}
-use Rattle.flow.specs.ReceiveHelpers.{wrong_piece, one_step, one_dropping, one_completing, one_holds, one_piece}
-use Rattle.flow.specs.ReceiveHelpers.{one_taken, takes_one}
+use Rattle.flow.specs.Ends.{◌when◌else◌}
+use Rattle.flow.specs.ReceiveHelpers.{wrong_piece, one_dropping, one_completing, one_holds, one_piece}
+use Rattle.flow.specs.ReceiveHelpers.{one_taken}
+use Rattle.std.specs.Prelude.{None}
 
 -- The row's test holds, or it does not and the row goes on.
 stops : {A : Type 0} (test : Bool) (w x y : A) → test ≡ true → w ≡ x → w ≡ (x when test else y)
@@ -46,7 +42,7 @@ module _ (kept : KeptSeries) (live : LiveSeries) (i count : ℕ) (h : Header) (p
       taken c p r y =
           goes_on _ _ _ _ (sym q ∙ x) (y ∙ ap (λ (k : Chain). one_taken kept live i count h at size k) (sym p))
 
-      pub piece-single : h.chain ≡ Single → (r : OneStep) → r ≡ one_completing kept h Packet at Nothing
+      pub piece-single : h.chain ≡ Single → (r : OneStep) → r ≡ one_completing kept h Packet at None
           → r ≡ one_piece kept live i count h place at size h.chain
       piece-single c r y = taken Single c r y
 
@@ -63,56 +59,3 @@ module _ (kept : KeptSeries) (live : LiveSeries) (i count : ℕ) (h : Header) (p
           → r ≡ one_holds kept i count h live.held live.pieces true at.len size
           → r ≡ one_piece kept live i count h place at size h.chain
       piece-last c r y = taken Last c r y
-
-  -- ─── The tests before ───
-
-  module _ (floor date : TradeDate) where
-    -- 14.
-    pub take-outside : live.login ≡ false
-        → one_step kept live (NotTaken NotLoggedIn) Nothing ≡ takes_one floor kept live i count h date place at size
-    unfolding takes_one
-    take-outside n = stops _ _ _ _ (ap not n) refl
-
-    module _ (login : live.login ≡ true) (d : Bool) (q : d ≡ differs date kept.date) where
-      -- 15.
-      pub take-day : d ≡ true → (r : OneStep) → r ≡ one_dropping kept (NotTaken OtherDay)
-          → r ≡ takes_one floor kept live i count h date place at size
-      unfolding takes_one
-      take-day x r y = goes_on _ _ _ _ (ap not login) (stops _ _ _ _ (sym q ∙ x) y)
-
-      module _ (same : d ≡ false) (f : Bool) (u : f ≡ before kept.date floor) where
-        -- 15, of a day before the trade date.
-        pub take-floor : f ≡ true → (r : OneStep) → r ≡ one_dropping kept (NotTaken OtherDay)
-            → r ≡ takes_one floor kept live i count h date place at size
-        unfolding takes_one
-        take-floor x r y =
-            goes_on _ _ _ _ (ap not login) (goes_on _ _ _ _ (sym q ∙ same) (stops _ _ _ _ (sym u ∙ x) y))
-
-        module _ (high : f ≡ false) (o : Bool) (k : o ≡ out_of_line kept.last h.number) where
-          -- 16.
-          pub take-line : o ≡ true → (r : OneStep) → r ≡ one_dropping kept (NotTaken OutOfLine)
-              → r ≡ takes_one floor kept live i count h date place at size
-          unfolding takes_one
-          take-line x r y =
-              goes_on _ _ _ _ (ap not login)
-              (goes_on _ _ _ _ (sym q ∙ same) (goes_on _ _ _ _ (sym u ∙ high) (stops _ _ _ _ (sym k ∙ x) y)))
-
-          module _ (inline : o ≡ false) where
-            pub take_again : h.number ≤ kept.last → (r : OneStep) → r ≡ one_dropping kept (Duplicate kept.last)
-                → r ≡ takes_one floor kept live i count h date place at size
-            unfolding takes_one
-            take_again x r y =
-                goes_on _ _ _ _ (ap not login)
-                (goes_on _ _ _ _ (sym q ∙ same)
-                (goes_on _ _ _ _ (sym u ∙ high)
-                (goes_on _ _ _ _ (sym k ∙ inline) (stops _ _ _ _ (le-leb h.number kept.last x) y))))
-
-            pub take_next : kept.last < h.number → (r : OneStep)
-                → r ≡ one_piece kept live i count h place at size h.chain
-                → r ≡ takes_one floor kept live i count h date place at size
-            unfolding takes_one
-            take_next x r y =
-                goes_on _ _ _ _ (ap not login)
-                (goes_on _ _ _ _ (sym q ∙ same)
-                (goes_on _ _ _ _ (sym u ∙ high)
-                (goes_on _ _ _ _ (sym k ∙ inline) (goes_on _ _ _ _ (lt-leb h.number kept.last x) y))))

@@ -14,9 +14,8 @@ use Rattle.ftd.specs.Packet.{span, not_one_packet, dated_of}
 use Rattle.ftd.specs.Refusal.{number_of}
 use Rattle.ftd.specs.declared.refusal.Refusal.{Refusal}
 use Rattle.ftd.specs.declared.refusal.Refusal.TheVariants.{NotOnePacket}
-use Rattle.ftd.specs.declared.tags.TradeDate.{TradeDate}
-use Rattle.ftd.specs.declared.tags.TradeDate.TheVariants.{None, At}
-use Rattle.ftd.specs.declared.tags.PacketPlace.{PacketPlace}
+use Rattle.ftd.specs.Types.{TradeDate}
+use Rattle.ftd.specs.Types.{PacketPlace}
 use Rattle.ftd.specs.declared.packet.Header.{Header}
 use Rattle.ftd.specs.declared.packet.Span.{Span}
 use Rattle.ftd.specs.declared.packet.Dated.{Dated}
@@ -41,6 +40,7 @@ use Rattle.flow.proofs.calls.Receive.{Low, read_low}
 use Rattle.flow.proofs.ends.ReceiverLookups.{Eight}
 use Rattle.flow.proofs.login.Whole.{as-part, read-inside}
 use Rattle.flow.proofs.receive.Back.{Decided, decided-with}
+use Rattle.std.specs.Prelude.{Some, None}
 
 -- A part that lies in the bytes has its length.
 span-length : (p : List ℕ) (c : Span) → c.start + c.len ≤ length p → length (span_of p c) ≡ c.len
@@ -138,7 +138,7 @@ module _ (e : Receiver) (floor : TradeDate) (p buffer : List ℕ) where
 
 before-none : (d : TradeDate) → before d None ≡ false
 before-none None = refl
-before-none (At d) = refl
+before-none (Some d) = refl
 
 and-false : (a : Bool) → (a && false) ≡ false
 and-false true = refl

@@ -19,21 +19,14 @@ use Rattle.ftd.specs.declared.refusal.Refusal.{Refusal}
 use Rattle.ftd.specs.declared.refusal.Refusal.TheVariants.{FieldRun, FieldLength, Item, Composition, UnknownSeries}
 use Rattle.ftd.specs.declared.refusal.Refusal.TheVariants.{TooSmall}
 use Rattle.ftd.specs.declared.composition.Direction.TheVariants.{Up}
-use Rattle.ftd.specs.declared.items.Checked.{Checked}
-use Rattle.ftd.specs.declared.items.Checked.TheVariants.{Passed, Refused}
-use Rattle.ftd.specs.declared.login.Ending.TheVariants.{Resume}
-use Rattle.ftd.specs.declared.write.Written.{Written}
-use Rattle.ftd.specs.declared.write.Written.TheVariants.{Bytes}
-use Rattle.ftd.specs.declared.write.Written.TheVariants.{Refused as NotWritten}
+use Rattle.ftd.specs.Types.{Checked}
+use Rattle.ftd.specs.Types.{Written}
 use Rattle.ftd.proofs.chain.Singles.{shaped-ended}
 use Rattle.ftd.proofs.resume.Content.{start-widths, start-item, start-composed}
-use Rattle.flow.specs.declared.series.SeriesPlace.{SeriesPlace}
-use Rattle.flow.specs.declared.series.SeriesPlace.TheVariants.{Unknown, At}
+use Rattle.flow.specs.Types.{SeriesPlace}
 use Rattle.flow.specs.declared.receiver.KeptSeries.{KeptSeries}
 use Rattle.flow.specs.declared.receiver.Receiver.{Receiver}
-use Rattle.flow.specs.declared.receiver.Requested.{Requested}
-use Rattle.flow.specs.declared.receiver.Requested.TheVariants.{Wrote as Asked}
-use Rattle.flow.specs.declared.receiver.Requested.TheVariants.{Refused as NotAsked}
+use Rattle.flow.specs.Types.{Requested}
 use Rattle.flow.specs.Answers.{requested_said}
 use Rattle.flow.specs.Ends.{◌when◌else◌, Wrote, wrote, over, is_open, kept_of, new_kept}
 use Rattle.flow.specs.Receiving.{next_wanted, request_of, request_bytes, request_login_of}
@@ -41,8 +34,12 @@ use Rattle.flow.specs.Promises.{Asks}
 use Rattle.flow.specs.Helpers.{FindsKept}
 use Rattle.flow.specs.RequestHelpers.{request_for, request_at}
 use Rattle.flow.proofs.common.Contents.{on_check, content-rows, content-shaped}
-use Rattle.flow.proofs.common.Writers.{fine-answer, fine-output, Otherwise, not-bytes}
+use Rattle.flow.proofs.common.Writers.{fine-answer, fine-output}
 use Rattle.flow.proofs.receiver.Lookups.{found_at, kept_at}
+use Rattle.std.specs.Prelude.{Some, None, Ok, Err}
+use Rattle.std.specs.Result.{result_or}
+use Rattle.ftd.specs.Types.{some_start}
+use Rattle.ftd.specs.declared.write.WriteError.TheVariants.{Refused}
 
 -- ─── The request written ───
 
@@ -54,24 +51,19 @@ module _ (e : Receiver) (i s : ℕ) (content out after : List ℕ) (w : Written)
   bytes = request_for one s content
 
   abbrev row : Bool → Wrote Receiver Requested
-  row b = cond b (wrote e (NotAsked TooSmall) out) (wrote e (Asked (length bytes)) (over bytes out))
+  row b = cond b (wrote e (Err TooSmall) out) (wrote e (Ok (length bytes)) (over bytes out))
 
-  all-written : (b : Bool) (n : ℕ) → Bytes n ≡ cond b (NotWritten TooSmall) (Bytes (length bytes))
-      → after ≡ cond b out (over bytes out) → wrote e (Asked n) after ≡ row b
-  all-written true n a o = let z : ◌≡◌ {A = ℕ} 0 1 = cc in absurd (omega arith)
-  all-written false n a o = let q : n ≡ length bytes = cc in rw (q, o)
-
-  none_written : (b : Bool) → Otherwise w → w ≡ cond b (NotWritten TooSmall) (Bytes (length bytes))
-      → after ≡ cond b out (over bytes out) → wrote e (NotAsked TooSmall) after ≡ row b
-  none_written true h a o = rw o
-  none_written false h a o = absurd (not-bytes (length bytes) (rw a at h))
+  written : (b : Bool) → w ≡ cond b (Err (Refused TooSmall)) (Ok (length bytes)) → after ≡ cond b out (over bytes out)
+      → (r : Requested) → r ≡ result_or w (Err TooSmall) → wrote e r after ≡ row b
+  written true a o r p = rw (p, a, o)
+  written false a o r p = rw (p, a, o)
 
   module _ (shape : shaped content 4068 ≡ true) (next : number ≡ next_wanted one.last)
-      (a : w ≡ written_answer (login_verdict content (Resume s number))
+      (a : w ≡ written_answer (login_verdict content (some_start s number))
       (login_bytes one.date (content ++ resume_bytes s number)) out)
-      (o : after ≡ written_output (login_verdict content (Resume s number))
+      (o : after ≡ written_output (login_verdict content (some_start s number))
       (login_bytes one.date (content ++ resume_bytes s number)) out) where
-    passes : login_verdict content (Resume s number) ≡ fine
+    passes : login_verdict content (some_start s number) ≡ fine
     unfolding login_verdict
     passes = rw shape
 
@@ -79,32 +71,29 @@ module _ (e : Receiver) (i s : ℕ) (content out after : List ℕ) (w : Written)
     unfolding request_for
     request = rw next
 
-    answered : w ≡ cond (ltb (length out) (length bytes)) (NotWritten TooSmall) (Bytes (length bytes))
-    answered = (rw request at a) ∙ fine-answer (login_verdict content (Resume s number)) passes bytes out
+    answered : w ≡ cond (ltb (length out) (length bytes)) (Err (Refused TooSmall)) (Ok (length bytes))
+    answered = (rw request at a) ∙ fine-answer (login_verdict content (some_start s number)) passes bytes out
 
     put-out : after ≡ cond (ltb (length out) (length bytes)) out (over bytes out)
-    put-out = (rw request at o) ∙ fine-output (login_verdict content (Resume s number)) passes bytes out
+    put-out = (rw request at o) ∙ fine-output (login_verdict content (some_start s number)) passes bytes out
 
-    pub request-written : (n : ℕ) → w ≡ Bytes n → wrote e (Asked n) after ≡ request_at e i s content out
+    pub request-written : (r : Requested) → r ≡ result_or w (Err TooSmall)
+        → wrote e r after ≡ request_at e i s content out
     unfolding request_at
-    request-written n q = all-written (ltb (length out) (length bytes)) n (rw q at answered) put-out
-
-    pub request-small : Otherwise w → wrote e (NotAsked TooSmall) after ≡ request_at e i s content out
-    unfolding request_at
-    request-small h = none_written (ltb (length out) (length bytes)) h answered put-out
+    request-written = written (ltb (length out) (length bytes)) answered put-out
 
 -- ─── The rows ───
 
 module _ (e : Receiver) (s : ℕ) (content out : List ℕ) where
   abbrev refused : Refusal → Wrote Receiver Requested
-  refused r = wrote e (NotAsked r) out
+  refused r = wrote e (Err r) out
 
   -- What is left from 13 on.
   abbrev rest : Wrote Receiver Requested
   rest =
       refused UnknownSeries when not (is_open e s) else
       refused TooSmall when ltb (length out) (length (request_bytes e s content)) else
-      wrote e (Asked (length (request_bytes e s content))) (over (request_bytes e s content) out)
+      wrote e (Ok (length (request_bytes e s content))) (over (request_bytes e s content) out)
 
   module _ (a : shaped content 4068 ≡ true) where
     -- 10 with the start field: no other one, and make-up of the content alone.
@@ -174,22 +163,22 @@ module _ (e : Receiver) (s : ℕ) (content out : List ℕ) where
   -- ─── Each way through the code ───
 
   module _ (v : Checked) (p : v ≡ content_check 22 Up content 4068) where
-    pub ask-content : (r : Refusal) → v ≡ Refused r → Asks e s content out (NotAsked r) out
+    pub ask-content : (r : Refusal) → v ≡ Err r → Asks e s content out (Err r) out
     ask-content r x = asks _ _ (rw (ask-rows, ← p, x))
 
     -- What passed is whole fields.
-    pub content-whole : v ≡ Passed → shaped content 4068 ≡ true
+    pub content-whole : v ≡ (Ok tt) → shaped content 4068 ≡ true
     content-whole x = content-shaped 22 Up content 4068 (sym p ∙ x)
 
-    module _ (y1 : v ≡ Passed) (n : ℕ) (k : n ≡ count_of 4 content) where
-      pub ask-started : 0 < n → Asks e s content out (NotAsked Composition) out
+    module _ (y1 : v ≡ (Ok tt)) (n : ℕ) (k : n ≡ count_of 4 content) where
+      pub ask-started : 0 < n → Asks e s content out (Err Composition) out
       ask-started x = asks _ _ (rw (ask-rows, ← p, y1, ← k, lt-ltb 0 n x))
 
       module _ (y2 : n ≤ 0) (f : SeriesPlace) (g : FindsKept e s f) where
-        pub ask-unknown : f ≡ Unknown → Asks e s content out (NotAsked UnknownSeries) out
+        pub ask-unknown : f ≡ None → Asks e s content out (Err UnknownSeries) out
         ask-unknown x = let u = rw x at g in asks _ _ (rw (ask-rows, ← p, y1, ← k, le-ltb 0 n y2, u))
 
-        pub ask-found : (i : ℕ) → f ≡ At i → (r : Requested) (after : List ℕ)
+        pub ask-found : (i : ℕ) → f ≡ Some i → (r : Requested) (after : List ℕ)
             → wrote e r after ≡ request_at e i s content out → Asks e s content out r after
         unfolding request_at request_for request_bytes request_of
         ask-found i y3 r after x =

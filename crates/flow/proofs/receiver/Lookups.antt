@@ -9,16 +9,16 @@ use mir.Syntax.{w64}
 use borrow.Author.Rules.{scaled_Fits}
 use denote.Laws.{Is}
 use denote.Struct.Declared.{row}
-use Rattle.ftd.specs.declared.tags.TradeDate.{TradeDate}
+use Rattle.ftd.specs.Types.{TradeDate}
 use Rattle.flow.specs.contracts.receiver.Receiver.{the_type}
-use Rattle.flow.specs.declared.series.SeriesPlace.{SeriesPlace}
-use Rattle.flow.specs.declared.series.SeriesPlace.TheVariants.{At}
+use Rattle.flow.specs.Types.{SeriesPlace}
 use Rattle.flow.specs.declared.receiver.KeptSeries.{KeptSeries}
 use Rattle.flow.specs.declared.receiver.LiveSeries.{LiveSeries}
 use Rattle.flow.specs.declared.receiver.Receiver.{Receiver}
 use Rattle.flow.specs.Ends.{index_of, new_kept, no_live, kept_series, kept_of, live_of, with_series, part_start, all_parts}
 use Rattle.flow.specs.Helpers.{FindsKept, series_at}
 use Rattle.flow.proofs.ends.ReceiverLookups.{Eight}
+use Rattle.std.specs.Prelude.{Some}
 
 -- The number of a series kept.
 abbrev pub kept_number : KeptSeries → ℕ
@@ -33,14 +33,14 @@ eight e vs g =
     }
 
 -- What `find` answered, where it is a place.
-pub found_at : (e : Receiver) (s : ℕ) (f : SeriesPlace) (i : ℕ) → FindsKept e s f → f ≡ At i → FindsKept e s (At i)
+pub found_at : (e : Receiver) (s : ℕ) (f : SeriesPlace) (i : ℕ) → FindsKept e s f → f ≡ Some i → FindsKept e s (Some i)
 found_at e s f i g u = rw u at g
 
-pub found_inside : (e : Receiver) (s : ℕ) (f : SeriesPlace) (i : ℕ) → FindsKept e s f → f ≡ At i → i < 8
+pub found_inside : (e : Receiver) (s : ℕ) (f : SeriesPlace) (i : ℕ) → FindsKept e s f → f ≡ Some i → i < 8
 found_inside e s f i g u = (found_at e s f i g u).2
 
 -- The place scaled by an element's size.
-pub found-scaled : (e : Receiver) (s : ℕ) (f : SeriesPlace) (i size : ℕ) → FindsKept e s f → f ≡ At i
+pub found-scaled : (e : Receiver) (s : ℕ) (f : SeriesPlace) (i size : ℕ) → FindsKept e s f → f ≡ Some i
     → 8 * size < 2 ^ 63 → Fits w64 (i * size)
 found-scaled e s f i size g u q = scaled_Fits i 8 size (found_inside e s f i g u) q
 

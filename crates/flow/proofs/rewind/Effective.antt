@@ -6,8 +6,8 @@ use mathlib.Core.Bool.{false, cond}
 use lib.ListN.{get_elem?}
 use Rattle.flow.specs.declared.receiver.Receiver.{Receiver}
 use Rattle.flow.specs.declared.checkpoint.Checkpoints.{Checkpoints}
-use Rattle.flow.specs.declared.checkpoint.Saved.{Saved}
-use Rattle.flow.specs.declared.checkpoint.Restored.{Restored}
+use Rattle.flow.specs.Types.{Saved}
+use Rattle.flow.specs.Types.{Restored}
 use Rattle.flow.specs.Ends.{Left}
 use Rattle.flow.specs.Answers.{is_taken, saved_said, restored_said}
 use Rattle.flow.specs.World

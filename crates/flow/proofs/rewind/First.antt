@@ -4,12 +4,11 @@ use Prim.Native.Nat.{ℕ}
 use mathlib.Core.Path.{◌≡◌, refl, sym, ap, ◌∙◌}
 use mathlib.Core.List.{List, [], ◌∷◌, ◌++◌}
 use mathlib.Core.Bool.{true}
-use Rattle.ftd.specs.declared.tags.TradeDate.TheVariants.{None}
 use Rattle.flow.specs.declared.receiver.LiveSeries.{LiveSeries}
 use Rattle.flow.specs.declared.receiver.Receiver.{Receiver}
 use Rattle.flow.specs.declared.checkpoint.Checkpoints.{Checkpoints}
-use Rattle.flow.specs.declared.checkpoint.Saved.{Saved}
-use Rattle.flow.specs.declared.checkpoint.Restored.{Restored}
+use Rattle.flow.specs.Types.{Saved}
+use Rattle.flow.specs.Types.{Restored}
 use Rattle.flow.specs.Ends.{Left, day_of, last_of, is_open}
 use Rattle.flow.specs.Answers.{Message}
 use Rattle.flow.specs.Checkpoints.{checkpoint_of, restored}
@@ -35,6 +34,7 @@ use Rattle.flow.proofs.rewind.Restored.{resting-open, resting-same, restored-ope
 use Rattle.flow.proofs.rewind.Restored.{restored-as}
 use Rattle.flow.proofs.rewind.Linked.{Keeps-as, keep-as, keeps, Restores-as, restore-as, restores, Linked}
 use Rattle.flow.proofs.rewind.Linked.{linked-fresh, linked_on, linked-keep}
+use Rattle.std.specs.Prelude.{None}
 
 -- ─── A memory ───
 

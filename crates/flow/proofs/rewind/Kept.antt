@@ -15,10 +15,8 @@ use Rattle.ftd.specs.declared.refusal.Refusal.TheVariants.{WrongName, FifthName,
 use Rattle.flow.specs.declared.receiver.Kept.{Kept}
 use Rattle.flow.specs.declared.receiver.Receiver.{Receiver}
 use Rattle.flow.specs.declared.checkpoint.Checkpoints.{Checkpoints}
-use Rattle.flow.specs.declared.checkpoint.Saved.{Saved}
-use Rattle.flow.specs.declared.checkpoint.Saved.TheVariants.{Done as Saved-done, Refused as NotSaved}
-use Rattle.flow.specs.declared.checkpoint.Restored.{Restored}
-use Rattle.flow.specs.declared.checkpoint.Restored.TheVariants.{Done as Restored-done, Refused as NotRestored}
+use Rattle.flow.specs.Types.{Saved}
+use Rattle.flow.specs.Types.{Restored}
 use Rattle.flow.specs.Ends.{Left, member, most_series, no_live, kept_series}
 use Rattle.flow.specs.Answers.{is_taken, saved_said, restored_said}
 use Rattle.flow.specs.Checkpoints.{most_names, most_letters, all_letters, wrong_name, name_code, fresh_checkpoints}
@@ -32,6 +30,7 @@ use Rattle.flow.proofs.rewind.Names.{same_code}
 use Rattle.flow.proofs.rewind.Lookups.{Four, fresh-four, used-length, names-again, names_more, four-again, four-more}
 use Rattle.flow.proofs.rewind.Restored.{restored-series}
 use Rattle.flow.proofs.rewind.Linked.{Keeps-as, keep-as, keeps, Restores-as, restore-as, restores}
+use Rattle.std.specs.Prelude.{Ok, Err}
 
 -- ─── Names that are allowed ───
 
@@ -290,9 +289,9 @@ along w names h (e ∷ es) =
 
 -- What each call answers, by its tests.
 data Said-kept (c : Checkpoints) (name : List ℕ) : Saved → Type 0 where
-  wrong : wrong_name name ≡ true → Said-kept c name (NotSaved WrongName)
-  fifth : wrong_name name ≡ false → is_used c name ≡ false → 4 ≤ c.count → Said-kept c name (NotSaved FifthName)
-  done : wrong_name name ≡ false → (is_used c name ≡ false → c.count < 4) → Said-kept c name Saved-done
+  wrong : wrong_name name ≡ true → Said-kept c name (Err WrongName)
+  fifth : wrong_name name ≡ false → is_used c name ≡ false → 4 ≤ c.count → Said-kept c name (Err FifthName)
+  done : wrong_name name ≡ false → (is_used c name ≡ false → c.count < 4) → Said-kept c name (Ok tt)
 
 abbrev Keeping-says : Checkpoints → List ℕ → Left Checkpoints Saved → Type 0
 Keeping-says c name r = Said-kept c name r.answer
@@ -306,7 +305,7 @@ said-kept c e name =
     done a λ u. leb-false 4 c.count (room (is_used c name) u b)
   where
     five : wrong_name name ≡ false → (x : Bool) → is_used c name ≡ x → (not x && leb 4 c.count) ≡ true
-        → Said-kept c name (NotSaved FifthName)
+        → Said-kept c name (Err FifthName)
     five a true u q = clash _ q refl
     five a false u q = fifth a u (leb-true 4 c.count q)
 
@@ -314,9 +313,9 @@ said-kept c e name =
     room x u b = rw u at b
 
 data Said-returned (c : Checkpoints) (name : List ℕ) : Restored → Type 0 where
-  wrong : wrong_name name ≡ true → Said-returned c name (NotRestored WrongName)
-  unknown : wrong_name name ≡ false → is_used c name ≡ false → Said-returned c name (NotRestored UnknownName)
-  done : wrong_name name ≡ false → is_used c name ≡ true → Said-returned c name Restored-done
+  wrong : wrong_name name ≡ true → Said-returned c name (Err WrongName)
+  unknown : wrong_name name ≡ false → is_used c name ≡ false → Said-returned c name (Err UnknownName)
+  done : wrong_name name ≡ false → is_used c name ≡ true → Said-returned c name (Ok tt)
 
 abbrev Return-says : Checkpoints → List ℕ → Left Receiver Restored → Type 0
 Return-says c name r = Said-returned c name r.answer
@@ -330,12 +329,12 @@ said-returned c e name =
 
 -- Answers told apart: by the refusal's number, 0 where there is none.
 abbrev kept-number : Saved → ℕ
-kept-number Saved-done = 0
-kept-number (NotSaved r) = number_of r
+kept-number (Ok tt) = 0
+kept-number (Err r) = number_of r
 
 abbrev returned-number : Restored → ℕ
-returned-number Restored-done = 0
-returned-number (NotRestored r) = number_of r
+returned-number (Ok tt) = 0
+returned-number (Err r) = number_of r
 
 other-answer : {A : Type 0} (f : A → ℕ) (a b : A) → a ≡ b → (f a ≡ f b → ⊥) → ⊥
 other-answer f a b q n = n (ap f q)
@@ -343,28 +342,28 @@ other-answer f a b q n = n (ap f q)
 -- ─── 31 ───
 
 module _ (c : Checkpoints) (e : Receiver) (name : List ℕ) where
-  pub wrong-kept : ((keep_of c e name).answer ≡ NotSaved WrongName) ↔ (Allowed name → ⊥)
+  pub wrong-kept : ((keep_of c e name).answer ≡ Err WrongName) ↔ (Allowed name → ⊥)
   wrong-kept = (to _ (said-kept c e name), from _ (said-kept c e name))
     where
-      to : (a : Saved) → Said-kept c name a → a ≡ NotSaved WrongName → Allowed name → ⊥
+      to : (a : Saved) → Said-kept c name a → a ≡ Err WrongName → Allowed name → ⊥
       to a (wrong h) q al = clash _ h (not-wrong name al)
       to a (fifth h u k) q al = other-answer kept-number _ _ q λ z. omega arith
       to a (done h r) q al = other-answer kept-number _ _ q λ z. omega arith
 
-      from : (a : Saved) → Said-kept c name a → (Allowed name → ⊥) → a ≡ NotSaved WrongName
+      from : (a : Saved) → Said-kept c name a → (Allowed name → ⊥) → a ≡ Err WrongName
       from a (wrong h) n = refl
       from a (fifth h u k) n = absurd (n (allowed name h))
       from a (done h r) n = absurd (n (allowed name h))
 
-  pub wrong-returned : ((restore_of c e name).answer ≡ NotRestored WrongName) ↔ (Allowed name → ⊥)
+  pub wrong-returned : ((restore_of c e name).answer ≡ Err WrongName) ↔ (Allowed name → ⊥)
   wrong-returned = (to _ (said-returned c e name), from _ (said-returned c e name))
     where
-      to : (a : Restored) → Said-returned c name a → a ≡ NotRestored WrongName → Allowed name → ⊥
+      to : (a : Restored) → Said-returned c name a → a ≡ Err WrongName → Allowed name → ⊥
       to a (Said-returned.wrong h) q al = clash _ h (not-wrong name al)
       to a (unknown h u) q al = other-answer returned-number _ _ q λ z. omega arith
       to a (Said-returned.done h u) q al = other-answer returned-number _ _ q λ z. omega arith
 
-      from : (a : Restored) → Said-returned c name a → (Allowed name → ⊥) → a ≡ NotRestored WrongName
+      from : (a : Restored) → Said-returned c name a → (Allowed name → ⊥) → a ≡ Err WrongName
       from a (Said-returned.wrong h) n = refl
       from a (unknown h u) n = absurd (n (allowed name h))
       from a (Said-returned.done h u) n = absurd (n (allowed name h))
@@ -407,17 +406,17 @@ module _ (log buffer : List ℕ) (es : List RewindEvent) (name : List ℕ) where
   -- ─── 33, and taken ───
 
   pub return-unknown :
-      ((returning (rewind_run w es) name).answer ≡ NotRestored UnknownName) ↔ (Allowed name × (WasKept w es name → ⊥))
+      ((returning (rewind_run w es) name).answer ≡ Err UnknownName) ↔ (Allowed name × (WasKept w es name → ⊥))
   return-unknown = (to _ (said-returned c _ name), from _ (said-returned c _ name))
     where
-      to : (a : Restored) → Said-returned c name a → a ≡ NotRestored UnknownName
+      to : (a : Restored) → Said-returned c name a → a ≡ Err UnknownName
           → Allowed name × (WasKept w es name → ⊥)
       to a (Said-returned.wrong h) q = absurd (other-answer returned-number _ _ q λ z. omega arith)
       to a (unknown h u) q = (allowed name h, λ k. clash _ (kept-used k) u)
       to a (Said-returned.done h u) q = absurd (other-answer returned-number _ _ q λ z. omega arith)
 
       from : (a : Restored) → Said-returned c name a → Allowed name × (WasKept w es name → ⊥)
-          → a ≡ NotRestored UnknownName
+          → a ≡ Err UnknownName
       from a (Said-returned.wrong h) p = clash _ h (not-wrong name p.0)
       from a (unknown h u) p = refl
       from a (Said-returned.done h u) p = absurd (p.1 (used-kept h u))
@@ -476,15 +475,15 @@ module _ (log buffer : List ℕ) (es : List RewindEvent) (name : List ℕ) where
       free false q = q
 
   pub keep-fifth :
-      ((keeping (rewind_run w es) name).answer ≡ NotSaved FifthName) ↔ (Allowed name × FourOthers w es name)
+      ((keeping (rewind_run w es) name).answer ≡ Err FifthName) ↔ (Allowed name × FourOthers w es name)
   keep-fifth = (to _ (said-kept c _ name), from _ (said-kept c _ name))
     where
-      to : (a : Saved) → Said-kept c name a → a ≡ NotSaved FifthName → Allowed name × FourOthers w es name
+      to : (a : Saved) → Said-kept c name a → a ≡ Err FifthName → Allowed name × FourOthers w es name
       to a (wrong h) q = absurd (other-answer kept-number _ _ q λ z. omega arith)
       to a (fifth h u k) q = (allowed name h, four-others h u k)
       to a (done h r) q = absurd (other-answer kept-number _ _ q λ z. omega arith)
 
-      from : (a : Saved) → Said-kept c name a → Allowed name × FourOthers w es name → a ≡ NotSaved FifthName
+      from : (a : Saved) → Said-kept c name a → Allowed name × FourOthers w es name → a ≡ Err FifthName
       from a (wrong h) p = clash _ h (not-wrong name p.0)
       from a (fifth h u k) p = refl
       from a (done h r) p =

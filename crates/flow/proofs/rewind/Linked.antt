@@ -10,10 +10,8 @@ use Rattle.ftd.specs.Bench.{same}
 use Rattle.ftd.specs.declared.refusal.Refusal.{Refusal}
 use Rattle.flow.specs.declared.receiver.Receiver.{Receiver}
 use Rattle.flow.specs.declared.checkpoint.Checkpoints.{Checkpoints}
-use Rattle.flow.specs.declared.checkpoint.Saved.{Saved}
-use Rattle.flow.specs.declared.checkpoint.Saved.TheVariants.{Done as Saved-done, Refused as NotSaved}
-use Rattle.flow.specs.declared.checkpoint.Restored.{Restored}
-use Rattle.flow.specs.declared.checkpoint.Restored.TheVariants.{Done as Restored-done, Refused as NotRestored}
+use Rattle.flow.specs.Types.{Saved}
+use Rattle.flow.specs.Types.{Restored}
 use Rattle.flow.specs.Ends.{Left, left}
 use Rattle.flow.specs.Checkpoints.{most_names, wrong_name, name_code, fresh_checkpoints, is_used, checkpoint_of}
 use Rattle.flow.specs.Checkpoints.{with_checkpoint, keep_of, restored, restore_of}
@@ -22,13 +20,14 @@ use Rattle.flow.proofs.common.Bools.{clash}
 use Rattle.flow.proofs.common.Rows.{by-when}
 use Rattle.flow.proofs.rewind.Names.{same-is, same_of, same_code}
 use Rattle.flow.proofs.rewind.Lookups.{Four, fresh-unused, with-kept}
+use Rattle.std.specs.Prelude.{Ok, Err}
 
 -- ─── What the calls come to ───
 
 pub data Keeps-as (c : Checkpoints) (e : Receiver) (name : List ℕ) : Left Checkpoints Saved → Type 0 where
-  refuses : (r : Refusal) → Keeps-as c e name (left c (NotSaved r))
+  refuses : (r : Refusal) → Keeps-as c e name (left c (Err r))
   keeps : wrong_name name ≡ false → (is_used c name ≡ false → c.count < 4)
-      → Keeps-as c e name (left (with_checkpoint c name e.kept) Saved-done)
+      → Keeps-as c e name (left (with_checkpoint c name e.kept) (Ok tt))
 
 pub keep-as : (c : Checkpoints) (e : Receiver) (name : List ℕ) → Keeps-as c e name (keep_of c e name)
 unfolding keep_of
@@ -41,9 +40,9 @@ keep-as c e name =
     room x u b = rw u at b
 
 pub data Restores-as (c : Checkpoints) (e : Receiver) (name : List ℕ) : Left Receiver Restored → Type 0 where
-  refuses : (r : Refusal) → Restores-as c e name (left e (NotRestored r))
+  refuses : (r : Refusal) → Restores-as c e name (left e (Err r))
   restores : wrong_name name ≡ false → is_used c name ≡ true
-      → Restores-as c e name (left (restored e (checkpoint_of c name)) Restored-done)
+      → Restores-as c e name (left (restored e (checkpoint_of c name)) (Ok tt))
 
 pub restore-as : (c : Checkpoints) (e : Receiver) (name : List ℕ) → Restores-as c e name (restore_of c e name)
 unfolding restore_of

@@ -11,14 +11,13 @@ use lib.ListN.{length}
 use Rattle.ftd.specs.Packet.{dated_of}
 use Rattle.ftd.specs.Follow.{also, counting}
 use Rattle.ftd.proofs.Follow.{counting-length}
-use Rattle.ftd.specs.declared.tags.TradeDate.{TradeDate}
-use Rattle.ftd.specs.declared.tags.TradeDate.TheVariants.{None, At}
+use Rattle.ftd.specs.Types.{TradeDate}
 use Rattle.ftd.specs.declared.packet.Packet.{Packet}
 use Rattle.ftd.specs.declared.packet.Packet.TheVariants.{Short, Link, Skipped, Message, Refused}
 use Rattle.flow.specs.declared.receiver.Receiver.{Receiver}
 use Rattle.flow.specs.declared.checkpoint.Checkpoints.{Checkpoints}
-use Rattle.flow.specs.declared.checkpoint.Saved.{Saved}
-use Rattle.flow.specs.declared.checkpoint.Restored.{Restored}
+use Rattle.flow.specs.Types.{Saved}
+use Rattle.flow.specs.Types.{Restored}
 use Rattle.flow.specs.Ends.{Left, is_day, day_of, last_of, is_open}
 use Rattle.flow.specs.Receiving.{receive_of}
 use Rattle.flow.specs.Checkpoints.{checkpoint_of, restored}
@@ -46,6 +45,7 @@ use Rattle.flow.proofs.rewind.Restored.{restored-open, restored-eight, restored-
 use Rattle.flow.proofs.rewind.Linked.{Keeps-as, keep-as, keeps, Restores-as, restore-as, restores, Linked}
 use Rattle.flow.proofs.rewind.Linked.{linked-fresh, linked_on, linked-keep}
 use Rattle.flow.proofs.rewind.First.{Older, older-on, back_as}
+use Rattle.std.specs.Prelude.{Some, None}
 
 -- ─── What a call takes, of one series and day ───
 
@@ -113,7 +113,7 @@ takes-is s d v (lend buffer) = refl
 record OnDay (d : ℕ) (date : TradeDate) (last : ℕ) (l : List ℕ) : Type 0 where
   k : ℕ
   numbers : l ≡ counting 1 k
-  today : date ≡ At d → last ≡ k
+  today : date ≡ Some d → last ≡ k
   later : Above d date → l ≡ []
 
 counting-last : (w k : ℕ) → counting w k ++ ((w + k) ∷ []) ≡ counting w (suc k)
@@ -127,9 +127,9 @@ none-counted k q = sym (counting-length 1 k) ∙ ap length q
 
 above-along : (d k : ℕ) (date : TradeDate) → k < d → Above k date → Above d date
 above-along d k None a b = tt
-above-along d k (At c) a b = omega arith
+above-along d k (Some c) a b = omega arith
 
-at_same : (x : TradeDate) (a b : ℕ) → x ≡ At a → x ≡ At b → a ≡ b
+at_same : (x : TradeDate) (a b : ℕ) → x ≡ Some a → x ≡ Some b → a ≡ b
 at_same x a b p q = cc
 
 same-empty : (b : Bool) (o : Option ℕ) → o ≡ none → also (cond b o none) [] ≡ []
@@ -174,7 +174,7 @@ module _ (d : ℕ) (l : List ℕ) where
         later = λ p. h.later (rw b tt);
       })
     where
-      none-at : (z : TradeDate) (d : ℕ) → z ≡ None → z ≡ At d → ⊥
+      none-at : (z : TradeDate) (d : ℕ) → z ≡ None → z ≡ Some d → ⊥
       none-at z d p q = let i : ◌≡◌ {A = ℕ} 0 1 = cc in omega arith
   on-turn date last anew took day after n (begins i a t x b y) h =
       rw (same-empty (is_day d day) took t, append-nil l) (record {
@@ -279,7 +279,7 @@ held_start buffer =
       links = linked-fresh _ fresh-four;
     }
   where
-    none-at : (d : ℕ) → None ≡ At d → ⊥
+    none-at : (d : ℕ) → None ≡ Some d → ⊥
     none-at d q = let i : ◌≡◌ {A = ℕ} 0 1 = cc in omega arith
 
 counts : (s d : ℕ) (buffer : List ℕ) (cs : List RewindCall)

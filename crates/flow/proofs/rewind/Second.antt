@@ -7,15 +7,14 @@ use mathlib.Core.List.{List, [], ◌∷◌, ◌++◌, map}
 use mathlib.Core.Bool.{Bool, true, false, cond}
 use lib.ListN.{length}
 use lib.Seq.{drop-length}
-use Rattle.ftd.specs.declared.tags.TradeDate.{TradeDate}
-use Rattle.ftd.specs.declared.tags.TradeDate.TheVariants.{None, At}
+use Rattle.ftd.specs.Types.{TradeDate}
 use Rattle.flow.specs.declared.receiver.KeptSeries.{KeptSeries}
 use Rattle.flow.specs.declared.receiver.LiveSeries.{LiveSeries}
 use Rattle.flow.specs.declared.receiver.Receiver.{Receiver}
 use Rattle.flow.specs.declared.checkpoint.Checkpoints.{Checkpoints}
-use Rattle.flow.specs.declared.checkpoint.Saved.{Saved}
-use Rattle.flow.specs.declared.checkpoint.Restored.{Restored}
-use Rattle.flow.specs.declared.sender.Opened.{Opened}
+use Rattle.flow.specs.Types.{Saved}
+use Rattle.flow.specs.Types.{Restored}
+use Rattle.flow.specs.Types.{Opened}
 use Rattle.flow.specs.Ends.{Left, day_of, last_of, is_open, kept_of, wrong_series}
 use Rattle.flow.specs.Answers.{is_taken, restored_said}
 use Rattle.flow.specs.Receiving.{open_end_of}
@@ -43,6 +42,7 @@ use Rattle.flow.proofs.rewind.Restored.{resting-same, restored-open, restored-ei
 use Rattle.flow.proofs.rewind.Linked.{Keeps-as, keep-as, keeps, Restores-as, restore-as, restores, Linked}
 use Rattle.flow.proofs.rewind.Linked.{linked-fresh, linked_on, linked-keep}
 use Rattle.flow.proofs.rewind.First.{Older, older-on, back_as, safe-along, safe-start, safe-step}
+use Rattle.std.specs.Prelude.{Some, None}
 
 -- ─── A memory ───
 
@@ -169,7 +169,7 @@ module _ (w : RewindWorld) (h : TimelyRewind w) where
         where
           same-day : (d : TradeDate) → Upto d d
           same-day None = tt
-          same-day (At d) = omega arith
+          same-day (Some d) = omega arith
 
   -- Any step of the line.
   pub timely-on-line : {u : World} → LineStep w.now u →

@@ -10,8 +10,7 @@ use mathlib.Core.Option.{some}
 use lib.ListN.{length, get_elem?}
 use Rattle.ftd.specs.Fields.{shaped, most_content}
 use Rattle.ftd.proofs.chain.Pieces.{shaped-facts}
-use Rattle.ftd.specs.declared.tags.TradeDate.{TradeDate}
-use Rattle.ftd.specs.declared.tags.TradeDate.TheVariants.{At}
+use Rattle.ftd.specs.Types.{TradeDate}
 use Rattle.flow.specs.declared.receiver.KeptSeries.{KeptSeries}
 use Rattle.flow.specs.declared.receiver.LiveSeries.{LiveSeries}
 use Rattle.flow.specs.declared.receiver.Receiver.{Receiver}
@@ -25,6 +24,7 @@ use Rattle.flow.proofs.common.Histories.{of-append}
 use Rattle.flow.proofs.pieces.Pieces.{first_pieces, first-inside}
 use Rattle.flow.proofs.pieces.Chained.{Chain-open, Held, Holding}
 use Rattle.flow.proofs.pieces.Others.{Elsewhere}
+use Rattle.std.specs.Prelude.{Some}
 
 -- As many pieces as were counted of the message that is next, number last + 1 of the kept day.
 pub record NextHeld (P : List (Dated Message)) (e : Receiver) (buffer : List ℕ) (s : ℕ) : Type 0 where
@@ -96,13 +96,13 @@ chain-elsewhere P e buffer after bytes s x f o =
 
 -- ─── Used: what a chain holds is known from how many pieces it has counted ───
 
-same_at : (t : TradeDate) (a b : ℕ) → t ≡ At a → t ≡ At b → a ≡ b
+same_at : (t : TradeDate) (a b : ℕ) → t ≡ Some a → t ≡ Some b → a ≡ b
 same_at t a b p q = cc
 
 -- Where message x of day d is next, and j pieces were counted, the chain holds the first j pieces of x.
 pub counted-holding : (P : List (Dated Message)) (e : Receiver) (buffer : List ℕ) (s : ℕ) → ChainRight P e buffer s
     → (d k : ℕ) (x : Message)
-    → get_elem? (of s d P) (kept_of e s).last ≡ some x → (kept_of e s).date ≡ At d → k ≡ (kept_of e s).last + 1 → (j : ℕ)
+    → get_elem? (of s d P) (kept_of e s).last ≡ some x → (kept_of e s).date ≡ Some d → k ≡ (kept_of e s).last + 1 → (j : ℕ)
     → (live_of e s).pieces ≡ j → Holding e buffer s x.tid k d x.content j
 counted-holding P e buffer s f d k x placed date number j count o =
     let n = f o in

@@ -11,12 +11,11 @@ use borrow.Author.Tests.{eqb-true, eqb-false}
 use lib.ListN.{get_elem?}
 use lib.Dec.{eqb}
 use Rattle.ftd.specs.Packet.{dated_of}
-use Rattle.ftd.specs.declared.tags.TradeDate.{TradeDate}
-use Rattle.ftd.specs.declared.tags.TradeDate.TheVariants.{None, At}
-use Rattle.flow.specs.declared.sender.Opened.{Opened}
+use Rattle.ftd.specs.Types.{TradeDate}
+use Rattle.flow.specs.Types.{Opened}
 use Rattle.flow.specs.declared.receiver.LiveSeries.{LiveSeries}
 use Rattle.flow.specs.declared.receiver.Receiver.{Receiver}
-use Rattle.flow.specs.declared.receiver.Confirmed.{Confirmed}
+use Rattle.flow.specs.Types.{Confirmed}
 use Rattle.flow.specs.Ends.{Left, before, day_of, last_of, fresh_receiver, is_open, kept_of, live_of, logged_in}
 use Rattle.flow.specs.Ends.{with_series}
 use Rattle.flow.specs.Answers.{Message, confirmed_said, received_said, message_in, report_in}
@@ -33,6 +32,7 @@ use Rattle.flow.proofs.pieces.Takes.{PacketAt, Before, take-holds, take-delivers
 use Rattle.flow.proofs.right.Right.{Right, right-start, right-grows}
 use Rattle.flow.proofs.right.Chain.{ChainRight, chain-grows, chain-none, chain-elsewhere, counted-holding}
 use Rattle.flow.proofs.right.Kept.{AllRight, right-stays, right-moves, right-delivered, right-confirmed}
+use Rattle.std.specs.Prelude.{Some, None}
 
 -- Against the publications P of all series and days: handed on H, reported R, the end and its buffer.
 pub record EndRight (P H : List (Dated Message)) (R : List (Dated ℕ)) (e : Receiver) (buffer : List ℕ) : Type 0 where
@@ -117,17 +117,17 @@ module _ (P H : List (Dated Message)) (R : List (Dated ℕ)) (e : Receiver) (buf
           chains = others (kept_of e s).date (kept_of e s).last o;
         }
 
-    module _ (d : ℕ) (o : is_open e s ≡ true) (b : before (At d) (kept_of e s).date ≡ false) where
+    module _ (d : ℕ) (o : is_open e s ≡ true) (b : before (Some d) (kept_of e s).date ≡ false) where
       abbrev last : ℕ
-      last = last_after e s (At d)
+      last = last_after e s (Some d)
 
       abbrev after : Receiver
-      after = with_series e s (At d) last logged_in
+      after = with_series e s (Some d) last logged_in
 
-      moves : Moves e after s (At d) last
-      moves = moves-with e eight s o (At d) last logged_in
+      moves : Moves e after s (Some d) last
+      moves = moves-with e eight s o (Some d) last logged_in
 
-      here : Right s (At d) last P (H ++ map (dated s None) []) (R ++ map (dated s (day_of after s)) (last ∷ []))
+      here : Right s (Some d) last P (H ++ map (dated s None) []) (R ++ map (dated s (day_of after s)) (last ∷ []))
       unfolding last_after
       here =
           rw (moves.date, append-nil H)
@@ -137,9 +137,9 @@ module _ (P H : List (Dated Message)) (R : List (Dated ℕ)) (e : Receiver) (buf
       confirmed =
           record {
             right =
-                rw (append-nil H) at (right-moves e after s (At d) last P H R None (day_of after s) [] (last ∷ []) moves
+                rw (append-nil H) at (right-moves e after s (Some d) last P H R None (day_of after s) [] (last ∷ []) moves
                 h.right here);
-            chains = others (At d) last o;
+            chains = others (Some d) last o;
           }
 
     -- Its report is of the day that is kept behind it.
@@ -207,7 +207,7 @@ module _ (P H : List (Dated Message)) (R : List (Dated ℕ)) (e : Receiver) (buf
         -- What is handed on is of the packet's day, a report of the kept one.
         pub receive-right :
             let r = receive_of e p buffer in
-            EndRight P (H ++ map (dated s (At d)) (message_in (received_said p r.bytes r.answer)))
+            EndRight P (H ++ map (dated s (Some d)) (message_in (received_said p r.bytes r.answer)))
             (R ++ map (dated s (day_of e s)) (report_in (received_said p r.bytes r.answer))) r.end r.bytes
         receive-right =
             record {

@@ -8,8 +8,7 @@ use mathlib.Core.Option.{some}
 use borrow.Author.Tests.{eqb-true, eqb-false, ltb-false}
 use lib.ListN.{get_elem?}
 use lib.Dec.{eqb}
-use Rattle.ftd.specs.declared.tags.TradeDate.{TradeDate}
-use Rattle.ftd.specs.declared.tags.TradeDate.TheVariants.{None, At}
+use Rattle.ftd.specs.Types.{TradeDate}
 use Rattle.flow.specs.declared.receiver.Receiver.{Receiver}
 use Rattle.flow.specs.Ends.{before, differs, day_of, last_of}
 use Rattle.flow.specs.Answers.{Message}
@@ -19,6 +18,7 @@ use Rattle.flow.proofs.right.Right.{Right, right-else, right_new, right-report, 
 use Rattle.flow.proofs.steps.Moves.{Moves}
 use Rattle.flow.proofs.pieces.Outcomes.{Delivered, keeps, reports, hands}
 use Rattle.flow.proofs.common.Days.{Above, day-same, above_new}
+use Rattle.std.specs.Prelude.{Some, None}
 
 -- Every series of an end.
 abbrev pub AllRight : Receiver → List (Dated Message) → List (Dated Message) → List (Dated ℕ) → Type 0
@@ -60,36 +60,36 @@ module _ (e after : Receiver) (s : ℕ) (date : TradeDate) (last : ℕ) (P H : L
 
 module _ (e : Receiver) (s d place : ℕ) (x : Message) (P H : List (Dated Message)) (R : List (Dated ℕ))
     (there : get_elem? (of s d P) place ≡ some x) (o : AllRight e P H R) where
-  abbrev today : day_of e s ≡ At d → Right s (At d) (last_of e s) P H R
-  today q = right-as P H R s (day_of e s) (At d) (last_of e s) (last_of e s) q refl (o s)
+  abbrev today : day_of e s ≡ Some d → Right s (Some d) (last_of e s) P H R
+  today q = right-as P H R s (day_of e s) (Some d) (last_of e s) (last_of e s) q refl (o s)
 
   pub right-delivered : (after : Receiver) (ms : List Message) (ks : List ℕ) → Delivered e s d (suc place) x after ms ks
-      → AllRight after P (H ++ map (dated s (At d)) ms) (R ++ map (dated s (day_of e s)) ks)
+      → AllRight after P (H ++ map (dated s (Some d)) ms) (R ++ map (dated s (day_of e s)) ks)
   right-delivered after ms ks (keeps m) =
-      right-moves e after s (day_of e s) (last_of e s) P H R (At d) (day_of e s) [] [] m o
+      right-moves e after s (day_of e s) (last_of e s) P H R (Some d) (day_of e s) [] [] m o
       (rw (append-nil H, append-nil R) (o s))
   right-delivered after ms ks (reports {n = n} m q k) =
-      right-moves e after s (day_of e s) (last_of e s) P H R (At d) (day_of e s) [] (n ∷ []) m o
+      right-moves e after s (day_of e s) (last_of e s) P H R (Some d) (day_of e s) [] (n ∷ []) m o
       (rw (append-nil H, k, q) (right-report s P H R d (last_of e s) (today q)))
   right-delivered after ms ks (hands {y = y} m q k i) =
       let l : place ≡ last_of e s = omega arith in
-      right-moves e after s (At d) (suc place) P H R (At d) (day_of e s) (y ∷ []) (suc place ∷ []) m o
+      right-moves e after s (Some d) (suc place) P H R (Some d) (day_of e s) (y ∷ []) (suc place ∷ []) m o
       (rw (q, k, i) (right-hands s P H R d (last_of e s) (today q) x (rw (← l) there)))
 
 -- ─── An answer of day d, not below the kept one ───
 
-above_kept : (d : ℕ) (date : TradeDate) → before (At d) date ≡ false → (x : ℕ) → d < x → Above x date
+above_kept : (d : ℕ) (date : TradeDate) → before (Some d) date ≡ false → (x : ℕ) → d < x → Above x date
 above_kept d None q x h = tt
-above_kept d (At y) q x h = omega (arith, ltb-false d y q)
+above_kept d (Some y) q x h = omega (arith, ltb-false d y q)
 
 -- last is 0 on a new day, and what it was on the kept one.
 pub right-confirmed : (s d : ℕ) (date : TradeDate) (last : ℕ) (P H : List (Dated Message)) (R : List (Dated ℕ))
-    → before (At d) date ≡ false → Right s date last P H R
-    → Right s (At d) (cond (differs (At d) date) 0 last) P H
-    (R ++ map (dated s (At d)) (cond (differs (At d) date) 0 last ∷ []))
-right-confirmed s d date last P H R h o = go (differs (At d) date) refl
+    → before (Some d) date ≡ false → Right s date last P H R
+    → Right s (Some d) (cond (differs (Some d) date) 0 last) P H
+    (R ++ map (dated s (Some d)) (cond (differs (Some d) date) 0 last ∷ []))
+right-confirmed s d date last P H R h o = go (differs (Some d) date) refl
   where
-    go : (b : Bool) → differs (At d) date ≡ b
-        → Right s (At d) (cond b 0 last) P H (R ++ map (dated s (At d)) (cond b 0 last ∷ []))
+    go : (b : Bool) → differs (Some d) date ≡ b
+        → Right s (Some d) (cond b 0 last) P H (R ++ map (dated s (Some d)) (cond b 0 last ∷ []))
     go true q = right_new s P H R date last d (above_new d date h q) (above_kept d date h) o
-    go false q = right-report s P H R d last (right-as P H R s date (At d) last last (day-same d date q) refl o)
+    go false q = right-report s P H R d last (right-as P H R s date (Some d) last last (day-same d date q) refl o)

@@ -4,7 +4,7 @@ use native.Mathlib.Omega.{arith}
 use mathlib.Core.Path.{◌≡◌, refl, sym, ap, ◌∙◌}
 use mathlib.Core.List.{List, [], ◌∷◌, map}
 use mathlib.Core.Bool.{Bool, true, false, cond}
-use borrow.Author.Tests.{ltb-true, ltb-false, lt-ltb, le-ltb, eqb-true, eqb-false}
+use borrow.Author.Tests.{ltb-true, ltb-false, eqb-true, eqb-false}
 use lib.ListN.{length, length-map, get_or, take, drop, set, length-take}
 use lib.Seq.{get_or-take}
 use lib.Dec.{ltb, eqb}
@@ -27,44 +27,6 @@ larger-first a b = go (ltb a b) refl
         let p = ltb-true a b q in
         omega arith
     go false q = omega arith
-
-larger-second : (a b : ℕ) → b ≤ larger a b
-larger-second a b = go (ltb a b) refl
-  where
-    go : (t : Bool) → ltb a b ≡ t → b ≤ cond t b a
-    go true q = omega arith
-    go false q = ltb-false a b q
-
-larger-least : (a b n : ℕ) → a ≤ n → b ≤ n → larger a b ≤ n
-larger-least a b n h k = go (ltb a b)
-  where
-    go : (t : Bool) → cond t b a ≤ n
-    go true = k
-    go false = h
-
-module _ (more left : ℕ) (x : DaySeries) where
-  pub over-reserve : left < x.reserve → true ≡ ltb left (share_with more x)
-  over-reserve h =
-      let a = larger-second (x.used + more) x.reserve in
-      sym (lt-ltb left (share_with more x) (omega arith))
-
-  pub over-used : left < x.used → true ≡ ltb left (share_with more x)
-  over-used h =
-      let a = larger-first (x.used + more) x.reserve in
-      sym (lt-ltb left (share_with more x) (omega arith))
-
-  -- Neither alone is above what is left.
-  pub over-more : x.reserve ≤ left → x.used ≤ left → ltb (left - x.used) more ≡ ltb left (share_with more x)
-  over-more h k = go (ltb (left - x.used) more) refl
-    where
-      go : (b : Bool) → ltb (left - x.used) more ≡ b → b ≡ ltb left (share_with more x)
-      go true q =
-          let a = larger-first (x.used + more) x.reserve in
-          let p = ltb-true (left - x.used) more q in
-          sym (lt-ltb left (share_with more x) (omega arith))
-      go false q =
-          let p = ltb-false (left - x.used) more q in
-          sym (le-ltb left (share_with more x) (larger-least (x.used + more) x.reserve left (omega arith) h))
 
 -- ─── A place of the list ───
 

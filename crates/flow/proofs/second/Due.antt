@@ -11,7 +11,6 @@ use borrow.Author.Tests.{eqb-true}
 use lib.ListN.{length, get_elem?}
 use lib.Dec.{eqb}
 use Rattle.ftd.specs.Login.{login_bytes}
-use Rattle.ftd.specs.declared.tags.TradeDate.TheVariants.{At}
 use Rattle.flow.specs.declared.receiver.Receiver.{Receiver}
 use Rattle.flow.specs.Ends.{is_open, all_parts, day_of, last_of}
 use Rattle.flow.specs.Answers.{is_taken, opened_said}
@@ -47,6 +46,7 @@ use Rattle.flow.specs.Ends.{kept_of, live_of}
 use Rattle.flow.proofs.common.Rows.{by-given}
 use Rattle.flow.proofs.ends.ReceiverLookups.{Eight}
 use Rattle.flow.proofs.source.Days.{day-stays, openings-grow}
+use Rattle.std.specs.Prelude.{Some}
 
 -- ─── Subsequences ───
 
@@ -73,7 +73,7 @@ not_answer t p (x ∷ xs) ys s =
 
 module _ (s d n : ℕ) (content : List ℕ) (ans : Answering content) where
   abbrev a : List ℕ
-  a = login_bytes (At d) content
+  a = login_bytes (Some d) content
 
   -- Of the answer and the messages numbered up to n, what has not come yet is still among ys, which are to come.
   pub data Due (ys : List Delivery) (w : World) : Type 0 where
@@ -87,19 +87,19 @@ module _ (s d n : ℕ) (content : List ℕ) (ans : Answering content) where
 
   -- Any call but a connection keeps it.
   due-wait : (ys : List Delivery) (w v : World) → Eight w.receiving.end
-      → Turned (At d) false w.receiving.end v.receiving.end → (k : ℕ) (xs : List (List (List ℕ)))
+      → Turned (Some d) false w.receiving.end v.receiving.end → (k : ℕ) (xs : List (List (List ℕ)))
       → is_open w.receiving.end s ≡ true
       → Reached d k (day_of w.receiving.end s) (last_of w.receiving.end s)
       → Numbered s d k xs → k + length xs ≡ n → Subsequence (answer s a ∷ map message xs) ys → Due ys v
   due-wait ys w v h t k xs o g N q u =
       let r = w.receiving.end in
       let r' = v.receiving.end in
-      waiting k xs (turn-open (At d) false r h r' _ _ t.turn s o)
+      waiting k xs (turn-open (Some d) false r h r' _ _ t.turn s o)
       (reached-onward d k (day_of r s) (last_of r s) (day_of r' s) (last_of r' s)
-      (turn-onward (At d) false r h r' _ _ t.turn s) g) N q u
+      (turn-onward (Some d) false r h r' _ _ t.turn s) g) N q u
 
   due-turn : (ys : List Delivery) (w v : World) → Eight w.receiving.end
-      → Turned (At d) false w.receiving.end v.receiving.end → (Follows s d w → Follows s d v) → Due ys w → Due ys v
+      → Turned (Some d) false w.receiving.end v.receiving.end → (Follows s d w → Follows s d v) → Due ys w → Due ys v
   due-turn ys w v h t f (waiting k xs o g N q u) = due-wait ys w v h t k xs o g N q u
   due-turn ys w v h t f (underway k xs g c N q u) =
       underway k xs (turn-ready w.receiving.end h s d k v.receiving.end _ _ t.turn g) (f c) N q u
@@ -111,12 +111,12 @@ module _ (s d n : ℕ) (content : List ℕ) (ans : Answering content) where
     pub delivered-is : v.receiving.delivered ≡ w.receiving.delivered ++ more
     pub keeps : (ys : List Delivery) → Due (more ++ ys) w → Due ys v
 
-  module _ {from : ℕ} (w : World) (h : Timely from w) (day : w.serving.day ≡ At d) where
+  module _ {from : ℕ} (w : World) (h : Timely from w) (day : w.serving.day ≡ Some d) where
     abbrev r : Receiver
     r = w.receiving.end
 
     -- Nothing is delivered.
-    still : (v : World) → v.receiving.delivered ≡ w.receiving.delivered → Turned (At d) false r v.receiving.end
+    still : (v : World) → v.receiving.delivered ≡ w.receiving.delivered → Turned (Some d) false r v.receiving.end
         → (Follows s d w → Follows s d v) → Passes w v
     still v e t f =
         record {
@@ -137,7 +137,7 @@ module _ (s d n : ℕ) (content : List ℕ) (ans : Answering content) where
         v : World
         v = receives w (after_confirm w.receiving x.series x.what (confirm_login_of r x.series x.what))
 
-        t : Turned (At d) false r r'
+        t : Turned (Some d) false r r'
         t =
             rw day at (turned
             (confirm-turn w.serving.day false r x.series x.what
@@ -182,8 +182,8 @@ module _ (s d n : ℕ) (content : List ℕ) (ans : Answering content) where
             by-followed : Follows s d (step w (World.receive i j)) → Follows s d v
             by-followed = rw (e, f) (λ c. c)
 
-        t : Turned (At d) false r r'
-        t = turned (receive-turn (At d) false r p w.receiving.buffer)
+        t : Turned (Some d) false r r'
+        t = turned (receive-turn (Some d) false r p w.receiving.buffer)
 
         is-whole : (x : Standing) → is_whole x ≡ true → x ≡ whole
         is-whole going q = clash _ q refl
@@ -234,10 +234,10 @@ module _ (s d n : ℕ) (content : List ℕ) (ans : Answering content) where
     passes begun (World.send_packet t out) room q =
         still _ refl (turned stays) (step-followed s d w (World.send_packet t out) h.receiving.eight)
     passes begun (World.open_receiver ss) room q =
-        still _ refl (turned (open_turn (At d) false r ss)) (λ c. record { behind = tt })
+        still _ refl (turned (open_turn (Some d) false r ss)) (λ c. record { behind = tt })
     passes begun World.connect room q = absurd (omega arith)
     passes begun (World.request_login t c out) room q =
-        still _ refl (turned (request-turn (At d) false r t c out)) (λ c. record { behind = tt })
+        still _ refl (turned (request-turn (Some d) false r t c out)) (λ c. record { behind = tt })
     passes begun (World.confirm_login i) room q =
         by-given (Passes w) w (get_elem? w.serving.answers i) (still w refl (turned stays) (λ c. c))
         (λ x e. pass-confirm x i e)
@@ -249,14 +249,14 @@ module _ (s d n : ℕ) (content : List ℕ) (ans : Answering content) where
     -- ─── What is turned away, if what is due is spared ───
 
     answer-dated : (x : InSeries (List ℕ)) → answer s a ≡ answer x.series x.what
-        → (x.series ≡ s) × ((dated_of x.what).date ≡ At d)
+        → (x.series ≡ s) × ((dated_of x.what).date ≡ Some d)
     answer-dated x q =
         let p : x.series ≡ s = cc in
         let b : x.what ≡ a = cc in
-        (p, rw b (ap (λ (y : Read). y.date) (login-back (At d) content ans.shape)))
+        (p, rw b (ap (λ (y : Read). y.date) (login-back (Some d) content ans.shape)))
 
     pass-answer-turned : (x : InSeries (List ℕ)) (y : Refusal)
-        → (x.series ≡ s → (dated_of x.what).date ≡ At d → ⊥) → Passes w (answer_turned w x y)
+        → (x.series ≡ s → (dated_of x.what).date ≡ Some d → ⊥) → Passes w (answer_turned w x y)
     pass-answer-turned x y spares =
         record { more = answer x.series x.what ∷ []; delivered-is = refl; keeps = λ ys. go ys }
       where
@@ -273,7 +273,7 @@ module _ (s d n : ℕ) (content : List ℕ) (ans : Answering content) where
     pass-receive-turned : (i j : ℕ) (m : Transmission) (p : List ℕ) → AllBegun w.serving
         → get_elem? w.serving.transmissions i ≡ some m → get_elem? m.packets j ≡ some p
         → is_open r (series_in (dated_of p).packet) ≡ true → (live_of r (series_in (dated_of p).packet)).login ≡ true
-        → (y : Refusal) → (m.series ≡ s → (kept_of r s).date ≡ At d → ⊥) → Passes w (receive_turned w m i j p y)
+        → (y : Refusal) → (m.series ≡ s → (kept_of r s).date ≡ Some d → ⊥) → Passes w (receive_turned w m i j p y)
     pass-receive-turned i j m p begun e f o b y spares =
         record {
           more = only ends (message m.packets);
@@ -287,7 +287,7 @@ module _ (s d n : ℕ) (content : List ℕ) (ans : Answering content) where
         v : World
         v = receive_turned w m i j p y
 
-        t : Turned (At d) false r v.receiving.end
+        t : Turned (Some d) false r v.receiving.end
         t = turned (got _ o b refused)
 
         -- While the day is kept the packet is of another series.
@@ -436,7 +436,7 @@ parts-steps h s o (then l ls) = parts-steps (timely-line h l) s (open-line h s o
 -- ─── Over a list of steps ───
 
 module _ (s d n : ℕ) (content : List ℕ) (ans : Answering content) where
-  pub due-run : {from : ℕ} {w v : World} (ls : Steps w v) → SparesAll s d ls → Timely from w → w.serving.day ≡ At d
+  pub due-run : {from : ℕ} {w v : World} (ls : Steps w v) → SparesAll s d ls → Timely from w → w.serving.day ≡ Some d
       → v.serving.openings ≡ w.serving.openings
       → v.receiving.restarts ≡ w.receiving.restarts
       → all_parts w.receiving.end ≤ length w.receiving.buffer

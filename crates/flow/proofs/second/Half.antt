@@ -10,8 +10,7 @@ use mathlib.Core.List.{List, [], ◌∷◌, ◌++◌}
 use mathlib.Core.Bool.{true}
 use lib.ListN.{length, length-take}
 use Rattle.ftd.specs.Login.{login_bytes}
-use Rattle.ftd.specs.declared.tags.TradeDate.{TradeDate}
-use Rattle.ftd.specs.declared.tags.TradeDate.TheVariants.{At}
+use Rattle.ftd.specs.Types.{TradeDate}
 use Rattle.flow.specs.Ends.{is_open, kept_of}
 use Rattle.flow.specs.World.{in_series, Event, World, start, step, run}
 use Rattle.flow.specs.Agreement.{published_on, handed_on, reported, since, CaughtUp}
@@ -27,6 +26,7 @@ use Rattle.flow.proofs.logins.Starts.{login-reached}
 use Rattle.flow.proofs.second.Sending.{sent-whole, numbered-each}
 use Rattle.flow.proofs.second.Due.{Due, waiting, due-run, room_back}
 use Rattle.flow.proofs.source.Sources.{start-source}
+use Rattle.std.specs.Prelude.{Some}
 
 -- ─── Lists of events in two parts ───
 
@@ -39,7 +39,7 @@ run-append w (e ∷ es) fs = run-append (step w e) es fs
 -- The receiving end keeps the day, and last is at least the published count.
 pub record AllThere (w : World) (s d : ℕ) : Type 0 where
   pub opens : is_open w.receiving.end s ≡ true
-  pub date : (kept_of w.receiving.end s).date ≡ At d
+  pub date : (kept_of w.receiving.end s).date ≡ Some d
   pub last : length (published_on w s d) ≤ (kept_of w.receiving.end s).last
 
 pub caught-up : {from : ℕ} (u : World) (e : Event) {w : World} (fs : Steps (step u e) w) (s d : ℕ) (a out : List ℕ)
@@ -50,7 +50,7 @@ caught-up u e {w} fs s d a out spares h asked c =
     let t = answer-taken u e s a c.login in
     let served = h.source.served in
     let answering = tests-content u.serving.end s t.header _ _ t.content t.out t.tests in
-    let is : a ≡ login_bytes (At d) t.content =
+    let is : a ≡ login_bytes (Some d) t.content =
     t.answer ∙ ap (λ (x : TradeDate). login_bytes x t.content) (login-day u h e s d a t (asked t) c.day) in
     let opens = login-opens u h e s d a t (asked t) c.day in
     let g = login-sends u served h.source.unfinished e s d a t c.day fs c.no-opening c.last in

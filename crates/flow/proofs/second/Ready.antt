@@ -10,9 +10,8 @@ use lib.ListN.{length}
 use Rattle.ftd.specs.Bytes.{part, put}
 use Rattle.ftd.specs.Packet.{dated_of}
 use Rattle.ftd.proofs.bytes.Put.{length-put}
-use Rattle.ftd.specs.declared.tags.TradeDate.{TradeDate}
-use Rattle.ftd.specs.declared.tags.PacketPlace.{PacketPlace}
-use Rattle.ftd.specs.declared.tags.TradeDate.TheVariants.{At}
+use Rattle.ftd.specs.Types.{TradeDate}
+use Rattle.ftd.specs.Types.{PacketPlace}
 use Rattle.ftd.specs.declared.packet.Span.{Span}
 use Rattle.ftd.specs.declared.packet.Header.{Header}
 use Rattle.flow.specs.declared.receiver.KeptSeries.{KeptSeries}
@@ -30,20 +29,21 @@ use Rattle.flow.proofs.steps.Turns.{Turn, stays, opens, connects, confirms, rece
 use Rattle.flow.proofs.steps.Turns.{by-series}
 use Rattle.flow.proofs.common.Days.{Upto}
 use Rattle.flow.specs.Answers.{Message}
+use Rattle.std.specs.Prelude.{Some}
 
 -- ─── Ready for number k of day d, or a later one ───
 
 pub record Ready (e : Receiver) (s d k : ℕ) : Type 0 where
   pub opens : is_open e s ≡ true
   pub login : (live_of e s).login ≡ true
-  pub date : (kept_of e s).date ≡ At d
+  pub date : (kept_of e s).date ≡ Some d
   pub reached : k ≤ suc (kept_of e s).last
 
 -- The same of what is looked up of a series.
 record Found (d k : ℕ) (x : Bool) (a : KeptSeries) (l : LiveSeries) : Type 0 where
   opens : x ≡ true
   login : l.login ≡ true
-  date : a.date ≡ At d
+  date : a.date ≡ Some d
   reached : k ≤ suc a.last
 
 found : (e : Receiver) (s d k : ℕ) → Ready e s d k → Found d k (is_open e s) (kept_of e s) (live_of e s)
@@ -53,28 +53,28 @@ ready : (e : Receiver) (s d k : ℕ) → Found d k (is_open e s) (kept_of e s) (
 ready e s d k h = record { opens = h.opens; login = h.login; date = h.date; reached = h.reached }
 
 -- An answer of a day that is at most d, taken on day d, is of that day and keeps last.
-confirm-day : (a d : ℕ) (o : TradeDate) → o ≡ At d → Upto (At a) (At d) → before (At a) o ≡ false → a ≡ d
+confirm-day : (a d : ℕ) (o : TradeDate) → o ≡ Some d → Upto (Some a) (Some d) → before (Some a) o ≡ false → a ≡ d
 confirm-day a d o q u b = let l = ltb-false a d (rw q at b) in omega arith
 
-confirm-last : (e : Receiver) (t d : ℕ) → (kept_of e t).date ≡ At d → last_after e t (At d) ≡ (kept_of e t).last
+confirm-last : (e : Receiver) (t d : ℕ) → (kept_of e t).date ≡ Some d → last_after e t (Some d) ≡ (kept_of e t).last
 unfolding last_after
 confirm-last e t d q = rw (q, eq-eqb d d refl)
 
 module _ (e : Receiver) (h : Eight e) (s d k : ℕ) where
-  pub turn-ready : (e' : Receiver) (ms : List Message) (ks : List ℕ) → Turn (At d) false e e' ms ks → Ready e s d k
+  pub turn-ready : (e' : Receiver) (ms : List Message) (ks : List ℕ) → Turn (Some d) false e e' ms ks → Ready e s d k
       → Ready e' s d k
   turn-ready e' ms ks stays r = r
   turn-ready e' ms ks (opens ss z q) r = clash _ r.opens (none_open e z s)
   turn-ready e' ms ks (connects x) r = clash _ x refl
   turn-ready e' ms ks (confirms t a q b u) r =
       ready e' s d k
-      (by-series e h t q (At a) (last_after e t (At a)) logged_in (λ s x y l. Ready e s d k → Found d k x y l)
+      (by-series e h t q (Some a) (last_after e t (Some a)) logged_in (λ s x y l. Ready e s d k → Found d k x y l)
       (λ r.
       let f = confirm-day a d (kept_of e t).date r.date u b in
       record {
         opens = refl;
         login = refl;
-        date = ap At f;
+        date = ap Some f;
         reached = rw (f, confirm-last e t d r.date) r.reached;
       })
       s (λ n. found e s d k) r)

@@ -8,15 +8,15 @@ use mathlib.Core.Option.{some}
 use lib.ListN.{get_elem?}
 use Rattle.ftd.specs.Chain.{packets_of}
 use Rattle.ftd.specs.Fields.{shaped}
-use Rattle.ftd.specs.declared.tags.TradeDate.TheVariants.{At}
 use Rattle.flow.specs.World.{SenderSide}
 use Rattle.flow.proofs.second.SentFrom.{SentAs}
+use Rattle.std.specs.Prelude.{Some}
 
 -- Packets are those of a message of series s with number k, of day d.
 pub record Whole (s d k : ℕ) (ps : List (List ℕ)) : Type 0 where
   pub tid : ℕ
   pub content : List ℕ
-  pub is : ps ≡ packets_of (record { date = At d; tid = tid; series = s; number = k; counted = true }) content
+  pub is : ps ≡ packets_of (record { date = Some d; tid = tid; series = s; number = k; counted = true }) content
   pub shape : shaped content 32768 ≡ true
   pub few : k ≤ 1000000
 

@@ -7,8 +7,7 @@ use mathlib.Core.List.{List, [], ◌∷◌, ◌++◌}
 use mathlib.Core.Bool.{true}
 use mathlib.Core.Option.{some}
 use lib.ListN.{length, get_elem?, length-append}
-use Rattle.ftd.specs.declared.tags.TradeDate.{TradeDate}
-use Rattle.ftd.specs.declared.tags.TradeDate.TheVariants.{At}
+use Rattle.ftd.specs.Types.{TradeDate}
 use Rattle.flow.specs.declared.sender.Place.{Place}
 use Rattle.flow.specs.Ends.{is_served, published_of, place_of}
 use Rattle.flow.specs.Log.{entry_of}
@@ -24,6 +23,7 @@ use Rattle.flow.proofs.source.Served.{ServedSide}
 use Rattle.flow.proofs.source.Entries.{next-entry}
 use Rattle.flow.proofs.source.Messages.{sent-genuine, packet-begun, packet-genuine}
 use Rattle.flow.proofs.packets.Genuine.{Genuine, genuine-grows, begun-whole}
+use Rattle.std.specs.Prelude.{Some}
 
 -- On the line in a series since then.
 abbrev pub sent_in : SenderSide → SenderSide → ℕ → List (List (List ℕ))
@@ -38,7 +38,7 @@ SentAs u s d n ps = (g : Genuine u.published s ps) × (g.day ≡ d) × (suc g.pl
 
 -- Since v the messages from number k on were sent in series s on day d; next is the one behind them.
 pub record SentFrom (v u : SenderSide) (s d k : ℕ) : Type 0 where
-  pub day : u.day ≡ At d
+  pub day : u.day ≡ Some d
   pub served : is_served u.end s ≡ true
   pub login : (place_of u.end s).login ≡ true
   pub next : (place_of u.end s).next ≡ k + length (sent_in v u s)
@@ -100,7 +100,7 @@ module _ (v u : SenderSide) (h : ServedSide u) (s d k : ℕ) (z : SentFrom v u s
             (ap (λ (l : List (List (List ℕ))). get_elem? l j) (sym e) ∙ q));
       }
 
-  same-day : (t : TradeDate) (a b : ℕ) → t ≡ At a → t ≡ At b → a ≡ b
+  same-day : (t : TradeDate) (a b : ℕ) → t ≡ Some a → t ≡ Some b → a ≡ b
   same-day t a b p q = cc
 
   -- What is sent is the message that is next: whole, or with its last packet.

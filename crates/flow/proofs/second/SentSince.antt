@@ -9,9 +9,7 @@ use mathlib.Core.Option.{some}
 use borrow.Author.Tests.{eqb-true, eqb-false}
 use lib.ListN.{length, get_elem?}
 use lib.Dec.{eqb}
-use Rattle.ftd.specs.declared.tags.TradeDate.TheVariants.{At}
 use Rattle.flow.specs.declared.sender.Place.{Place}
-use Rattle.flow.specs.declared.sender.Sent.TheVariants.{Drained}
 use Rattle.flow.specs.Ends.{is_served, published_of, place_of}
 use Rattle.flow.specs.Log.{entry_of}
 use Rattle.flow.specs.Serving.{send_packets, send_bytes, next_packet, last_packet, after_packet, send_of}
@@ -34,6 +32,7 @@ use Rattle.flow.proofs.logins.Taken.{LoginTaken, start_at, login-next}
 use Rattle.flow.proofs.common.Extends.{none-some}
 use Rattle.flow.proofs.common.Lists.{since-same, that-more, append-empty}
 use Rattle.flow.proofs.source.Days.{openings-grow}
+use Rattle.std.specs.Prelude.{Some, None, Ok}
 
 -- ─── Any event ───
 
@@ -187,7 +186,7 @@ module _ (v : SenderSide) (s d k : ℕ) where
   }
 
   -- Right behind the login.
-  pub since-login : ServedSide v → Unfinished v → v.day ≡ At d → is_served v.end s ≡ true
+  pub since-login : ServedSide v → Unfinished v → v.day ≡ Some d → is_served v.end s ≡ true
       → place_of v.end s ≡ record { login = true; next = k; piece = 0 } → Since v v s d k
   since-login h y q o p = record {
     grown = grown-same v;
@@ -211,7 +210,7 @@ module _ (v : SenderSide) (s d k : ℕ) where
 -- u before the login, then the login, then fs.
 module _
     (u : World) (right : ServedSide u.serving) (going : Unfinished u.serving) (e : Event) (s d : ℕ) (a : List ℕ) (t : LoginTaken u e s a)
-    (day : (step u e).serving.day ≡ At d) {w : World} (fs : Steps (step u e) w) where
+    (day : (step u e).serving.day ≡ Some d) {w : World} (fs : Steps (step u e) w) where
   still-served : is_served (step u e).serving.end s ≡ true
   still-served =
       ap (λ (w : World). is_served w.serving.end s) t.effect
@@ -233,7 +232,7 @@ module _
     login-sends = login-since.sent no-opening last
 
     -- None is left: the messages sent since reach from the start to the last one published.
-    pub all-sent : (out : List ℕ) → (send_of w.serving.end s w.serving.log out).answer ≡ Drained →
+    pub all-sent : (out : List ℕ) → (send_of w.serving.end s w.serving.log out).answer ≡ (Ok None) →
         start_at t + length (sent_in (step u e).serving w.serving s) ≡ suc (length (published_on w s d))
     all-sent out q =
         let h : ServedSide w.serving = login-since.served in

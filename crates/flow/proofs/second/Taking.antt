@@ -21,10 +21,8 @@ use Rattle.ftd.specs.declared.packet.Span.{Span}
 use Rattle.ftd.specs.declared.packet.Header.{Header}
 use Rattle.ftd.specs.declared.packet.Dated.{Dated as Read}
 use Rattle.ftd.specs.declared.packet.Packet.TheVariants.{Message as Accepted}
-use Rattle.ftd.specs.declared.tags.TradeDate.{TradeDate}
-use Rattle.ftd.specs.declared.tags.PacketPlace.{PacketPlace}
-use Rattle.ftd.specs.declared.tags.PacketPlace.TheVariants.{Nth}
-use Rattle.ftd.specs.declared.tags.TradeDate.TheVariants.{None, At}
+use Rattle.ftd.specs.Types.{TradeDate}
+use Rattle.ftd.specs.Types.{PacketPlace}
 use Rattle.flow.specs.declared.receiver.KeptSeries.{KeptSeries}
 use Rattle.flow.specs.declared.receiver.LiveSeries.{LiveSeries}
 use Rattle.flow.specs.declared.receiver.Receiver.{Receiver}
@@ -48,35 +46,36 @@ use Rattle.flow.proofs.packets.Genuine.{headed, BegunIn, AllBegun}
 use Rattle.flow.proofs.common.Lists.{every-at}
 use Rattle.flow.proofs.second.Followed.{Followed, receive-completes}
 use Rattle.flow.proofs.common.Days.{Upto}
+use Rattle.std.specs.Prelude.{Some, None}
 
 -- ─── An answer logs in ───
 
-not-below : (d : ℕ) (o : TradeDate) → Upto o (At d) → before (At d) o ≡ false
+not-below : (d : ℕ) (o : TradeDate) → Upto o (Some d) → before (Some d) o ≡ false
 not-below d None u = refl
-not-below d (At c) u = le-ltb d c u
+not-below d (Some c) u = le-ltb d c u
 
 -- On day d, where the receiving end keeps no later one.
 pub logs-in : (r : Receiver) → Eight r → (s d k : ℕ) (content : List ℕ) → Answering content → is_open r s ≡ true
-    → Upto (kept_of r s).date (At d) → Reached d k (day_of r s) (last_of r s)
-    → Ready (confirm_login_of r s (login_bytes (At d) content)).end s d k
+    → Upto (kept_of r s).date (Some d) → Reached d k (day_of r s) (last_of r s)
+    → Ready (confirm_login_of r s (login_bytes (Some d) content)).end s d k
 unfolding confirm_by_login last_after
 logs-in r h s d k content a o u g =
     let b = not-below d (kept_of r s).date u in
-    let last = last_after r s (At d) in
+    let last = last_after r s (Some d) in
     let n =
-    reached-here d k (At d) last refl
-    (reached-onward d k (day_of r s) (last_of r s) (At d) last
+    reached-here d k (Some d) last refl
+    (reached-onward d k (day_of r s) (last_of r s) (Some d) last
     (rw o (confirm-onward (kept_of r s).date (kept_of r s).last d b)) g) in
     let shape = h in
-    let f = kept_same r shape s o (At d) last logged_in in
-    let after : Ready (with_series r s (At d) last logged_in) s d k =
+    let f = kept_same r shape s o (Some d) last logged_in in
+    let after : Ready (with_series r s (Some d) last logged_in) s d k =
     record {
-      opens = open_stays r shape s o (At d) last logged_in s ∙ o;
-      login = ap (λ (x : LiveSeries). x.login) (live_same r shape s o (At d) last logged_in);
+      opens = open_stays r shape s o (Some d) last logged_in s ∙ o;
+      login = ap (λ (x : LiveSeries). x.login) (live_same r shape s o (Some d) last logged_in);
       date = ap (λ (x : KeptSeries). x.date) f;
       reached = rw f n;
     } in
-    rw (confirm-by-login (At d) content a r s, o, b) after
+    rw (confirm-by-login (Some d) content a r s, o, b) after
 
 -- ─── A message on the line is one message ───
 
@@ -128,11 +127,11 @@ packet-handed s d k ps g j p at e buffer x =
     let q = place-get_d (packets_of m g.content) j p [] f in
     rw (← q)
     (rw (packet-received m g.content j i 32768 g.shape e buffer)
-    (took-handed e (header_at m g.content j i) (At d) (Nth j) (span_at m g.content j i) (packet_at m g.content j)
+    (took-handed e (header_at m g.content j i) (Some d) (Some j) (span_at m g.content j i) (packet_at m g.content j)
     (piece_at_place g.content j).bytes buffer x
-    (receive_with e (header_at m g.content j i) (At d) (Nth j) (span_at m g.content j i) (piece_at_place g.content j).bytes
+    (receive_with e (header_at m g.content j i) (Some d) (Some j) (span_at m g.content j i) (piece_at_place g.content j).bytes
     buffer)
-    (receive-with e (header_at m g.content j i) (At d) (Nth j) (span_at m g.content j i)
+    (receive-with e (header_at m g.content j i) (Some d) (Some j) (span_at m g.content j i)
     (piece_at_place g.content j).bytes buffer)))
 
 -- ─── A message delivered whole is received ───
@@ -178,7 +177,7 @@ module _ (w : World) (eight : Eight w.receiving.end) (begun : AllBegun w.serving
         elim (wanted w.receiving.end w.receiving.buffer s d k g.few room h) [
           | inl x ↦ handed x
           | inr x ↦ turn-ready w.receiving.end eight s d (suc k) _ _ _
-              (receive-turn (At d) false w.receiving.end p w.receiving.buffer) x
+              (receive-turn (Some d) false w.receiving.end p w.receiving.buffer) x
         ]
       where
         handed : Wants w.receiving.end w.receiving.buffer s k d
@@ -207,5 +206,5 @@ module _ (w : World) (eight : Eight w.receiving.end) (begun : AllBegun w.serving
               reached = rw f (omega arith);
             })
           where
-            at_same : (a b : ℕ) → At a ≡ At b → a ≡ b
+            at_same : (a b : ℕ) → Some a ≡ Some b → a ≡ b
             at_same a b q = cc

@@ -8,14 +8,14 @@ use denote.Laws.{Is}
 use denote.Struct.Declared.{row}
 use Rattle.flow.specs.contracts.sender.Day.{the_type as day-type}
 use Rattle.flow.specs.contracts.sender.Sender.{the_type}
-use Rattle.flow.specs.declared.series.SeriesPlace.{SeriesPlace}
-use Rattle.flow.specs.declared.series.SeriesPlace.TheVariants.{At}
+use Rattle.flow.specs.Types.{SeriesPlace}
 use Rattle.flow.specs.declared.sender.Day.{Day}
 use Rattle.flow.specs.declared.sender.Sender.{Sender}
 use Rattle.flow.specs.Ends.{index_of, no_series, no_place, sender, day_series, published_of, reserve_of}
 use Rattle.flow.specs.Ends.{used_of, place_of, grown_series, with_entry, with_place}
 use Rattle.flow.specs.Helpers.{Finds, placed_at}
 use Rattle.flow.proofs.ends.SenderLookups.{Eight}
+use Rattle.std.specs.Prelude.{Some}
 
 -- Both arrays of every value of the type have 8 places: `eight e _ (c .. .good .0)`, the end being the first parameter.
 pub eight : (e : Sender) (vs : List Val) → Is (row the_type) e vs → Eight e
@@ -30,10 +30,10 @@ pub places-eight : (d : Day) (vs : List Val) → Is (row day-type) d vs → leng
 places-eight d vs g = g.1.1.1.1.0.1.0.1
 
 -- What `find` answered, where it is a place.
-pub found_at : (e : Sender) (s : ℕ) (f : SeriesPlace) (i : ℕ) → Finds e s f → f ≡ At i → Finds e s (At i)
+pub found_at : (e : Sender) (s : ℕ) (f : SeriesPlace) (i : ℕ) → Finds e s f → f ≡ Some i → Finds e s (Some i)
 found_at e s f i g u = rw u at g
 
-pub found_inside : (e : Sender) (s : ℕ) (f : SeriesPlace) (i : ℕ) → Finds e s f → f ≡ At i → i < 8
+pub found_inside : (e : Sender) (s : ℕ) (f : SeriesPlace) (i : ℕ) → Finds e s f → f ≡ Some i → i < 8
 found_inside e s f i g u = (found_at e s f i g u).2
 
 -- The place i is the one that `find` answers for the series s.

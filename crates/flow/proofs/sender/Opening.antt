@@ -4,41 +4,26 @@ use native.Mathlib.Omega.{arith}
 use native.Mathlib.Nat.{suc-sub-suc}
 use mathlib.Core.Path.{◌≡◌, refl, ap, ◌∙◌}
 use mathlib.Core.List.{List, [], ◌∷◌, ◌++◌}
-use mathlib.Core.Bool.{Bool, true, false}
+use mathlib.Core.Bool.{Bool, false}
 use lib.ListN.{length, get_or, take, set, replicate}
 use lib.Seq.{take-length}
-use Rattle.ftd.specs.declared.tags.TradeDate.TheVariants.{At}
 use Rattle.flow.specs.declared.sender.DaySeries.{DaySeries}
 use Rattle.flow.specs.declared.sender.Sender.{Sender}
-use Rattle.flow.specs.declared.sender.Opened.TheVariants.{Done}
-use Rattle.flow.specs.declared.sender.OpenStep.{OpenStep}
 use Rattle.flow.specs.Ends.{wrong_series, filled, up_to, no_series, new_series, opened_series, no_place, sender}
 use Rattle.flow.specs.Serving.{wrong_reserves, open_day_of}
 use Rattle.flow.specs.Promises.{OpensDay}
-use Rattle.flow.specs.Helpers.{unopened}
+use Rattle.std.specs.Prelude.{Some, Ok}
 
 -- ─── The tests ───
 
-module _ (e : Sender) (date : ℕ) (ss rs log : List ℕ) (wrong : Bool) (w : wrong ≡ wrong_series ss) where
-  pub opening-wrong : wrong ≡ true → (p : OpenStep) → p ≡ unopened e → OpensDay e date ss rs log p
+module _ (e : Sender) (date : ℕ) (ss rs log : List ℕ) (wrong : Bool) (w : wrong ≡ wrong_series ss)
+    (right : wrong ≡ false) (late : Bool) (u : late ≡ up_to date e.day.date) (early : late ≡ false) (much : Bool)
+    (v : much ≡ wrong_reserves ss rs log) where
+  pub opening-done : much ≡ false → (all : List DaySeries) → all ≡ filled no_series (opened_series ss rs)
+      → OpensDay e date ss rs log
+      (record { end = sender (Some date) (length ss) all 0 (replicate 8 no_place); answer = (Ok tt) })
   unfolding open_day_of
-  opening-wrong t p q = rw (q, ← w, t) (refl, (refl, refl))
-
-  module _ (right : wrong ≡ false) (late : Bool) (u : late ≡ up_to date e.day.date) where
-    pub opening-late : late ≡ true → (p : OpenStep) → p ≡ unopened e → OpensDay e date ss rs log p
-    unfolding open_day_of
-    opening-late t p q = rw (q, ← w, right, ← u, t) (refl, (refl, refl))
-
-    module _ (early : late ≡ false) (much : Bool) (v : much ≡ wrong_reserves ss rs log) where
-      pub opening-much : much ≡ true → (p : OpenStep) → p ≡ unopened e → OpensDay e date ss rs log p
-      unfolding open_day_of
-      opening-much t p q = rw (q, ← w, right, ← u, early, ← v, t) (refl, (refl, refl))
-
-      pub opening-done : much ≡ false → (all : List DaySeries) → all ≡ filled no_series (opened_series ss rs)
-          → OpensDay e date ss rs log
-          (record { end = sender (At date) (length ss) all 0 (replicate 8 no_place); answer = Done })
-      unfolding open_day_of
-      opening-done t all f = rw (← w, right, ← u, early, ← v, t, f) (refl, (refl, refl))
+  opening-done t all f = rw (← w, right, ← u, early, ← v, t, f) (refl, (refl, refl))
 
 -- ─── The day's places, filled one by one ───
 

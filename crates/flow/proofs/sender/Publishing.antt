@@ -12,15 +12,11 @@ use Rattle.ftd.specs.Content.{content_check}
 use Rattle.ftd.specs.declared.refusal.Refusal.{Refusal}
 use Rattle.ftd.specs.declared.refusal.Refusal.TheVariants.{UnknownSeries, TooSmall, DamagedLog, DayFull}
 use Rattle.ftd.specs.declared.composition.Direction.TheVariants.{Down}
-use Rattle.ftd.specs.declared.items.Checked.{Checked}
-use Rattle.ftd.specs.declared.items.Checked.TheVariants.{Passed, Refused}
-use Rattle.flow.specs.declared.series.SeriesPlace.{SeriesPlace}
-use Rattle.flow.specs.declared.series.SeriesPlace.TheVariants.{Unknown, At}
+use Rattle.ftd.specs.Types.{Checked}
+use Rattle.flow.specs.Types.{SeriesPlace}
 use Rattle.flow.specs.declared.sender.DaySeries.{DaySeries}
 use Rattle.flow.specs.declared.sender.Sender.{Sender}
-use Rattle.flow.specs.declared.sender.Published.{Published}
-use Rattle.flow.specs.declared.sender.Published.TheVariants.{Number}
-use Rattle.flow.specs.declared.sender.Published.TheVariants.{Refused as NotPublished}
+use Rattle.flow.specs.Types.{Published}
 use Rattle.flow.specs.declared.sender.PublishStep.{PublishStep}
 use Rattle.flow.specs.Ends.{◌when◌else◌, Wrote, wrote, no_series, sender, is_served, published_of, with_entry}
 use Rattle.flow.specs.Log.{entry_bytes, log_short, entry_fits}
@@ -31,10 +27,11 @@ use Rattle.flow.specs.ShareHelpers.{shares_in}
 use Rattle.flow.proofs.common.Contents.{on_check, content-rows}
 use Rattle.flow.proofs.sender.Lookups.{published-at, reserve-at, used-at, entry_at}
 use Rattle.flow.proofs.room.Places.{shares-entry, used-within}
+use Rattle.std.specs.Prelude.{Some, None, Ok, Err}
 
 module _ (e : Sender) (s tid : ℕ) (content log : List ℕ) where
   abbrev refused : Refusal → Wrote Sender Published
-  refused r = wrote e (NotPublished r) log
+  refused r = wrote e (Err r) log
 
   -- Behind the content check: 13, 20, 18, 21 and the entry.
   abbrev entered : Wrote Sender Published
@@ -43,7 +40,7 @@ module _ (e : Sender) (s tid : ℕ) (content log : List ℕ) where
       refused DamagedLog when log_short e log else
       refused TooSmall when not (entry_fits e log content) || over_shares e s log content else
       refused DayFull when leb 1000000 (published_of e s) else
-      wrote (with_entry e s (16 + length content)) (Number (published_of e s + 1))
+      wrote (with_entry e s (16 + length content)) (Ok (published_of e s + 1))
       (put log e.day.used (entry_bytes s tid (published_of e s + 1) content))
 
   -- The content check decides 7 to 10.
@@ -58,22 +55,22 @@ module _ (e : Sender) (s tid : ℕ) (content log : List ℕ) where
 
   -- The content check refused.
   pub publish-content : (r : Checked) (x : Refusal) (p : PublishStep) → r ≡ content_check tid Down content 32768
-      → r ≡ Refused x → p ≡ unpublished e x → Publishes e s tid content log p log
+      → r ≡ Err x → p ≡ unpublished e x → Publishes e s tid content log p log
   publish-content r x p w h q = rw q (meets (refused x) (by-check ∙ ap (on_check refused entered) (sym w ∙ h)))
 
   -- The content passed.
-  module _ (h : content_check tid Down content 32768 ≡ Passed) where
+  module _ (h : content_check tid Down content 32768 ≡ (Ok tt)) where
     passed : publish_of e s tid content log ≡ entered
     passed = by-check ∙ ap (on_check refused entered) h
 
-    pub publish-unknown : (f : SeriesPlace) (p : PublishStep) → Finds e s f → f ≡ Unknown
+    pub publish-unknown : (f : SeriesPlace) (p : PublishStep) → Finds e s f → f ≡ None
         → p ≡ unpublished e UnknownSeries → Publishes e s tid content log p log
     publish-unknown f p g u q =
         let n : is_served e s ≡ false = rw u at g in
         rw q (meets (refused UnknownSeries) (passed ∙ rw n))
 
     -- The series was found.
-    module _ (at : ℕ) (g : Finds e s (At at)) where
+    module _ (at : ℕ) (g : Finds e s (Some at)) where
       abbrev one : DaySeries
       one = get_or e.day.series at no_series
 
@@ -151,7 +148,7 @@ module _ (e : Sender) (s tid : ℕ) (content log : List ℕ) where
                           used = one.used + size;
                         }))
                         (e.day.used + size) e.seat.places;
-                    answer = Number (published + 1);
+                    answer = Ok (published + 1);
                   })
                   o
               unfolding log_short entry_fits

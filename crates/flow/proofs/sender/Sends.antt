@@ -16,26 +16,11 @@ use Rattle.ftd.specs.Write.{fine, written_answer, written_output}
 use Rattle.ftd.proofs.chain.Laws.{chain_laws}
 use Rattle.ftd.proofs.chain.Pieces.{shaped-facts}
 use Rattle.ftd.specs.declared.chain.Message.{Message}
-use Rattle.ftd.specs.declared.chain.PacketWritten.{PacketWritten}
-use Rattle.ftd.specs.declared.chain.PacketWritten.TheVariants.{NoPacket}
-use Rattle.ftd.specs.declared.chain.PacketWritten.TheVariants.{Bytes as Packet-bytes}
-use Rattle.ftd.specs.declared.chain.PacketWritten.TheVariants.{Refused as Packet-refused}
 use Rattle.ftd.specs.declared.refusal.Refusal.{Refusal}
 use Rattle.ftd.specs.declared.refusal.Refusal.TheVariants.{UnknownSeries, NotLoggedIn, TooSmall, DamagedLog}
-use Rattle.ftd.specs.declared.write.Written.{Written}
-use Rattle.ftd.specs.declared.write.Written.TheVariants.{Bytes}
-use Rattle.ftd.specs.declared.write.Written.TheVariants.{Refused as NotWritten}
-use Rattle.flow.specs.declared.series.SeriesPlace.TheVariants.{At}
-use Rattle.flow.specs.declared.log.EntryPlace.TheVariants.{At as Lies}
+use Rattle.ftd.specs.Types.{Written}
 use Rattle.flow.specs.declared.sender.Place.{Place}
 use Rattle.flow.specs.declared.sender.Sender.{Sender}
-use Rattle.flow.specs.declared.sender.Sent.{Sent}
-use Rattle.flow.specs.declared.sender.Sent.TheVariants.{Wrote as Message-sent}
-use Rattle.flow.specs.declared.sender.Sent.TheVariants.{Refused as NotSent}
-use Rattle.flow.specs.declared.sender.SentPacket.TheVariants.{Wrote as Packet-sent}
-use Rattle.flow.specs.declared.sender.SentPacket.TheVariants.{Refused as NotPacket}
-use Rattle.flow.specs.declared.sender.NextMessage.{NextMessage}
-use Rattle.flow.specs.declared.sender.NextMessage.TheVariants.{Drained, Refused, Entry}
 use Rattle.flow.specs.Answers.{Said}
 use Rattle.flow.specs.Ends.{Wrote, wrote, over, no_series, no_place, is_served, published_of, place_of}
 use Rattle.flow.specs.Ends.{with_place}
@@ -48,18 +33,23 @@ use Rattle.flow.specs.SendHelpers.{Leaves, BothAre, EntryNext, FindsNext, headed
 use Rattle.flow.proofs.common.Writers.{fine-answer, fine-output, Otherwise, not-bytes}
 use Rattle.flow.proofs.log.Heads.{part-size, part_end}
 use Rattle.flow.proofs.sender.Lookups.{published-at, place_at, placed-at}
+use Rattle.std.specs.Prelude.{Some, None, Ok, Err}
+use Rattle.ftd.specs.Types.{PacketAnswer, some_packet}
+use Rattle.flow.specs.Types.{SendAnswer, message_sent, packet_sent}
+use Rattle.ftd.specs.declared.write.WriteError.TheVariants.{Refused}
+use Rattle.flow.specs.Types.{some_place, NextFound, next_message}
 
 -- ─── The rows before the packets, of both forms ───
 
 module _ (e : Sender) (s : ℕ) (log : List ℕ) where
   -- 13.
-  pub next-unknown : is_served e s ≡ false → FindsNext e s log (Refused UnknownSeries)
+  pub next-unknown : is_served e s ≡ false → FindsNext e s log (Err UnknownSeries)
   unfolding send_of send_packet_of
   next-unknown h out = rw h (refl, refl)
 
-  module _ (i : ℕ) (f : Finds e s (At i)) where
+  module _ (i : ℕ) (f : Finds e s (Some i)) where
     -- 14.
-    pub next-outside : (get_or e.seat.places i no_place).login ≡ false → FindsNext e s log (Refused NotLoggedIn)
+    pub next-outside : (get_or e.seat.places i no_place).login ≡ false → FindsNext e s log (Err NotLoggedIn)
     unfolding send_of send_packet_of
     next-outside h out =
         let g : (place_of e s).login ≡ false = rw (place_at e s i f.1) at h in
@@ -71,7 +61,7 @@ module _ (e : Sender) (s : ℕ) (log : List ℕ) where
 
       -- None left.
       pub next-none : (get_or e.day.series i no_series).published < (get_or e.seat.places i no_place).next
-          → FindsNext e s log Drained
+          → FindsNext e s log (Ok None)
       unfolding send_of send_packet_of is_none_left
       next-none h out =
           let g : published_of e s < (place_of e s).next = rw (published-at e s i f.1, place_at e s i f.1) at h in
@@ -95,12 +85,12 @@ module _ (e : Sender) (s : ℕ) (log : List ℕ) where
 
         -- 20.
         pub next-damaged : entry_of e log s ((get_or e.seat.places i no_place).next % 4294967296) ≡ none
-            → FindsNext e s log (Refused DamagedLog)
+            → FindsNext e s log (Err DamagedLog)
         next-damaged h out = rw h at (goes_on out)
 
         pub next-found : (start size : ℕ)
-            → EntryIn (entry_of e log s ((get_or e.seat.places i no_place).next % 4294967296)) log (Lies start size)
-            → FindsNext e s log (Entry i ((get_or e.seat.places i no_place).next % 4294967296) start size)
+            → EntryIn (entry_of e log s ((get_or e.seat.places i no_place).next % 4294967296)) log (some_place start size)
+            → FindsNext e s log (next_message i ((get_or e.seat.places i no_place).next % 4294967296) start size)
         next-found start size h =
             let fits = h.2 in (
               (
@@ -115,14 +105,14 @@ module _ (e : Sender) (s : ℕ) (log : List ℕ) where
             )
 
 -- What was found: none left, a refusal, or an entry, which is lent as a part of the log.
-module _ (e : Sender) (s : ℕ) (log : List ℕ) (f : NextMessage) (h : FindsNext e s log f) where
-  pub found_none : f ≡ Drained → FindsNext e s log Drained
+module _ (e : Sender) (s : ℕ) (log : List ℕ) (f : NextFound) (h : FindsNext e s log f) where
+  pub found_none : f ≡ (Ok None) → FindsNext e s log (Ok None)
   found_none is = rw is at h
 
-  pub found-refused : (r : Refusal) → f ≡ Refused r → FindsNext e s log (Refused r)
+  pub found-refused : (r : Refusal) → f ≡ Err r → FindsNext e s log (Err r)
   found-refused r is = rw is at h
 
-  module _ (i number start size : ℕ) (is : f ≡ Entry i number start size) where
+  module _ (i number start size : ℕ) (is : f ≡ next_message i number start size) where
     abbrev lent : List ℕ
     lent = take (start + size - start) (drop start log)
 
@@ -148,32 +138,32 @@ module _ (e : Sender) (s : ℕ) (x out : List ℕ) where
   abbrev bytes : List ℕ
   bytes = send_bytes e s x
 
-  abbrev full : Bool → Wrote Sender Sent
+  abbrev full : Bool → Wrote Sender SendAnswer
   full b =
-      cond b (wrote e (NotSent TooSmall) out)
-      (wrote (with_place e s (suc (place_of e s).next) 0) (Message-sent (place_of e s).next (length bytes))
+      cond b (wrote e (Err TooSmall) out)
+      (wrote (with_place e s (suc (place_of e s).next) 0) (message_sent (place_of e s).next (length bytes))
       (over bytes out))
 
   wrote-all : (b : Bool) (after : List ℕ) (n number : ℕ) (next : Sender)
-      → Bytes n ≡ cond b (NotWritten TooSmall) (Bytes (length bytes))
+      → ◌≡◌ {A = Written} (Ok n) (cond b (Err (Refused TooSmall)) (Ok (length bytes)))
       → after ≡ cond b out (over bytes out) → number ≡ (place_of e s).next → next ≡ with_place e s (suc (place_of e s).next) 0
-      → Leaves (full b) next (Message-sent number n) after
+      → Leaves (full b) next (message_sent number n) after
   wrote-all true after n number next a o k m = let z : ◌≡◌ {A = ℕ} 0 1 = cc in absurd (omega arith)
   wrote-all false after n number next a o k m = let q : n ≡ length bytes = cc in (m, rw (q, k), o)
 
   wrote_none : (b : Bool) (after : List ℕ) (w : Written) → Otherwise w
-      → w ≡ cond b (NotWritten TooSmall) (Bytes (length bytes))
-      → after ≡ cond b out (over bytes out) → Leaves (full b) e (NotSent TooSmall) after
+      → w ≡ cond b (Err (Refused TooSmall)) (Ok (length bytes))
+      → after ≡ cond b out (over bytes out) → Leaves (full b) e (Err TooSmall) after
   wrote_none true after w h a o = (refl, refl, o)
   wrote_none false after w h a o = absurd (not-bytes (length bytes) (rw a at h))
 
   -- What the form of one packet does with them; and there are few packets before that one.
-  abbrev Comes : PacketWritten → List ℕ → Type 0
-  Comes (Packet-bytes n last) after =
-      (send_packet_entry e s out (some x) ≡ wrote (after_packet e s last) (Packet-sent (place_of e s).next n last) after)
+  abbrev Comes : PacketAnswer → List ℕ → Type 0
+  Comes (Ok (Some found)) after =
+      (send_packet_entry e s out (some x) ≡ wrote (after_packet e s found.last) (packet_sent (place_of e s).next found.len found.last) after)
       × ((place_of e s).piece < 17)
-  Comes NoPacket after = send_packet_entry e s out (some x) ≡ wrote e (NotPacket DamagedLog) after
-  Comes (Packet-refused r) after = send_packet_entry e s out (some x) ≡ wrote e (NotPacket TooSmall) after
+  Comes (Ok None) after = send_packet_entry e s out (some x) ≡ wrote e (Err DamagedLog) after
+  Comes (Err r) after = send_packet_entry e s out (some x) ≡ wrote e (Err TooSmall) after
 
   abbrev all : ℕ
   all = length (send_packets e s x)
@@ -181,10 +171,10 @@ module _ (e : Sender) (s : ℕ) (x out : List ℕ) where
   abbrev packet : List ℕ
   packet = get_or (send_packets e s x) (place_of e s).piece []
 
-  abbrev one : Bool → Bool → PacketWritten
+  abbrev one : Bool → Bool → PacketAnswer
   one there small =
-      cond there (cond small (Packet-refused TooSmall) (Packet-bytes (length packet) (eqb ((place_of e s).piece + 1) all)))
-      NoPacket
+      cond there (cond small (Err TooSmall) (some_packet (length packet) (eqb ((place_of e s).piece + 1) all)))
+      (Ok None)
 
   one-comes : (there small : Bool) → ltb (place_of e s).piece all ≡ there → ltb (length out) (length packet) ≡ small
       → all ≤ 17
@@ -217,24 +207,24 @@ module _ (e : Sender) (s i number : ℕ) (x : List ℕ) (h : EntryNext e s i num
     packets = ap joined same-packets
 
     answered : w
-        ≡ cond (ltb (length out) (length (send_bytes e s x))) (NotWritten TooSmall) (Bytes (length (send_bytes e s x)))
+        ≡ cond (ltb (length out) (length (send_bytes e s x))) (Err (Refused TooSmall)) (Ok (length (send_bytes e s x)))
     answered = (rw (part_end 16 x, packets) at a) ∙ fine-answer (chain_verdict (drop 16 x)) passes (send_bytes e s x) out
 
     put-out : after ≡ cond (ltb (length out) (length (send_bytes e s x))) out (over (send_bytes e s x) out)
     put-out = (rw (part_end 16 x, packets) at o) ∙ fine-output (chain_verdict (drop 16 x)) passes (send_bytes e s x) out
 
-    pub entry-sent : (n : ℕ) (next : Sender) → w ≡ Bytes n → next ≡ placed_at e i (number + 1) 0
-        → Leaves (send_entry e s out (some x)) next (Message-sent number n) after
+    pub entry-sent : (n : ℕ) (next : Sender) → w ≡ Ok n → next ≡ placed_at e i (number + 1) 0
+        → Leaves (send_entry e s out (some x)) next (message_sent number n) after
     entry-sent n next q g =
         let z : number + 1 ≡ suc (place_of e s).next = let k = h.2 in omega arith in
         wrote-all e s x out (ltb (length out) (length (send_bytes e s x))) after n number next (rw q at answered)
         put-out h.2 ((rw z at g) ∙ placed-at e s i h.0 (suc (place_of e s).next) 0)
 
-    pub entry-small : Otherwise w → Leaves (send_entry e s out (some x)) e (NotSent TooSmall) after
+    pub entry-small : Otherwise w → Leaves (send_entry e s out (some x)) e (Err TooSmall) after
     entry-small q = wrote_none e s x out (ltb (length out) (length (send_bytes e s x))) after w q answered put-out
 
   -- One packet.
-  module _ (piece : ℕ) (p : piece ≡ (get_or e.seat.places i no_place).piece) (w : PacketWritten)
+  module _ (piece : ℕ) (p : piece ≡ (get_or e.seat.places i no_place).piece) (w : PacketAnswer)
       (a : w ≡ packet_answer m content piece out) (o : after ≡ packet_output m content piece out) where
     same-piece : piece ≡ (place_of e s).piece
     same-piece = p ∙ ap (λ (x : Place). x.piece) (place_at e s i h.0)
@@ -260,18 +250,18 @@ module _ (e : Sender) (s i number : ℕ) (x : List ℕ) (h : EntryNext e s i num
     stepped false next q =
         (rw (h.2, same-piece) at q) ∙ placed-at e s i h.0 (place_of e s).next ((place_of e s).piece + 1)
 
-    pub piece-few : (n : ℕ) (last : Bool) → w ≡ Packet-bytes n last → piece < 17
+    pub piece-few : (n : ℕ) (last : Bool) → w ≡ some_packet n last → piece < 17
     piece-few n last q = rw same-piece (rw q at comes).1
 
-    pub piece_sent : (n : ℕ) (last : Bool) (next : Sender) → w ≡ Packet-bytes n last
+    pub piece_sent : (n : ℕ) (last : Bool) (next : Sender) → w ≡ some_packet n last
         → next ≡ stepped_at e i number piece last
-        → Leaves (send_packet_entry e s out (some x)) next (Packet-sent number n last) after
+        → Leaves (send_packet_entry e s out (some x)) next (packet_sent number n last) after
     piece_sent n last next q g =
         rw (rw q at comes).0 (stepped last next g, rw h.2, refl)
 
-    pub piece-none : w ≡ NoPacket → Leaves (send_packet_entry e s out (some x)) e (NotPacket DamagedLog) after
+    pub piece-none : w ≡ (Ok None) → Leaves (send_packet_entry e s out (some x)) e (Err DamagedLog) after
     piece-none q = rw (rw q at comes) (refl, refl, refl)
 
-    pub piece-small : (r : Refusal) → w ≡ Packet-refused r
-        → Leaves (send_packet_entry e s out (some x)) e (NotPacket TooSmall) after
+    pub piece-small : (r : Refusal) → w ≡ Err r
+        → Leaves (send_packet_entry e s out (some x)) e (Err TooSmall) after
     piece-small r q = rw (rw q at comes) (refl, refl, refl)

@@ -1,81 +1,51 @@
 -- The opening's rule (row 11), read from the first place on. Assumes nothing.
-use Prim.Native.Nat.{ℕ, suc, ◌+◌, ◌<◌, ◌≤◌}
+use Prim.Native.Nat.{ℕ, suc, ◌+◌, ◌-◌, ◌<◌, ◌≤◌}
 use native.Mathlib.Omega.{arith}
-use mathlib.Core.Path.{◌≡◌, refl, sym, ◌∙◌}
-use mathlib.Core.List.{List, ◌∷◌}
+use mathlib.Core.Path.{◌≡◌, refl, sym, ap, ◌∙◌}
+use mathlib.Core.List.{List, [], ◌∷◌}
 use mathlib.Core.Bool.{Bool, true, false, not, ◌||◌}
-use borrow.Author.Tests.{eq-eqb, ne_eqb, lt-ltb, le-ltb, ltb-false}
-use lib.ListN.{length, get_or, drop, drop_of_length-le}
+use borrow.Author.Tests.{ltb-false}
+use lib.ListN.{length, length-drop, get_or, take, drop}
 use lib.Seq.{drop-cons}
 use lib.Dec.{eqb, ltb}
+use Rattle.std.specs.Prelude.{nat_eq}
+use Rattle.std.specs.List.{list_any}
+use Rattle.std.proofs.lemmas.List.{take_all}
 use Rattle.flow.specs.Ends.{member, differing, wrong_series}
 use Rattle.flow.proofs.common.Bools.{or-neither}
 
--- 0 or a series twice.
-abbrev pub against : List ℕ → Bool
-against l = member 0 l || not (differing l)
+-- The list's word for what a slice contains.
+pub member-any : (s : ℕ) (l : List ℕ) → list_any (λ y. nat_eq y s) l ≡ member s l
+member-any s [] = refl
+member-any s (x ∷ l) = rw (member-any s l)
 
-either : (a : Bool) → (a || true) ≡ true
-either true = refl
-either false = refl
-
--- `whole` is what is asked of the whole list, and so far of the rest from the place i on.
-module _ (l : List ℕ) (i : ℕ) (whole : Bool) where
+-- A series twice, read from the first place on: in the rest of the list from the place i on as in the whole.
+module _ (l : List ℕ) (i : ℕ) (w : differing (drop i l) ≡ differing l) where
   -- What is left from the place i on.
   from-here : i < length l → drop i l ≡ get_or l i 0 ∷ drop (i + 1) l
   from-here h =
       let e : i + 1 ≡ suc i = omega arith in
       rw e (drop-cons l i 0 h)
 
-  -- ─── A series in the rest of the list ───
-
-  pub member-here : (s : ℕ) → member s (drop i l) ≡ whole → i < length l → get_or l i 0 ≡ s → true ≡ whole
-  member-here s w h e = rw (from-here h, eq-eqb (get_or l i 0) s e) at w
-
-  pub member-turn : (s : ℕ) → member s (drop i l) ≡ whole → i < length l → (get_or l i 0 ≡ s → ⊥)
-      → member s (drop (i + 1) l) ≡ whole
-  member-turn s w h n = rw (from-here h, ne_eqb (get_or l i 0) s n) at w
-
-  pub member-end : (s : ℕ) → member s (drop i l) ≡ whole → length l ≤ i → false ≡ whole
-  member-end s w h = rw (drop_of_length-le l h) at w
-
-  -- ─── The rule in the rest of the list ───
-
-  pub against-zero : against (drop i l) ≡ whole → i < length l → get_or l i 0 ≡ 0 → true ≡ whole
-  against-zero w h e = rw (from-here h, eq-eqb (get_or l i 0) 0 e) at w
+  -- The slice behind the place i is that rest.
+  behind : take (length l - (i + 1)) (drop (i + 1) l) ≡ drop (i + 1) l
+  behind = take_all (length l - (i + 1)) (drop (i + 1) l) (simp length-drop (omega arith))
 
   -- `r` is whether the series at the place i stands behind it again.
-  pub against-twice : (r : Bool) → against (drop i l) ≡ whole → i < length l → r ≡ member (get_or l i 0) (drop (i + 1) l)
-      → r ≡ true → true ≡ whole
-  against-twice r w h e t =
-      sym (either (eqb (get_or l i 0) 0 || member 0 (drop (i + 1) l))) ∙ (rw (from-here h, ← e, t) at w)
+  module _ (r : Bool) (h : i < length l)
+      (e : r ≡ list_any (λ y. nat_eq y (get_or l i 0)) (take (length l - (i + 1)) (drop (i + 1) l))) where
+    again : r ≡ member (get_or l i 0) (drop (i + 1) l)
+    again = (rw behind at e) ∙ member-any (get_or l i 0) (drop (i + 1) l)
 
-  pub against-turn : (r : Bool) → against (drop i l) ≡ whole → i < length l → (get_or l i 0 ≡ 0 → ⊥)
-      → r ≡ member (get_or l i 0) (drop (i + 1) l) → r ≡ false → against (drop (i + 1) l) ≡ whole
-  against-turn r w h n e t = rw (from-here h, ne_eqb (get_or l i 0) 0 n, ← e, t) at w
+    pub twice-here : r ≡ true → true ≡ not (differing l)
+    twice-here t = ap not (rw (from-here h, ← again, t) at w)
 
-  pub against-end : against (drop i l) ≡ whole → length l ≤ i → false ≡ whole
-  against-end w h = rw (drop_of_length-le l h) at w
+    pub twice-turn : r ≡ false → differing (drop (i + 1) l) ≡ differing l
+    twice-turn t = rw (from-here h, ← again, t) at w
 
 -- ─── The rule ───
 
 module _ (l : List ℕ) where
-  pub wrong-none : length l ≡ 0 → true ≡ wrong_series l
-  unfolding wrong_series
-  wrong-none h = rw (eq-eqb (length l) 0 h)
-
-  pub wrong-many : 8 < length l → true ≡ wrong_series l
-  unfolding wrong_series
-  wrong-many h = rw (lt-ltb 8 (length l) h) (go (eqb (length l) 0))
-    where
-      go : (a : Bool) → true ≡ (((a || true) || member 0 l) || not (differing l))
-      go true = refl
-      go false = refl
-
-  pub wrong-else : (length l ≡ 0 → ⊥) → length l ≤ 8 → against l ≡ wrong_series l
-  unfolding wrong_series
-  wrong-else n h = rw (ne_eqb (length l) 0 n, le-ltb 8 (length l) h)
-
   -- Where it holds there are at most 8 series.
   pub right-few : (wrong : Bool) → wrong ≡ wrong_series l → wrong ≡ false → length l ≤ 8
   unfolding wrong_series

@@ -16,8 +16,6 @@ use Rattle.ftd.proofs.runs.Joined.{Local}
 use Rattle.ftd.proofs.runs.Heads.{be32-drop, front-short, front-whole}
 use Rattle.flow.specs.declared.sender.Sender.{Sender}
 use Rattle.flow.specs.declared.sender.PublishStep.{PublishStep}
-use Rattle.flow.specs.declared.sender.Published.TheVariants.{Number}
-use Rattle.flow.specs.declared.sender.Published.TheVariants.{Refused as NotPublished}
 use Rattle.flow.specs.declared.several.PublishedSeveral.TheVariants.{Refused}
 use Rattle.flow.specs.Ends.{wrote}
 use Rattle.flow.specs.Promises.{Publishes, PublishesSeveral}
@@ -26,6 +24,7 @@ use Rattle.flow.specs.Several.{record_form, record_missing, publish_record, publ
 use Rattle.flow.specs.SeveralHelpers.{PublishesRecord}
 use Rattle.flow.proofs.log.Heads.{part_end}
 use Rattle.flow.proofs.several.Walks.{input-head, turn-stop, turn_on}
+use Rattle.std.specs.Prelude.{Ok, Err}
 
 -- ─── The record at a place ───
 
@@ -113,13 +112,13 @@ module _ (e₀ : Sender) (s l₀ : List ℕ) where
           unfolding publish_record
           whole = rw (c.0, c.1.1, c.2)
 
-          pub stop-turn : (x : Refusal) → r.answer ≡ NotPublished x
+          pub stop-turn : (x : Refusal) → r.answer ≡ Err x
               → PublishesSeveral e₀ s l₀ (record { end = r.end; answer = Refused x; taken = at + n }) after
           stop-turn x q =
               turn-stop publishing some-record s at n m e l _ inv z (wrote r.end r.answer after) whole
               (Refused x) (rw q)
 
-          pub on-turn : (k : ℕ) → r.answer ≡ Number k
+          pub on-turn : (k : ℕ) → r.answer ≡ Ok k
               → walk_over publishing r.end after (at + n) (run_of record_form (drop (at + n) s))
               ≡ publish_several_of e₀ s l₀
           on-turn k q =

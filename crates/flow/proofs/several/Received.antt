@@ -12,8 +12,8 @@ use Rattle.ftd.specs.Chain.Laws.{packet_form}
 use Rattle.ftd.proofs.Lists.{byte-append}
 use Rattle.ftd.proofs.runs.Joined.{Local}
 use Rattle.ftd.specs.declared.refusal.Refusal.{Refusal}
-use Rattle.ftd.specs.declared.tags.TradeDate.{TradeDate}
-use Rattle.ftd.specs.declared.tags.PacketPlace.{PacketPlace}
+use Rattle.ftd.specs.Types.{TradeDate}
+use Rattle.ftd.specs.Types.{PacketPlace}
 use Rattle.ftd.specs.declared.packet.Header.{Header}
 use Rattle.ftd.specs.declared.packet.Span.{Span}
 use Rattle.flow.specs.declared.receiver.Receiver.{Receiver}
@@ -26,8 +26,7 @@ use Rattle.flow.specs.declared.receiver.Received.TheVariants.{Refused as NotTake
 use Rattle.flow.specs.declared.several.ReceivedSeveral.{ReceivedSeveral}
 use Rattle.flow.specs.declared.several.ReceivedSeveral.TheVariants.{Complete as StopComplete}
 use Rattle.flow.specs.declared.several.ReceivedSeveral.TheVariants.{Refused as StopRefused}
-use Rattle.flow.specs.declared.several.ReceiveTurn.{ReceiveTurn}
-use Rattle.flow.specs.declared.several.ReceiveTurn.TheVariants.{On, Stop}
+use Rattle.flow.specs.Types.{ReceiveTurn}
 use Rattle.flow.specs.Ends.{Wrote, wrote}
 use Rattle.flow.specs.Receiving.{receive_of}
 use Rattle.flow.specs.Promises.{Receives, ReceivesSeveral}
@@ -37,6 +36,7 @@ use Rattle.flow.specs.SeveralHelpers.{LiesIn, AnswerIn, turn_stop}
 use Rattle.flow.proofs.calls.Receive as calls
 use Rattle.flow.proofs.login.Whole.{read-inside}
 use Rattle.flow.proofs.several.Walks.{input-length, turn-stop, turn_on}
+use Rattle.std.specs.Prelude.{Some, None}
 
 -- ─── The content that Receive tells lies in the packet ───
 
@@ -96,13 +96,13 @@ module _ (e₀ : Receiver) (s l₀ : List ℕ) where
           rw c.2 (rw (input-length receiving some-packet s at n m e l _ inv) at h)
 
       module _ (t : ReceiveTurn) (k : turn_stop t ≡ received_stops at r.answer) where
-        pub stop-turn : (a : ReceivedSeveral) → t ≡ Stop a
+        pub stop-turn : (a : ReceivedSeveral) → t ≡ Some a
             → ReceivesSeveral e₀ s l₀ (record { end = r.end; answer = a; taken = at + n }) after
         stop-turn a q =
             turn-stop receiving some-packet s at n m e l _ inv z (wrote r.end r.answer after) whole a
             (sym k ∙ ap turn_stop q)
 
-        pub on-turn : t ≡ On
+        pub on-turn : t ≡ None
             → walk_over receiving r.end after (at + n) (run_of packet_form (drop (at + n) s))
             ≡ receive_several_of e₀ s l₀
         on-turn q =
@@ -127,8 +127,8 @@ module _ (at n : ℕ) (a : Received) where
   complete-in h last tid o c q = rw q at h
 
   pub complete-stops : (last tid : ℕ) (o : Origin) (c d : Span) → a ≡ Complete last tid o c → d ≡ placed_from at o c
-      → turn_stop (Stop (StopComplete last tid o d)) ≡ received_stops at a
+      → turn_stop (Some (StopComplete last tid o d)) ≡ received_stops at a
   complete-stops last tid o c d q k = rw (q, k)
 
-  pub refused-stops : (r : Refusal) → a ≡ NotTaken r → turn_stop (Stop (StopRefused r)) ≡ received_stops at a
+  pub refused-stops : (r : Refusal) → a ≡ NotTaken r → turn_stop (Some (StopRefused r)) ≡ received_stops at a
   refused-stops r q = rw q

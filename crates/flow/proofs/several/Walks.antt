@@ -3,7 +3,6 @@ use Prim.Native.Nat.{ℕ, ◌+◌, ◌-◌, ◌<◌, ◌≤◌}
 use mathlib.Core.Path.{◌≡◌, refl, sym, ap, ◌∙◌}
 use mathlib.Core.List.{List}
 use mathlib.Core.Option.{none, some}
-use borrow.Author.Tests.{eq-eqb, ne_eqb}
 use lib.ListN.{length, take, drop}
 use Rattle.ftd.specs.Runs.{front, Run, run_of}
 use Rattle.ftd.proofs.runs.Laws.{run-over, run-next, entry-head, entry_length}
@@ -78,11 +77,3 @@ module _ {E A B : Type 0} (R : Repeated E A B) (some-head : 0 < R.form.head) (s 
     pub turn_on : R.stops at r.answer ≡ none
         → walk_over R r.end r.bytes (at + n) (run_of R.form (drop (at + n) s)) ≡ meant
     turn_on q = rw q at next
-
--- What is left, where nothing stands whole.
-module _ {E A B : Type 0} (R : Repeated E A B) (l : List ℕ) where
-  pub rest_ended : length l ≡ 0 → R.ended ≡ rest_of R l
-  rest_ended h = rw (eq-eqb (length l) 0 h)
-
-  pub rest-cut : (length l ≡ 0 → ⊥) → (k : ℕ) → k ≡ R.missing l → R.cut k ≡ rest_of R l
-  rest-cut h k q = rw (ne_eqb (length l) 0 h, q)

@@ -12,13 +12,10 @@ use lib.ListN.{length, get_or, set, get_elem?, replicate}
 use lib.Seq.{get_or-set_same, get_or-set_other}
 use lib.Dec.{ltb, eqb}
 use Rattle.ftd.specs.declared.refusal.Refusal.TheVariants.{Opening}
-use Rattle.ftd.specs.declared.tags.TradeDate.{TradeDate}
-use Rattle.ftd.specs.declared.tags.TradeDate.TheVariants.{None, At}
+use Rattle.ftd.specs.Types.{TradeDate}
 use Rattle.flow.specs.declared.sender.DaySeries.{DaySeries}
 use Rattle.flow.specs.declared.sender.Sender.{Sender}
-use Rattle.flow.specs.declared.sender.Opened.{Opened}
-use Rattle.flow.specs.declared.sender.Opened.TheVariants.{Done}
-use Rattle.flow.specs.declared.sender.Opened.TheVariants.{Refused as NotOpened}
+use Rattle.flow.specs.Types.{Opened}
 use Rattle.flow.specs.Ends.{◌when◌else◌, Left, left, most_series, member, index_of, differing, wrong_series, filled, up_to, no_series}
 use Rattle.flow.specs.Ends.{opened_series, sum_of, fresh_sender, day_series, is_served, reserve_of, used_of, grown_series}
 use Rattle.flow.specs.Ends.{with_entry, with_place}
@@ -28,6 +25,7 @@ use Rattle.flow.proofs.common.Bools.{or-neither, and_both, not-both}
 use Rattle.flow.proofs.ends.SenderLookups.{series-entry, served-index, served-apart}
 use Rattle.flow.proofs.ends.SenderOpened.{opened_sender, opened-series}
 use Rattle.flow.proofs.calls.Serving.{OpenDone, open-refused, open-taken, open-cases}
+use Rattle.std.specs.Prelude.{Some, None, Ok, Err}
 
 -- ─── When an opening is refused ───
 
@@ -45,7 +43,7 @@ or_right false b q = q
 module _ (e : Sender) (date : ℕ) (ss rs log : List ℕ) where
   date-then : (d : TradeDate) → e.day.date ≡ d → up_to date d ≡ true → Forbidden e date ss rs log
   date-then None p q = absurd (let z : ◌≡◌ {A = ℕ} 0 1 = cc in omega arith)
-  date-then (At d) p q = by-date d p (leb-true date d q)
+  date-then (Some d) p q = by-date d p (leb-true date d q)
 
   reserves-then : (not (eqb (length rs) (length ss)) ≡ true) ⊎ (ltb (length log) (sum_of rs) ≡ true)
       → Forbidden e date ss rs log
@@ -80,35 +78,35 @@ module _ (e : Sender) (date : ℕ) (ss rs log : List ℕ) where
       (or_right (not (eqb (length rs) (length ss))) (ltb (length log) (sum_of rs)) (lt-ltb (length log) (sum_of rs) l))
 
   abbrev answers : Bool → Left Sender Opened
-  answers b = left e (NotOpened Opening) when b else left (opened_sender date ss rs) Done
+  answers b = left e (Err Opening) when b else left (opened_sender date ss rs) (Ok tt)
 
   open_is : open_day_of e date ss rs log ≡ answers (wrong_day_opening e date ss rs log)
   unfolding open_day_of
   open_is = refl
 
-  refused-test : (b : Bool) → (answers b).answer ≡ NotOpened Opening → b ≡ true
+  refused-test : (b : Bool) → (answers b).answer ≡ Err Opening → b ≡ true
   refused-test true q = refl
   refused-test false q = absurd (let z : ◌≡◌ {A = ℕ} 0 1 = cc in omega arith)
 
-  test-taken : (b : Bool) → (b ≡ true → ⊥) → (answers b).answer ≡ Done
+  test-taken : (b : Bool) → (b ≡ true → ⊥) → (answers b).answer ≡ (Ok tt)
   test-taken true n = absurd (n refl)
   test-taken false n = refl
 
   answer-is : (open_day_of e date ss rs log).answer ≡ (answers (wrong_day_opening e date ss rs log)).answer
   answer-is = ap (λ (r : Left Sender Opened). r.answer) open_is
 
-  pub refused-11 : ((open_day_of e date ss rs log).answer ≡ NotOpened Opening) ↔ Forbidden e date ss rs log
+  pub refused-11 : ((open_day_of e date ss rs log).answer ≡ Err Opening) ↔ Forbidden e date ss rs log
   refused-11 = (
     λ q. wrong-then (refused-test (wrong_day_opening e date ss rs log) (sym answer-is ∙ q)),
     λ f. answer-is ∙ ap (λ (b : Bool). (answers b).answer) (wrong-if f),
   )
 
-  pub unchanged : (open_day_of e date ss rs log).answer ≡ NotOpened Opening → (open_day_of e date ss rs log).end ≡ e
+  pub unchanged : (open_day_of e date ss rs log).answer ≡ Err Opening → (open_day_of e date ss rs log).end ≡ e
   unchanged q =
       ap (λ (r : Left Sender Opened). r.end) open_is
       ∙ ap (λ (b : Bool). (answers b).end) (refused-test (wrong_day_opening e date ss rs log) (sym answer-is ∙ q))
 
-  pub taken : (Forbidden e date ss rs log → ⊥) → (open_day_of e date ss rs log).answer ≡ Done
+  pub taken : (Forbidden e date ss rs log → ⊥) → (open_day_of e date ss rs log).answer ≡ (Ok tt)
   taken n = answer-is ∙ test-taken (wrong_day_opening e date ss rs log) λ q. n (wrong-then q)
 
 -- ─── The reserves given ───
@@ -130,7 +128,7 @@ reserve-at (x ∷ ss) (y ∷ rs) n (suc i) s r d p q =
     ne_eqb x s λ z. not-both (member x ss) (rw z (member-at ss i s p)) (not-true _ a.0) in
     rw other (reserve-at ss rs n i s r a.1 p q)
 
-pub given : (e : Sender) (date : ℕ) (ss rs log : List ℕ) → (open_day_of e date ss rs log).answer ≡ Done
+pub given : (e : Sender) (date : ℕ) (ss rs log : List ℕ) → (open_day_of e date ss rs log).answer ≡ (Ok tt)
     → (i s r : ℕ) → get_elem? ss i ≡ some s → get_elem? rs i ≡ some r
     → reserve_of (open_day_of e date ss rs log).end s ≡ r
 unfolding wrong_series reserve_of
@@ -147,7 +145,7 @@ given e date ss rs log q i s r a b = go (open_day_of e date ss rs log) (open-cas
         (opened-series date ss rs)
         ∙ reserve-at ss rs (most_series - length (opened_series ss rs)) i s r (apart h) a b
 
-    go : (x : Left Sender Opened) → OpenDone e date ss rs log x → x.answer ≡ Done → reserve_of x.end s ≡ r
+    go : (x : Left Sender Opened) → OpenDone e date ss rs log x → x.answer ≡ (Ok tt) → reserve_of x.end s ≡ r
     go x (open-refused y) z = absurd (let z : ◌≡◌ {A = ℕ} 0 1 = cc in omega arith)
     go x (open-taken h1 h2 h3 h4) z = there h1
 

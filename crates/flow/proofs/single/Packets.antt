@@ -27,13 +27,8 @@ use Rattle.flow.specs.declared.sender.Place.{Place}
 use Rattle.flow.specs.declared.sender.Day.{Day}
 use Rattle.flow.specs.declared.sender.Seat.{Seat}
 use Rattle.flow.specs.declared.sender.Sender.{Sender}
-use Rattle.flow.specs.declared.sender.Published.{Published}
-use Rattle.flow.specs.declared.sender.Published.TheVariants.{Refused as NotPublished}
-use Rattle.flow.specs.declared.sender.LoggedIn.{LoggedIn}
-use Rattle.flow.specs.declared.sender.LoggedIn.TheVariants.{Wrote as Answered}
-use Rattle.flow.specs.declared.sender.SentPacket.{SentPacket}
-use Rattle.flow.specs.declared.sender.SentPacket.TheVariants.{Wrote as Packet-sent}
-use Rattle.flow.specs.declared.sender.SentPacket.TheVariants.{Refused as NotPacket}
+use Rattle.flow.specs.Types.{Published}
+use Rattle.flow.specs.Types.{LoggedIn}
 use Rattle.flow.specs.Ends.{◌when◌else◌, Wrote, wrote, over, most_messages, most_series, index_of, no_place, day_series, is_served}
 use Rattle.flow.specs.Ends.{published_of, reserve_of, used_of, place_of, with_entry, shares_of, with_place}
 use Rattle.flow.specs.Log.{entry_series, entries_of, log_short, entry_fits, strange_series, nonzero}
@@ -44,6 +39,8 @@ use Rattle.flow.specs.PacketByPacket.{has_left, rest_of, to_come, none_behind, O
 use Rattle.flow.proofs.common.Bools.{and_both}
 use Rattle.flow.proofs.ends.SenderLookups.{served-next, published-next, place-next}
 use Rattle.flow.proofs.calls.Serving.{LoginDone, login-refused, login-taken, login-cases}
+use Rattle.std.specs.Prelude.{Ok, Err}
+use Rattle.flow.specs.Types.{PacketSent, packet_sent}
 
 -- ─── Lists ───
 
@@ -113,14 +110,14 @@ module _ (e : Sender) (s : ℕ) (log out : List ℕ) (l : has_left e s ≡ true)
   unfolding send_packet_of
   passes = let h = left-parts in rw (h.0, h.1.0, h.1.1) refl
 
-  no-entry : (o : Option (List ℕ)) → rest_of e s o ≡ [] → send_packet_entry e s out o ≡ wrote e (NotPacket DamagedLog) out
+  no-entry : (o : Option (List ℕ)) → rest_of e s o ≡ [] → send_packet_entry e s out o ≡ wrote e (Err DamagedLog) out
   unfolding no_packet
   no-entry none q = refl
   no-entry (some x) q =
       rw (le-leb (length (send_packets e s x)) (place_of e s).piece (few (place_of e s).piece (send_packets e s x) q))
 
 pub no-packet : (e : Sender) (s : ℕ) (log out : List ℕ) → has_left e s ≡ true → to_come e s log ≡ []
-    → send_packet_of e s log out ≡ wrote e (NotPacket DamagedLog) out
+    → send_packet_of e s log out ≡ wrote e (Err DamagedLog) out
 no-packet e s log out l q = passes e s log out l ∙ no-entry e s log out l (entry_of e log s (place_of e s).next) q
 
 module _ (e : Sender) (s : ℕ) (log out p : List ℕ) (rest : List (List ℕ)) (l : has_left e s ≡ true) where
@@ -138,10 +135,10 @@ module _ (e : Sender) (s : ℕ) (log out p : List ℕ) (rest : List (List ℕ)) 
   last-is n long [] h = eq-eqb (n + 1) long (omega arith)
   last-is n long (x ∷ r) h = ne_eqb (n + 1) long λ z. omega arith
 
-  abbrev answers : Bool → Wrote Sender SentPacket
+  abbrev answers : Bool → Wrote Sender PacketSent
   answers b =
-      wrote e (NotPacket TooSmall) out when b else
-      wrote (after_packet e s (none_behind rest)) (Packet-sent (place_of e s).next (length p) (none_behind rest))
+      wrote e (Err TooSmall) out when b else
+      wrote (after_packet e s (none_behind rest)) (packet_sent (place_of e s).next (length p) (none_behind rest))
       (over p out)
 
   module _ (q : to_come e s log ≡ p ∷ rest) where
@@ -159,13 +156,13 @@ module _ (e : Sender) (s : ℕ) (log out p : List ℕ) (rest : List (List ℕ)) 
         last-is (place_of e s).piece (length (send_packets e s x)) rest f.here.long in
         passes e s log out l ∙ rw (f.is, there, f.here.head, last) refl
 
-    small-answer : length out < length p → send_packet_of e s log out ≡ wrote e (NotPacket TooSmall) out
+    small-answer : length out < length p → send_packet_of e s log out ≡ wrote e (Err TooSmall) out
     small-answer h = sends ∙ ap answers (lt-ltb (length out) (length p) h)
 
     big-answer : length p ≤ length out → send_packet_of e s log out ≡ answers false
     big-answer h = sends ∙ ap answers (le-ltb (length out) (length p) h)
 
-    told-small : (b : Bool) → ltb (length out) (length p) ≡ b → (answers b).answer ≡ NotPacket TooSmall
+    told-small : (b : Bool) → ltb (length out) (length p) ≡ b → (answers b).answer ≡ Err TooSmall
         → length out < length p
     told-small true b h = ltb-true (length out) (length p) b
     told-small false b h = absurd (let z : ◌≡◌ {A = ℕ} 0 1 = cc in omega arith)
@@ -215,22 +212,22 @@ one-packet e s log out p rest l q =
     record {
       small = (
         λ h. told-small e s log out p rest l q (ltb (length out) (length p)) refl
-            (sym (ap (λ (r : Wrote Sender SentPacket). r.answer) (sends e s log out p rest l q)) ∙ h),
-        λ h. ap (λ (r : Wrote Sender SentPacket). r.answer) (small-answer e s log out p rest l q h),
+            (sym (ap (λ (r : Wrote Sender PacketSent). r.answer) (sends e s log out p rest l q)) ∙ h),
+        λ h. ap (λ (r : Wrote Sender PacketSent). r.answer) (small-answer e s log out p rest l q h),
       );
       kept = small-answer e s log out p rest l q;
-      told = λ h. ap (λ (r : Wrote Sender SentPacket). r.answer) (big-answer e s log out p rest l q h);
-      written = λ h. ap (λ (r : Wrote Sender SentPacket). r.bytes) (big-answer e s log out p rest l q h);
+      told = λ h. ap (λ (r : Wrote Sender PacketSent). r.answer) (big-answer e s log out p rest l q h);
+      written = λ h. ap (λ (r : Wrote Sender PacketSent). r.bytes) (big-answer e s log out p rest l q h);
       others = λ h m.
           let is : (send_packet_of e s log out).end ≡ with_place e s (place_of e s).next ((place_of e s).piece + 1) =
-          ap (λ (r : Wrote Sender SentPacket). r.end) (big-answer e s log out p rest l q h)
+          ap (λ (r : Wrote Sender PacketSent). r.end) (big-answer e s log out p rest l q h)
           ∙ after_more e s log out p rest l q m in (
             ap (λ (f : Sender). has_left f s) is ∙ still-left e s log out p rest l q ((place_of e s).piece + 1),
             ap (λ (f : Sender). to_come f s log) is ∙ still-come e s log out p rest l q,
           );
       stepped = λ h m.
           let is : (send_packet_of e s log out).end ≡ with_place e s (suc (place_of e s).next) 0 =
-          ap (λ (r : Wrote Sender SentPacket). r.end) (big-answer e s log out p rest l q h)
+          ap (λ (r : Wrote Sender PacketSent). r.end) (big-answer e s log out p rest l q h)
           ∙ after_last e s log out p rest l q m in
           ap (λ (f : Sender). place_of f s) is ∙ place-then e s log out p rest l q (suc (place_of e s).next) 0;
     }
@@ -249,7 +246,7 @@ module _ (d : Day) (a b : Seat) (t tid : ℕ) (content log : List ℕ) where
   both true p q = p
   both false p q = q
 
-  refuses : (r : Refusal) → SamePublished (wrote e (NotPublished r) log) (wrote f (NotPublished r) log)
+  refuses : (r : Refusal) → SamePublished (wrote e (Err r) log) (wrote f (Err r) log)
   refuses r = record { answer = refl; bytes = refl; day = refl }
 
   publish-either : SamePublished (publish_of e t tid content log) (publish_of f t tid content log)
@@ -278,13 +275,13 @@ pub from_first : (e : Sender) (s : ℕ) (p content out log : List ℕ) (n : ℕ)
     let k = start_of e (dated_of p).date (resume_of (part p c.start c.len)) in
     let f = (login_of e s p content out).end in
     length e.day.series ≡ most_series → length e.seat.places ≡ most_series
-    → (login_of e s p content out).answer ≡ Answered n → (dated_of p).packet ≡ Packet-read h extension c
+    → (login_of e s p content out).answer ≡ Ok n → (dated_of p).packet ≡ Packet-read h extension c
     → (place_of f s ≡ record { login = true; next = k; piece = 0 })
     × ((x : List ℕ) → entry_of e log s k ≡ some x → to_come f s log ≡ all_packets e s k x)
 from_first e s p content out log n h extension c a b q is =
     go (login_of e s p content out) (login-cases e s p content out) q
   where
-    go : (r : Wrote Sender LoggedIn) → LoginDone e s p content out r → r.answer ≡ Answered n →
+    go : (r : Wrote Sender LoggedIn) → LoginDone e s p content out r → r.answer ≡ Ok n →
         let k = start_of e (dated_of p).date (resume_of (part p c.start c.len)) in
         (place_of r.end s ≡ record { login = true; next = k; piece = 0 })
         × ((x : List ℕ) → entry_of e log s k ≡ some x → to_come r.end s log ≡ all_packets e s k x)

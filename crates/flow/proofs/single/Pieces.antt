@@ -17,9 +17,8 @@ use Rattle.ftd.specs.Write.{packet_bytes, message_bytes}
 use Rattle.ftd.specs.Chain.{Piece, pieces_of, chain_at, is_nil, tags_at, packet_for, framed, packets_of}
 use Rattle.ftd.specs.declared.chain.Message.{Message as Headed}
 use Rattle.ftd.specs.declared.refusal.Refusal.TheVariants.{BrokenChain}
-use Rattle.ftd.specs.declared.tags.TradeDate.{TradeDate}
-use Rattle.ftd.specs.declared.tags.PacketPlace.{PacketPlace}
-use Rattle.ftd.specs.declared.tags.PacketPlace.TheVariants.{NoPlace, Nth}
+use Rattle.ftd.specs.Types.{TradeDate}
+use Rattle.ftd.specs.Types.{PacketPlace}
 use Rattle.ftd.specs.declared.packet.Span.{Span}
 use Rattle.ftd.specs.declared.packet.Chain.{Chain}
 use Rattle.ftd.specs.declared.packet.Chain.TheVariants.{Single, First, Middle, Last}
@@ -38,6 +37,7 @@ use Rattle.flow.specs.EveryPiece.{held_before, goes_on, InLine, ChainDropped, Br
 use Rattle.flow.proofs.common.Rows.{by-when}
 use Rattle.flow.proofs.ends.ReceiverLookups.{series-with, open-with, kept-with, kept-beside}
 use Rattle.flow.proofs.ends.Lookups.{index-differs}
+use Rattle.std.specs.Prelude.{Some, None}
 
 -- ─── One series changed ───
 
@@ -119,7 +119,7 @@ module _ (e : Receiver) (p buffer : List ℕ) (h : Header) (f : InLine e p h) wh
   away = wrote (dropped e h.series) (Refused BrokenChain) buffer
 
   strays : (at : Span) (content : List ℕ) (j : ℕ) (x : Chain) → (j ≡ held_before e h x → ⊥)
-      → next_piece e h (Nth j) at content buffer x ≡ away
+      → next_piece e h (Some j) at content buffer x ≡ away
   strays at content j Single n = rw (ne_eqb j 0 n) refl
   strays at content j First n = rw (ne_eqb j 0 n) refl
   strays at content j Middle n =
@@ -135,14 +135,14 @@ module _ (e : Receiver) (p buffer : List ℕ) (h : Header) (f : InLine e p h) wh
         dropped = rw q (chain-dropped e h.series f.open-series f.login);
       }
 
-pub compared : (e : Receiver) (p buffer : List ℕ) (h : Header) (j : ℕ) → InLine e p h → (dated_of p).place ≡ Nth j
+pub compared : (e : Receiver) (p buffer : List ℕ) (h : Header) (j : ℕ) → InLine e p h → (dated_of p).place ≡ Some j
     → (j ≡ held_before e h h.chain → ⊥) → Broken e p buffer h.series
 compared e p buffer h j f q n =
     broken e p buffer h f
     (next-is e p buffer h f
     ∙ rw q (strays e p buffer h f f.content (bytes e p buffer h f) j h.chain n))
 
-pub full : (e : Receiver) (p buffer : List ℕ) (h : Header) (j : ℕ) → InLine e p h → (dated_of p).place ≡ Nth j
+pub full : (e : Receiver) (p buffer : List ℕ) (h : Header) (j : ℕ) → InLine e p h → (dated_of p).place ≡ Some j
     → j < 65536 → goes_on h.chain ≡ true → (live_of e h.series).pieces ≡ 65536 → Broken e p buffer h.series
 full e p buffer h j f q low g m = compared e p buffer h j f q (go h.chain g)
   where
@@ -154,7 +154,7 @@ full e p buffer h j f q low g m = compared e p buffer h j f q (go h.chain g)
 
 -- ─── Where no place is compared ───
 
-pub unplaced : (e : Receiver) (p buffer : List ℕ) → (dated_of p).place ≡ NoPlace
+pub unplaced : (e : Receiver) (p buffer : List ℕ) → (dated_of p).place ≡ None
     → receive_of e p buffer ≡ received_unplaced e p buffer
 unfolding receive_of
 unplaced e p buffer q = rw q refl
@@ -166,20 +166,20 @@ unfolding receive_of receive_with
 repeated e p buffer h extension c q l = rw (q, le-leb h.number (kept_of e h.series).last l) refl
 
 module _ (e : Receiver) (h : Header) (date : TradeDate) (at : Span) (content buffer : List ℕ) where
-  agrees : (x : Chain) → next_piece e h (Nth (held_before e h x)) at content buffer x
-      ≡ next_piece e h NoPlace at content buffer x
+  agrees : (x : Chain) → next_piece e h (Some (held_before e h x)) at content buffer x
+      ≡ next_piece e h None at content buffer x
   agrees Single = refl
   agrees First = refl
   agrees Middle = rw (eq-eqb (live_of e h.series).pieces (live_of e h.series).pieces refl) refl
   agrees Last = rw (eq-eqb (live_of e h.series).pieces (live_of e h.series).pieces refl) refl
 
-  agrees-with : receive_with e h date (Nth (held_before e h h.chain)) at content buffer
-      ≡ receive_with e h date NoPlace at content buffer
+  agrees-with : receive_with e h date (Some (held_before e h h.chain)) at content buffer
+      ≡ receive_with e h date None at content buffer
   unfolding receive_with
   agrees-with = rw (agrees h.chain) refl
 
 pub agreeing : (e : Receiver) (p buffer : List ℕ) (h : Header) (extension c : Span)
-    → (dated_of p).packet ≡ Message h extension c → (dated_of p).place ≡ Nth (held_before e h h.chain)
+    → (dated_of p).packet ≡ Message h extension c → (dated_of p).place ≡ Some (held_before e h h.chain)
     → receive_of e p buffer ≡ received_unplaced e p buffer
 unfolding receive_of
 agreeing e p buffer h extension c q g =
@@ -212,18 +212,18 @@ module _ (e : Receiver) (buffer : List ℕ) (h : Header) (at : Span) (content : 
       by-when Not-17 (buffer_short e buffer || chain_long held content)
       (λ a q. let z : ◌≡◌ {A = ℕ} 0 1 = cc in omega arith) λ a q. let z : ◌≡◌ {A = ℕ} 0 1 = cc in omega arith
 
-  next-17 : (x : Chain) → ((next_piece e h NoPlace at content buffer x).answer ≡ Refused BrokenChain)
+  next-17 : (x : Chain) → ((next_piece e h None at content buffer x).answer ≡ Refused BrokenChain)
       ↔ ((goes_on x && broken_chain (live_of e h.series) h) ≡ true)
   next-17 Single =
-      never (next_piece e h NoPlace at content buffer Single) λ q. let z : ◌≡◌ {A = ℕ} 0 1 = cc in omega arith
-  next-17 First = never (next_piece e h NoPlace at content buffer First) (holds_not 0 0)
+      never (next_piece e h None at content buffer Single) λ q. let z : ◌≡◌ {A = ℕ} 0 1 = cc in omega arith
+  next-17 First = never (next_piece e h None at content buffer First) (holds_not 0 0)
   next-17 Middle =
       later (broken_chain (live_of e h.series) h) _
       (holds_not (live_of e h.series).held (live_of e h.series).pieces)
   next-17 Last =
       later (broken_chain (live_of e h.series) h) _ (hands-not (live_of e h.series).held)
 
-pub as_before : (e : Receiver) (p buffer : List ℕ) (h : Header) → InLine e p h → (dated_of p).place ≡ NoPlace
+pub as_before : (e : Receiver) (p buffer : List ℕ) (h : Header) → InLine e p h → (dated_of p).place ≡ None
     → ((receive_of e p buffer).answer ≡ Refused BrokenChain)
     ↔ ((goes_on h.chain && not ((live_of e h.series).chain && eqb (live_of e h.series).tid h.tid)) ≡ true)
 as_before e p buffer h f q =

@@ -17,8 +17,7 @@ use Rattle.ftd.specs.Items.{wrong_width, wrong_item}
 use Rattle.ftd.specs.Composition.{composed}
 use Rattle.ftd.specs.declared.composition.Direction.TheVariants.{Up, Down}
 use Rattle.ftd.specs.declared.packet.Header.{Header}
-use Rattle.ftd.specs.declared.tags.TradeDate.{TradeDate}
-use Rattle.ftd.specs.declared.tags.TradeDate.TheVariants.{At}
+use Rattle.ftd.specs.Types.{TradeDate}
 use Rattle.flow.specs.Ends.{up_to}
 use Rattle.flow.specs.Serving.{no_login}
 use Rattle.flow.specs.World.{InSeries, in_series, SenderSide}
@@ -30,11 +29,12 @@ use Rattle.flow.proofs.source.Moves.{Move, stays, opens, publishes, logs-in, sen
 use Rattle.flow.proofs.source.Served.{ServedSide}
 use Rattle.flow.proofs.source.Kept.{move-rises}
 use Rattle.flow.proofs.source.Entries.{served-day}
+use Rattle.std.specs.Prelude.{Some}
 
 pub record GenuineAnswer (day : TradeDate) (a : InSeries (List ℕ)) : Type 0 where
   pub date : ℕ
   pub content : List ℕ
-  pub bytes : a.what ≡ login_bytes (At date) content
+  pub bytes : a.what ≡ login_bytes (Some date) content
   pub shape : shaped content packet_content ≡ true
   pub widths : wrong_width content ≡ false
   pub items : wrong_item content ≡ false

@@ -9,8 +9,7 @@ use mathlib.Core.Option.{some}
 use borrow.Author.Tests.{leb-true, leb-false, ne_eqb}
 use lib.ListN.{get_elem?}
 use lib.Dec.{eqb}
-use Rattle.ftd.specs.declared.tags.TradeDate.{TradeDate}
-use Rattle.ftd.specs.declared.tags.TradeDate.TheVariants.{None, At}
+use Rattle.ftd.specs.Types.{TradeDate}
 use Rattle.flow.specs.Ends.{is_day, up_to}
 use Rattle.flow.specs.Answers.{Message}
 use Rattle.flow.specs.World.{dated, Event, SenderSide, World, run, step}
@@ -22,6 +21,7 @@ use Rattle.flow.proofs.source.Served.{ServedSide}
 use Rattle.flow.proofs.source.Kept.{move-rises}
 use Rattle.flow.proofs.common.Histories.{of-append}
 use Rattle.flow.proofs.common.Days.{up_to-self, Upto, upto-test}
+use Rattle.std.specs.Prelude.{Some, None}
 
 -- ─── Number k of a day and series is one message for ever ───
 
@@ -43,7 +43,7 @@ day-rises v u m h = go v.day (move-rises v u m h)
   where
     go : (o : TradeDate) → ((d : ℕ) → up_to d o ≡ true → up_to d u.day ≡ true) → Upto o u.day
     go None f = tt
-    go (At d) f = upto-test d u.day (f d (up_to-self d))
+    go (Some d) f = upto-test d u.day (f d (up_to-self d))
 
 pub day-stays : (v u : SenderSide) → Move v u → u.openings ≡ v.openings → u.day ≡ v.day
 day-stays v u stays o = refl
@@ -75,9 +75,9 @@ pub record Over (d : ℕ) (v : SenderSide) : Type 0 where
   pub below : up_to d v.day ≡ true
   pub other : is_day d v.day ≡ false
 
-over-opened : (d date : ℕ) (t : TradeDate) → up_to date t ≡ false → up_to d t ≡ true → is_day d (At date) ≡ false
+over-opened : (d date : ℕ) (t : TradeDate) → up_to date t ≡ false → up_to d t ≡ true → is_day d (Some date) ≡ false
 over-opened d date None a b = cc
-over-opened d date (At e) a b = let g = leb-false date e a in let h = leb-true d e b in ne_eqb date d λ q. omega arith
+over-opened d date (Some e) a b = let g = leb-false date e a in let h = leb-true d e b in ne_eqb date d λ q. omega arith
 
 pub move-over : (d : ℕ) (v u : SenderSide) → Move v u → ServedSide v → Over d v → Over d u
 move-over d v u stays h o = o

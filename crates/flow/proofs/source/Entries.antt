@@ -10,8 +10,7 @@ use Rattle.ftd.specs.Runs.{Run}
 use Rattle.ftd.specs.Chain.{packets_of}
 use Rattle.ftd.specs.Fields.{shaped, most_content}
 use Rattle.ftd.proofs.chain.Laws.{chain_laws}
-use Rattle.ftd.specs.declared.tags.TradeDate.{TradeDate}
-use Rattle.ftd.specs.declared.tags.TradeDate.TheVariants.{None, At}
+use Rattle.ftd.specs.Types.{TradeDate}
 use Rattle.flow.specs.declared.sender.Sender.{Sender}
 use Rattle.flow.specs.Ends.{member, day_series, is_served, published_of, place_of}
 use Rattle.flow.specs.Log.{entry_bytes, entry_tid, entry_content, entry_of}
@@ -25,6 +24,7 @@ use Rattle.flow.proofs.source.Histories.{on_day, on_date, messages_of, of_is, pl
 use Rattle.flow.proofs.calls.Serving.{Seated}
 use Rattle.flow.proofs.source.Served.{Served}
 use Rattle.flow.proofs.common.Bools.{not-both}
+use Rattle.std.specs.Prelude.{Some, None}
 
 -- The message that is next: its day, its place there from 0 (its number less 1), and its entry.
 pub record NextEntry (e : Sender) (log : List ℕ) (day : TradeDate) (history : List (Dated Message)) (s : ℕ) : Type 0
@@ -32,7 +32,7 @@ pub record NextEntry (e : Sender) (log : List ℕ) (day : TradeDate) (history : 
     pub date : ℕ
     pub place : ℕ
     pub message : Message
-    pub same-day : day ≡ At date
+    pub same-day : day ≡ Some date
     pub number : (place_of e s).next ≡ suc place
     pub published : get_elem? (of s date history) place ≡ some message
     pub entry : entry_of e log s (place_of e s).next ≡ some
@@ -42,15 +42,15 @@ pub record NextEntry (e : Sender) (log : List ℕ) (day : TradeDate) (history : 
 module _ (e : Sender) (log : List ℕ) (day : TradeDate) (history : List (Dated Message)) (h : Served e log day history)
     (s : ℕ) where
   -- Where a series is open there is a day.
-  pub served-day : is_served e s ≡ true → (d : ℕ) × (day ≡ At d)
+  pub served-day : is_served e s ≡ true → (d : ℕ) × (day ≡ Some d)
   unfolding is_served
   served-day q = go day refl
     where
-      go : (t : TradeDate) → day ≡ t → (d : ℕ) × (day ≡ At d)
+      go : (t : TradeDate) → day ≡ t → (d : ℕ) × (day ≡ Some d)
       go None a = absurd (not-both (member s (day_series e)) q (ap (member s) (h.unopened a).0))
-      go (At d) a = (d, a)
+      go (Some d) a = (d, a)
 
-  module _ (d : ℕ) (same : day ≡ At d) (served : is_served e s ≡ true) where
+  module _ (d : ℕ) (same : day ≡ Some d) (served : is_served e s ≡ true) where
     counted-day : published_of e s ≡ length (messages_of s (on_day d history))
     counted-day = h.counted s served ∙ ap (λ (t : TradeDate). length (messages_of s (on_date t history))) same
 
@@ -80,7 +80,7 @@ module _ (e : Sender) (log : List ℕ) (day : TradeDate) (history : List (Dated 
       let low = (h.placed s r.served r.login).0 in
       go d.0 d.1 (place_of e s).next refl low
     where
-      go : (d : ℕ) → day ≡ At d → (n : ℕ) → (place_of e s).next ≡ n → 1 ≤ (place_of e s).next
+      go : (d : ℕ) → day ≡ Some d → (n : ℕ) → (place_of e s).next ≡ n → 1 ≤ (place_of e s).next
           → NextEntry e log day history s
       go d a zero n low = absurd (omega arith)
       go d a (suc i) n low = entry_at d a r.served i n q

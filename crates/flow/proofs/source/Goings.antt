@@ -13,8 +13,7 @@ use lib.Seq.{take-suc}
 use lib.Dec.{eqb, leb}
 use Rattle.ftd.specs.Chain.{packets_of}
 use Rattle.ftd.proofs.chain.Laws.{chain_laws}
-use Rattle.ftd.specs.declared.tags.TradeDate.{TradeDate}
-use Rattle.ftd.specs.declared.tags.TradeDate.TheVariants.{At}
+use Rattle.ftd.specs.Types.{TradeDate}
 use Rattle.flow.specs.declared.sender.Place.{Place}
 use Rattle.flow.specs.declared.sender.Sender.{Sender}
 use Rattle.flow.specs.Ends.{is_served, published_of, place_of, with_entry, with_place}
@@ -38,6 +37,7 @@ use Rattle.flow.proofs.source.Moves.{Move, stays, opens, publishes, logs-in, sen
 use Rattle.flow.proofs.source.Served.{ServedSide}
 use Rattle.flow.proofs.source.Kept.{published-count}
 use Rattle.flow.proofs.source.Entries.{NextEntry, next-entry, packets-sent}
+use Rattle.std.specs.Prelude.{Some}
 
 -- ─── The entry that is next, as packets ───
 
@@ -62,7 +62,7 @@ module _ (v : SenderSide) (h : ServedSide v) (s : ℕ) (x : List ℕ) (r : Seate
         ∙ packets-sent v.end s y.tid k y.content
         ∙ ap (λ (t : TradeDate). packets_of (record { date = t; tid = y.tid; series = s; number = k; counted = true }) y.content)
         (h.same-day ∙ n.same-day)
-        ∙ ap (λ (j : ℕ). packets_of (record { date = At n.date; tid = y.tid; series = s; number = j; counted = true })
+        ∙ ap (λ (j : ℕ). packets_of (record { date = Some n.date; tid = y.tid; series = s; number = j; counted = true })
         y.content) n.number
 
 -- ─── The invariant ───
@@ -72,7 +72,7 @@ pub record Going (s : ℕ) (place : Place) (count : ℕ) (day : TradeDate) (P : 
     (far : List (List ℕ)) : Type 0 where
   pub none : place.piece ≡ 0 → far ≡ []
   pub left : 0 < place.piece → place.next ≤ count
-  pub first : (d i : ℕ) (x : Message) → day ≡ At d → place.next ≡ suc i → get_elem? (of s d P) i ≡ some x →
+  pub first : (d i : ℕ) (x : Message) → day ≡ Some d → place.next ≡ suc i → get_elem? (of s d P) i ≡ some x →
       (far ≡ take place.piece (packets_of (headed s x.tid (suc i) d) x.content))
       × (place.piece < length (packets_of (headed s x.tid (suc i) d) x.content))
 
@@ -80,7 +80,7 @@ abbrev pub GoingIn : Sender → TradeDate → List (Dated Message) → List Tran
 GoingIn e day P ts s = Going s (place_of e s) (published_of e s) day P (so_far s ts)
 
 pub record Unfinished (v : SenderSide) : Type 0 where
-  -- At most one of a series is unfinished.
+  -- Some most one of a series is unfinished.
   pub alone : (s : ℕ) → goings s v.transmissions ≤ 1
   pub going : (s : ℕ) → Seated v.end s → GoingIn v.end v.day v.published v.transmissions s
 
@@ -96,12 +96,12 @@ going-none s place count day P far z f =
 
 -- More is published: the message that is next stays, if there was one.
 going-grows : (s : ℕ) (place : Place) (count more : ℕ) (day : TradeDate) (P Q : List (Dated Message))
-    (far : List (List ℕ)) → count ≤ more → ((d : ℕ) → day ≡ At d → count ≡ length (of s d P))
+    (far : List (List ℕ)) → count ≤ more → ((d : ℕ) → day ≡ Some d → count ≡ length (of s d P))
     → Going s place count day P far → Going s place more day (P ++ Q) far
 going-grows s place count more day P Q far l c g =
     record { none = g.none; left = λ p. let a = g.left p in omega arith; first = first_then }
   where
-    first_then : (d i : ℕ) (x : Message) → day ≡ At d → place.next ≡ suc i → get_elem? (of s d (P ++ Q)) i ≡ some x →
+    first_then : (d i : ℕ) (x : Message) → day ≡ Some d → place.next ≡ suc i → get_elem? (of s d (P ++ Q)) i ≡ some x →
         (far ≡ take place.piece (packets_of (headed s x.tid (suc i) d) x.content))
         × (place.piece < length (packets_of (headed s x.tid (suc i) d) x.content))
     first_then d i x a b q = go (leb (suc i) (length (of s d P))) refl
@@ -276,7 +276,7 @@ module _ (v : SenderSide) (h : ServedSide v) (z : Unfinished v) where
                 rw (← same, ← day, ← at) (f, not_last e);
           })
         where
-          same_at : (t : TradeDate) (a b : ℕ) → t ≡ At a → t ≡ At b → a ≡ b
+          same_at : (t : TradeDate) (a b : ℕ) → t ≡ Some a → t ≡ Some b → a ≡ b
           same_at t a b p q = cc
 
           next-at : (n a b : ℕ) → n ≡ suc a → n ≡ suc b → a ≡ b

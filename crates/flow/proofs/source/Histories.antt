@@ -9,8 +9,7 @@ use borrow.Author.Tests.{eqb-true, eq-eqb, ne_eqb}
 use lib.ListN.{length, get_elem?}
 use lib.Dec.{eqb}
 use Rattle.ftd.specs.Fields.{shaped, most_content}
-use Rattle.ftd.specs.declared.tags.TradeDate.{TradeDate}
-use Rattle.ftd.specs.declared.tags.TradeDate.TheVariants.{None, At}
+use Rattle.ftd.specs.Types.{TradeDate}
 use Rattle.flow.specs.declared.sender.Sender.{Sender}
 use Rattle.flow.specs.Ends.{is_day, is_served}
 use Rattle.flow.specs.Log.{entry_bytes, times}
@@ -19,6 +18,7 @@ use Rattle.flow.specs.World.{Dated, dated}
 use Rattle.flow.specs.Agreement.{of}
 use Rattle.flow.proofs.source.Logs.{Pub, entry_for, laid, Sound, found}
 use Rattle.flow.proofs.common.Extends.{none-some}
+use Rattle.std.specs.Prelude.{Some, None}
 
 -- ─── The publications of a day, and those of a series among them ───
 
@@ -32,7 +32,7 @@ on_day d (x ∷ l) = cond (is_day d x.day) (pub_of x.series x.what ∷ on_day d 
 -- Those of the present day, if any.
 abbrev pub on_date : TradeDate → List (Dated Message) → List Pub
 on_date None l = []
-on_date (At d) l = on_day d l
+on_date (Some d) l = on_day d l
 
 abbrev pub messages_of : ℕ → List Pub → List Message
 messages_of s [] = []
@@ -77,7 +77,7 @@ messages-append s (p ∷ a) b = go (eqb p.series s) (messages-append s a b)
 pub date-append : (t : TradeDate) (l : List (Dated Message)) (s : ℕ) (m : Message) → (t ≡ None → ⊥) →
     on_date t (l ++ (dated s t m ∷ [])) ≡ on_date t l ++ (pub_of s m ∷ [])
 date-append None l s m n = absurd (n refl)
-date-append (At d) l s m n = day-append d l (dated s (At d) m ∷ []) ∙ rw (eq-eqb d d refl)
+date-append (Some d) l s m n = day-append d l (dated s (Some d) m ∷ []) ∙ rw (eq-eqb d d refl)
 
 -- ─── In the log ───
 

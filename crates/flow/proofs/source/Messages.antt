@@ -9,8 +9,7 @@ use lib.ListN.{length, take, drop, get_elem?, take-append-drop}
 use lib.Seq.{take_all, length-take-le}
 use lib.Dec.{eqb}
 use Rattle.ftd.specs.Chain.{packets_of}
-use Rattle.ftd.specs.declared.tags.TradeDate.{TradeDate}
-use Rattle.ftd.specs.declared.tags.TradeDate.TheVariants.{At}
+use Rattle.ftd.specs.Types.{TradeDate}
 use Rattle.flow.specs.Ends.{most_messages, published_of, place_of}
 use Rattle.flow.specs.Log.{entry_bytes, entry_of}
 use Rattle.flow.specs.Serving.{send_bytes, send_packets, next_packet, last_packet}
@@ -34,6 +33,7 @@ use Rattle.flow.proofs.source.Served.{ServedSide}
 use Rattle.flow.proofs.source.Entries.{next-entry, cut-sent}
 use Rattle.flow.proofs.packets.Genuine.{Genuine, genuine-grows, AllGenuine, Begun, begun-whole, begun-grows}
 use Rattle.flow.proofs.packets.Genuine.{genuine-begun, BegunIn, AllBegun, OnLine, AllOnLine}
+use Rattle.std.specs.Prelude.{Some}
 
 -- ─── What Send puts on the line is one ───
 
@@ -60,7 +60,7 @@ sent-genuine v h s x r q c =
           ∙ ap (λ (t : TradeDate). packets_of (record { date = t; tid = y.tid; series = s; number = k; counted = true })
           y.content)
           (h.same-day ∙ n.same-day)
-          ∙ ap (λ (j : ℕ). packets_of (record { date = At n.date; tid = y.tid; series = s; number = j; counted = true })
+          ∙ ap (λ (j : ℕ). packets_of (record { date = Some n.date; tid = y.tid; series = s; number = j; counted = true })
           y.content) n.number;
       placed = n.published;
       good = n.shape;

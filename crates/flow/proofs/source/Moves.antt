@@ -11,16 +11,13 @@ use Rattle.ftd.specs.Login.{login_bytes}
 use Rattle.ftd.specs.Bytes.{part, put}
 use Rattle.ftd.specs.Packet.{dated_of}
 use Rattle.ftd.specs.Resume.{resume_of}
-use Rattle.ftd.specs.declared.tags.TradeDate.TheVariants.{At}
 use Rattle.ftd.specs.declared.packet.Header.{Header}
 use Rattle.ftd.specs.declared.packet.Span.{Span}
 use Rattle.ftd.specs.declared.packet.Packet.TheVariants.{Message as Accepted}
 use Rattle.flow.specs.declared.sender.Sender.{Sender}
-use Rattle.flow.specs.declared.sender.Opened.{Opened}
-use Rattle.flow.specs.declared.sender.Published.{Published}
-use Rattle.flow.specs.declared.sender.LoggedIn.{LoggedIn}
-use Rattle.flow.specs.declared.sender.Sent.{Sent}
-use Rattle.flow.specs.declared.sender.SentPacket.{SentPacket}
+use Rattle.flow.specs.Types.{Opened}
+use Rattle.flow.specs.Types.{Published}
+use Rattle.flow.specs.Types.{LoggedIn}
 use Rattle.flow.specs.Ends.{Left, Wrote, wrong_series, up_to, published_of, place_of, with_entry, with_place}
 use Rattle.flow.specs.Log.{entry_bytes, entry_of}
 use Rattle.flow.specs.Serving.{start_of, send_packets, send_bytes, next_packet, last_packet, after_packet, open_day_of}
@@ -37,6 +34,8 @@ use Rattle.flow.proofs.calls.Serving.{send-outside, send-drained, send-damaged, 
 use Rattle.flow.proofs.calls.Serving.{send-cases, PacketDone, packet-unknown, packet-outside, packet-drained}
 use Rattle.flow.proofs.calls.Serving.{packet-damaged, packet-missing, packet-small, packet-taken, packet-cases}
 use Rattle.flow.proofs.common.Rows.{by-given}
+use Rattle.std.specs.Prelude.{Some}
+use Rattle.flow.specs.Types.{SendAnswer, PacketSent}
 
 -- ─── What a call that was taken leaves ───
 
@@ -44,7 +43,7 @@ abbrev pub opened_side : SenderSide → ℕ → List ℕ → List ℕ → Sender
 opened_side v date ss rs = record {
   end = opened_sender date ss rs;
   log = v.log;
-  day = At date;
+  day = Some date;
   openings = suc v.openings;
   published = v.published;
   answers = v.answers;
@@ -149,7 +148,7 @@ module _ (v : SenderSide) where
   pub send-move : (s : ℕ) (out : List ℕ) → Move v (after_send v s (send_of v.end s v.log out))
   send-move s out = go (send_of v.end s v.log out) (send-cases v.end s v.log out)
     where
-      go : (r : Wrote Sender Sent) → SendDone v.end s v.log out r → Move v (after_send v s r)
+      go : (r : Wrote Sender SendAnswer) → SendDone v.end s v.log out r → Move v (after_send v s r)
       go r (send-unknown a) = rw append-nil stays
       go r (send-outside a b) = rw append-nil stays
       go r (send-drained a b) = rw append-nil stays
@@ -162,7 +161,7 @@ module _ (v : SenderSide) where
   pub packet-move : (s : ℕ) (out : List ℕ) → Move v (after_send_packet v s (send_packet_of v.end s v.log out))
   packet-move s out = go (send_packet_of v.end s v.log out) (packet-cases v.end s v.log out)
     where
-      go : (r : Wrote Sender SentPacket) → PacketDone v.end s v.log out r → Move v (after_send_packet v s r)
+      go : (r : Wrote Sender PacketSent) → PacketDone v.end s v.log out r → Move v (after_send_packet v s r)
       go r (packet-unknown a) = rw append-nil stays
       go r (packet-outside a b) = rw append-nil stays
       go r (packet-drained a b) = rw append-nil stays

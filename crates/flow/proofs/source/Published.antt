@@ -12,8 +12,7 @@ use lib.Dec.{eqb}
 use Rattle.ftd.specs.Bytes.{joined, put}
 use Rattle.ftd.proofs.chain.Laws.{joined-append}
 use Rattle.ftd.proofs.bytes.Put.{length-put}
-use Rattle.ftd.specs.declared.tags.TradeDate.{TradeDate}
-use Rattle.ftd.specs.declared.tags.TradeDate.TheVariants.{None}
+use Rattle.ftd.specs.Types.{TradeDate}
 use Rattle.flow.specs.declared.sender.Place.{Place}
 use Rattle.flow.specs.declared.sender.Sender.{Sender}
 use Rattle.flow.specs.Ends.{most_messages, member, is_day, up_to, day_series, is_served, published_of, place_of}
@@ -31,6 +30,7 @@ use Rattle.flow.proofs.ends.SenderLookups.{eight-entry}
 use Rattle.flow.proofs.calls.Serving.{PublishTests}
 use Rattle.flow.proofs.source.Served.{Placed, Served}
 use Rattle.flow.proofs.common.Bools.{not-both}
+use Rattle.std.specs.Prelude.{None}
 
 -- One more in its own series, none in another.
 pub count-append : (u s : ℕ) (m : Message) (ps : List Pub)

@@ -7,8 +7,7 @@ use mathlib.Core.Bool.{Bool, true, false}
 use borrow.Author.Tests.{eqb-true, eqb-false}
 use lib.ListN.{length}
 use lib.Dec.{eqb}
-use Rattle.ftd.specs.declared.tags.TradeDate.{TradeDate}
-use Rattle.ftd.specs.declared.tags.TradeDate.TheVariants.{None, At}
+use Rattle.ftd.specs.Types.{TradeDate}
 use Rattle.flow.specs.declared.sender.Place.{Place}
 use Rattle.flow.specs.declared.sender.Sender.{Sender}
 use Rattle.flow.specs.Ends.{most_messages, wrong_series, up_to, fresh_sender, day_series, is_served, published_of}
@@ -23,6 +22,7 @@ use Rattle.flow.proofs.ends.SenderLookups.{place_other, eight-next}
 use Rattle.flow.proofs.ends.SenderOpened.{opened_sender, fresh-eight, opened-eight, opened-published}
 use Rattle.flow.proofs.ends.SenderOpened.{opened-place}
 use Rattle.flow.proofs.common.Bools.{not-both}
+use Rattle.std.specs.Prelude.{Some, None}
 
 -- Next is 1 at least, and at most the number behind the last one published.
 abbrev pub Placed : Sender → ℕ → Type 0
@@ -66,7 +66,7 @@ module _ (e : Sender) (log : List ℕ) (day : TradeDate) (history : List (Dated 
     -- ─── Opened ───
 
     pub served-opened : (date : ℕ) (ss rs : List ℕ) → wrong_series ss ≡ false → up_to date e.day.date ≡ false →
-        Served (opened_sender date ss rs) log (At date) history
+        Served (opened_sender date ss rs) log (Some date) history
     served-opened date ss rs a b =
         let above : up_to date day ≡ false = rw h.same-day at b in
         let empty : on_day date history ≡ [] = h.not-later date above in
@@ -81,7 +81,7 @@ module _ (e : Sender) (log : List ℕ) (day : TradeDate) (history : List (Dated 
           placed = λ s q l. absurd (outside s l);
         }
       where
-        none-at : At date ≡ None → ⊥
+        none-at : Some date ≡ None → ⊥
         none-at q = let z : ◌≡◌ {A = ℕ} 0 1 = cc in omega arith
 
         outside : (s : ℕ) → (place_of (opened_sender date ss rs) s).login ≡ true → ⊥

@@ -5,7 +5,6 @@ use Prim.Native.Nat.{ℕ}
 use native.Mathlib.Omega.{arith}
 use mathlib.Core.Path.{refl}
 use mathlib.Core.Bool.{false}
-use Rattle.ftd.specs.declared.tags.TradeDate.TheVariants.{None}
 use Rattle.flow.specs.Ends.{fresh_sender, is_served, day_series}
 use Rattle.flow.specs.World.{Event, SenderSide, start, run}
 use Rattle.flow.proofs.common.Extends.{none-some}
@@ -17,6 +16,7 @@ use Rattle.flow.proofs.source.Kept.{move-served}
 use Rattle.flow.proofs.source.Goings.{Unfinished, move-unfinished}
 use Rattle.flow.proofs.source.Messages.{move-genuine, move-begun, move-on-line}
 use Rattle.flow.proofs.source.Answers.{GenuineAnswers, move-answers}
+use Rattle.std.specs.Prelude.{None}
 
 pub record Source (v : SenderSide) : Type 0 where
   pub served : ServedSide v

@@ -2,8 +2,7 @@
 use Prim.Native.Nat.{ℕ}
 use mathlib.Core.Path.{◌≡◌, refl}
 use mathlib.Core.Bool.{Bool, true, false, cond}
-use Rattle.ftd.specs.declared.tags.TradeDate.{TradeDate}
-use Rattle.ftd.specs.declared.tags.TradeDate.TheVariants.{None}
+use Rattle.ftd.specs.Types.{TradeDate}
 use Rattle.flow.specs.declared.receiver.LiveSeries.{LiveSeries}
 use Rattle.flow.specs.declared.receiver.Receiver.{Receiver}
 use Rattle.flow.specs.Ends.{is_open, with_series, day_of, last_of}
@@ -11,6 +10,7 @@ use Rattle.flow.proofs.ends.ReceiverLookups.{Eight, open-with, kept-with, kept-b
 use mathlib.Core.List.{List}
 use Rattle.flow.specs.Receiving.{connect_of}
 use Rattle.flow.proofs.ends.ReceiverOpened.{opened_with, none_open, opened-kept, connect-open, connect-kept}
+use Rattle.std.specs.Prelude.{None}
 
 -- ─── Trade date and last number of a series ───
 
@@ -51,7 +51,7 @@ opened-same e ss z s =
     let c = none_open e z s in
     rw (k.0, k.1, c) (go (is_open (opened_with ss) s))
   where
-    go : (b : Bool) → (cond b None None ≡ None) × (◌≡◌ {A = ℕ} (cond b 0 0) 0)
+    go : (b : Bool) → (◌≡◌ {A = TradeDate} (cond b None None) None) × (◌≡◌ {A = ℕ} (cond b 0 0) 0)
     go true = (refl, refl)
     go false = (refl, refl)
 

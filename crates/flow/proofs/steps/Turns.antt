@@ -8,16 +8,15 @@ use mathlib.Core.Bool.{Bool, true, false, cond}
 use borrow.Author.Tests.{eqb-true, eqb-false}
 use lib.Dec.{eqb}
 use Rattle.ftd.specs.Packet.{dated_of}
-use Rattle.ftd.specs.declared.tags.TradeDate.{TradeDate}
-use Rattle.ftd.specs.declared.tags.PacketPlace.{PacketPlace}
-use Rattle.ftd.specs.declared.tags.TradeDate.TheVariants.{At}
+use Rattle.ftd.specs.Types.{TradeDate}
+use Rattle.ftd.specs.Types.{PacketPlace}
 use Rattle.ftd.specs.declared.packet.Span.{Span}
 use Rattle.ftd.specs.declared.packet.Header.{Header}
-use Rattle.flow.specs.declared.sender.Opened.{Opened}
+use Rattle.flow.specs.Types.{Opened}
 use Rattle.flow.specs.declared.receiver.KeptSeries.{KeptSeries}
 use Rattle.flow.specs.declared.receiver.LiveSeries.{LiveSeries}
 use Rattle.flow.specs.declared.receiver.Receiver.{Receiver}
-use Rattle.flow.specs.declared.receiver.Confirmed.{Confirmed}
+use Rattle.flow.specs.Types.{Confirmed}
 use Rattle.flow.specs.declared.receiver.Received.{Received}
 use Rattle.flow.specs.Ends.{Left, Wrote, wrong_series, before, differs, day_of, last_of, logged_in, holding, is_open}
 use Rattle.flow.specs.Ends.{kept_of, live_of, kept_series, all_parts, with_series}
@@ -33,6 +32,7 @@ use Rattle.flow.proofs.calls.Receive.{Took, unknown, not_in, repeats, hands-sing
 use Rattle.flow.proofs.calls.Receive.{hands-last, Received-as, unread, idles, reads, receive-as}
 use Rattle.flow.proofs.packets.Requests.{request-end}
 use Rattle.flow.proofs.steps.Moves.{Moves, Same, moves-with, opened-same, connect-same}
+use Rattle.std.specs.Prelude.{Some}
 
 -- ─── The steps ───
 
@@ -52,8 +52,8 @@ pub data Turn (o : TradeDate) (c : Bool) (e : Receiver) : Receiver → List Mess
   stays : Turn o c e e [] []
   opens : (ss : List ℕ) → e.kept.count ≡ 0 → wrong_series ss ≡ false → Turn o c e (opened_with ss) [] []
   connects : c ≡ true → Turn o c e (connect_of e) [] []
-  confirms : (t d : ℕ) → is_open e t ≡ true → before (At d) (kept_of e t).date ≡ false → Upto (At d) o
-      → Turn o c e (with_series e t (At d) (last_after e t (At d)) logged_in) [] (last_after e t (At d) ∷ [])
+  confirms : (t d : ℕ) → is_open e t ≡ true → before (Some d) (kept_of e t).date ≡ false → Upto (Some d) o
+      → Turn o c e (with_series e t (Some d) (last_after e t (Some d)) logged_in) [] (last_after e t (Some d) ∷ [])
   receives : {last : ℕ} {live : LiveSeries} {ms : List Message} {ks : List ℕ} (t : ℕ) → is_open e t ≡ true
       → (live_of e t).login ≡ true → Got e t last live ms ks
       → Turn o c e (with_series e t (kept_of e t).date last live) ms ks
@@ -131,13 +131,13 @@ module _ (o : TradeDate) (c : Bool) (e : Receiver) where
 -- Within a day last only grows; a series' days only rise.
 pub data Onward (date : TradeDate) (last : ℕ) (after : TradeDate) (n : ℕ) : Type 0 where
   same-day : after ≡ date → last ≤ n → Onward date last after n
-  later-day : (d : ℕ) → after ≡ At d → Above d date → Onward date last after n
+  later-day : (d : ℕ) → after ≡ Some d → Above d date → Onward date last after n
 
-pub confirm-onward : (date : TradeDate) (last d : ℕ) → before (At d) date ≡ false
-    → Onward date last (At d) (cond (differs (At d) date) 0 last)
-confirm-onward date last d b = go (differs (At d) date) refl
+pub confirm-onward : (date : TradeDate) (last d : ℕ) → before (Some d) date ≡ false
+    → Onward date last (Some d) (cond (differs (Some d) date) 0 last)
+confirm-onward date last d b = go (differs (Some d) date) refl
   where
-    go : (x : Bool) → differs (At d) date ≡ x → Onward date last (At d) (cond x 0 last)
+    go : (x : Bool) → differs (Some d) date ≡ x → Onward date last (Some d) (cond x 0 last)
     go true q = later-day d refl (above_new d date b q)
     go false q = same-day (sym (day-same d date q)) (omega arith)
 
@@ -158,7 +158,7 @@ module _ (o : TradeDate) (c : Bool) (e : Receiver) (eight : Eight e) where
   turn-eight after ms ks stays = eight
   turn-eight after ms ks (opens ss z q) = opened-eight ss q
   turn-eight after ms ks (connects x) = connect-eight e eight
-  turn-eight after ms ks (confirms t d q b u) = eight-stays e eight t q (At d) (last_after e t (At d)) logged_in
+  turn-eight after ms ks (confirms t d q b u) = eight-stays e eight t q (Some d) (last_after e t (Some d)) logged_in
   turn-eight after ms ks (receives {last} {live} t q l g) = eight-stays e eight t q (kept_of e t).date last live
 
   pub turn-onward : (after : Receiver) (ms : List Message) (ks : List ℕ) → Turn o c e after ms ks → (s : ℕ)
@@ -168,8 +168,8 @@ module _ (o : TradeDate) (c : Bool) (e : Receiver) (eight : Eight e) where
   turn-onward after ms ks (opens ss z r) s = onward-same e after (opened-same e ss z) s
   turn-onward after ms ks (connects x) s = onward-same e after (connect-same e) s
   turn-onward after ms ks (confirms t d q b u) s =
-      onward-moves e after t (At d) (last_after e t (At d))
-      (moves-with e eight t q (At d) (last_after e t (At d)) logged_in)
+      onward-moves e after t (Some d) (last_after e t (Some d))
+      (moves-with e eight t q (Some d) (last_after e t (Some d)) logged_in)
       (rw q (confirm-onward (kept_of e t).date (kept_of e t).last d b)) s
   turn-onward after ms ks (receives {last} {live} t q l g) s =
       onward-moves e after t (kept_of e t).date last (moves-with e eight t q (kept_of e t).date last live)
@@ -181,7 +181,7 @@ module _ (o : TradeDate) (c : Bool) (e : Receiver) (eight : Eight e) where
   turn-open after ms ks stays s q = q
   turn-open after ms ks (opens ss z r) s q = clash _ q (none_open e z s)
   turn-open after ms ks (connects x) s q = connect-open e s ∙ q
-  turn-open after ms ks (confirms t d r b u) s q = open_stays e eight t r (At d) (last_after e t (At d)) logged_in s ∙ q
+  turn-open after ms ks (confirms t d r b u) s q = open_stays e eight t r (Some d) (last_after e t (Some d)) logged_in s ∙ q
   turn-open after ms ks (receives {last} {live} t r l g) s q = open_stays e eight t r (kept_of e t).date last live s ∙ q
 
   -- and the buffer's parts are as many.
@@ -194,7 +194,7 @@ module _ (o : TradeDate) (c : Bool) (e : Receiver) (eight : Eight e) where
   turn-parts after ms ks stays s p = refl
   turn-parts after ms ks (opens ss z q) s p = clash _ p (none_open e z s)
   turn-parts after ms ks (connects x) s p = connect-parts
-  turn-parts after ms ks (confirms t d q b u) s p = parts_stay e eight t q (At d) (last_after e t (At d)) logged_in
+  turn-parts after ms ks (confirms t d q b u) s p = parts_stay e eight t q (Some d) (last_after e t (Some d)) logged_in
   turn-parts after ms ks (receives {last} {live} t q l g) s p = parts_stay e eight t q (kept_of e t).date last live
 
 -- A claim of each series after one was changed.

@@ -1,13 +1,15 @@
 -- The laws of `put`: a run of stores is one put, a put keeps the length, and a put right behind a put, or right before
 -- one, is one put. Assumes nothing.
 use Prim.Native.Nat.{ℕ, ◌+◌, ◌≤◌}
-use mathlib.Core.Path.{◌≡◌, sym, ap, ◌∙◌}
+use mathlib.Core.Path.{◌≡◌, refl, sym, ap, ◌∙◌}
 use mathlib.Core.List.{List, [], ◌++◌, append_assoc, append-nil}
 use native.Mathlib.Omega.{arith}
 use native.Mathlib.Nat.{zero-add, add_assoc, add-zero}
 use lib.ListN.{length, take, drop, length-append, length-take, length-drop, take-append-drop}
 use lib.Seq.{sets, sets-eq, paste, take-length, length-take-le, take_at, drop_at, take-append-le, drop-append-le}
 use lib.Seq.{drop-append-add, take-take, drop-drop}
+use Rattle.std.proofs.lemmas.Slice.{put_mid-paste}
+use borrow.Rule.Slice.PartMut.{put_mid}
 use Rattle.ftd.specs.Bytes.{put}
 
 pub sets-put : (vs l : List ℕ) (at : ℕ) → at + length vs ≤ length l → sets l at vs ≡ put l at vs
@@ -17,6 +19,10 @@ sets-put vs l at h = sets-eq vs l at h
 pub paste-put : (l : List ℕ) (at : ℕ) (s : List ℕ) → paste l at s (length s) ≡ put l at s
 unfolding put
 paste-put l at s = rw take-length
+
+-- A part that was written whole is a put.
+pub mid-put : (l : List ℕ) (at k : ℕ) (zs vs : List ℕ) → zs ≡ vs → length vs ≡ k → put_mid at k l zs ≡ put l at vs
+mid-put l at k zs vs e h = put_mid-paste at k l zs vs (length vs) e h refl ∙ paste-put l at vs
 
 pub length-put : (l : List ℕ) (at : ℕ) (vs : List ℕ) → at + length vs ≤ length l → length (put l at vs) ≡ length l
 unfolding put

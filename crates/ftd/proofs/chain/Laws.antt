@@ -20,9 +20,7 @@ use Rattle.ftd.specs.Chain.{Piece, no_fields, with_field, pack, pieces_of, chain
 use Rattle.ftd.specs.Chain.{framed, packets_of, overhead_of, overhead, tags_at}
 use Rattle.ftd.specs.Chain.Helpers.{size_of}
 use Rattle.ftd.specs.Chain.Laws.{packet_form, piece_at_place, packet_at_place, letter_at, place_for, ChainLaws}
-use Rattle.ftd.specs.declared.tags.TradeDate.{TradeDate}
-use Rattle.ftd.specs.declared.tags.TradeDate.TheVariants.{None, At}
-use Rattle.ftd.specs.declared.tags.PacketPlace.TheVariants.{NoPlace, Nth}
+use Rattle.ftd.specs.Types.{TradeDate}
 use Rattle.ftd.specs.declared.packet.Chain.{Chain}
 use Rattle.ftd.specs.declared.packet.Packet.TheVariants.{Message as Read}
 use Rattle.ftd.specs.declared.chain.Message.{Message}
@@ -38,6 +36,7 @@ use Rattle.ftd.proofs.write.Laws.{message-back, message-places, dated-back, mess
 use Rattle.ftd.proofs.write.Puts.{length-packet, length-message}
 use Rattle.ftd.proofs.chain.Pieces.{shaped-facts, framed-count, framed-size, pieces-some, some-length, tags-long}
 use Rattle.ftd.proofs.chain.Singles.{exact-shaped, one_piece}
+use Rattle.std.specs.Prelude.{Some, None}
 
 -- ─── The trade date and the place ───
 
@@ -45,17 +44,17 @@ pub date-good : (d : TradeDate) → (good_tags (extension_bytes (tags_for d)) �
     × (length (extension_bytes (tags_for d)) ≤ 6)
 unfolding good_tags run_of tag front length_right known_tags count_kind
 date-good None = (refl, omega arith)
-date-good (At d) = (refl, omega arith)
+date-good (Some d) = (refl, omega arith)
 
 pub date-back : (d : TradeDate) → trade_date_of (extension_bytes (tags_for d)) ≡ d
 unfolding trade_date_of tag_place run_of tag front be32_of
 date-back None = refl
-date-back (At d) = ap At (back32 d [])
+date-back (Some d) = ap Some (back32 d [])
 
-pub no_place : (d : TradeDate) → packet_place_of (extension_bytes (tags_for d)) ≡ NoPlace
+pub no_place : (d : TradeDate) → packet_place_of (extension_bytes (tags_for d)) ≡ None
 unfolding packet_place_of tag_place run_of tag front
 no_place None = refl
-no_place (At d) = refl
+no_place (Some d) = refl
 
 module _ (j : ℕ) where
   -- By the trade date and whether the packets are counted.
@@ -66,22 +65,22 @@ module _ (j : ℕ) where
   unfolding good_tags run_of tag front length_right known_tags count_kind
   by-good None true = (refl, omega arith)
   by-good None false = (refl, omega arith)
-  by-good (At d) true = (refl, omega arith)
-  by-good (At d) false = (refl, omega arith)
+  by-good (Some d) true = (refl, omega arith)
+  by-good (Some d) false = (refl, omega arith)
 
   by-date : (d : TradeDate) (b : Bool) → trade_date_of (tags_by d b) ≡ d
   unfolding trade_date_of tag_place run_of tag front be32_of
   by-date None true = refl
   by-date None false = refl
-  by-date (At d) true = ap At (back32 d (tag_bytes (place_tag j) ++ []))
-  by-date (At d) false = ap At (back32 d [])
+  by-date (Some d) true = ap Some (back32 d (tag_bytes (place_tag j) ++ []))
+  by-date (Some d) false = ap Some (back32 d [])
 
-  by_place : (d : TradeDate) (b : Bool) → packet_place_of (tags_by d b) ≡ cond b (Nth j) NoPlace
+  by_place : (d : TradeDate) (b : Bool) → packet_place_of (tags_by d b) ≡ cond b (Some j) None
   unfolding packet_place_of tag_place run_of tag front be16_of
-  by_place None true = ap Nth (back16 j [])
+  by_place None true = ap Some (back16 j [])
   by_place None false = refl
-  by_place (At d) true = ap Nth (back16 j [])
-  by_place (At d) false = refl
+  by_place (Some d) true = ap Some (back16 j [])
+  by_place (Some d) false = refl
 
 module _ (m : Message) (j : ℕ) where
   pub at-good : (good_tags (extension_bytes (tags_at m j)) ≡ true) × (length (extension_bytes (tags_at m j)) ≤ 10)

@@ -15,17 +15,15 @@ use Rattle.ftd.specs.Chain.{Piece, no_fields, with_field, pack, pieces_of, chain
 use Rattle.ftd.specs.Chain.{packets_of, size_answer}
 use Rattle.ftd.specs.Chain.Helpers.{others_of, piece_at, NextPiece, size_of, measure_of}
 use Rattle.ftd.specs.Tags.{tags_for, place_tag, extension_bytes}
-use Rattle.ftd.specs.declared.tags.TradeDate.{TradeDate}
-use Rattle.ftd.specs.declared.tags.TradeDate.TheVariants.{None}
-use Rattle.ftd.specs.declared.tags.TradeDate.TheVariants.{At as Dated}
+use Rattle.ftd.specs.Types.{TradeDate}
 use Rattle.ftd.specs.declared.refusal.Refusal.TheVariants.{FieldRun}
 use Rattle.ftd.specs.declared.packet.Chain.{Chain}
-use Rattle.ftd.specs.declared.chain.ChainSize.TheVariants.{Refused}
 use Rattle.ftd.specs.declared.chain.Cut.{Cut}
 use Rattle.ftd.specs.declared.chain.Message.{Message}
 use Rattle.ftd.proofs.runs.Laws.{run-whole}
 use Rattle.ftd.proofs.packet.Laws.{by-test}
 use Rattle.ftd.proofs.write.Puts.{length-message}
+use Rattle.std.specs.Prelude.{Some, None, Err}
 
 -- There is always a piece.
 packs-some : (p : Piece) (fs : List (List ℕ)) → is_nil (pack p fs) ≡ false
@@ -140,8 +138,8 @@ tags-long m j = go m.date m.counted
         ≡ length (extension_bytes (tags_for d ++ cond b (place_tag 0 ∷ []) []))
     go None true = refl
     go None false = refl
-    go (Dated d) true = refl
-    go (Dated d) false = refl
+    go (Some d) true = refl
+    go (Some d) false = refl
 
 pub framed-size : (m : Message) (j : ℕ) (ps : List Piece)
     → length (joined (framed m j ps)) ≡ size_of (length (extension_bytes (tags_at m 0))) ps
@@ -161,7 +159,7 @@ shaped-facts content limit r e t = go (leb (length content) limit) refl (sym e �
     go true p q = (leb-true (length content) limit p, q)
     go false p q = let y : ◌≡◌ {A = ℕ} 0 1 = cc in absurd (omega arith)
 
-pub size-over : (m : Message) (content : List ℕ) → 32768 < length content → Refused FieldRun ≡ size_answer m content
+pub size-over : (m : Message) (content : List ℕ) → 32768 < length content → Err FieldRun ≡ size_answer m content
 unfolding size_answer shaped
 size-over m content h = rw (lt-leb (length content) 32768 h)
 

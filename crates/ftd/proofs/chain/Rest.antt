@@ -16,13 +16,14 @@ use Rattle.ftd.specs.Chain.Helpers.{piece_at, NextPiece, rest_of, PutRest, size_
 use Rattle.ftd.specs.Tags.{extension_bytes}
 use Rattle.ftd.specs.Write.{fine, refuse, written_answer, written_output}
 use Rattle.ftd.specs.declared.refusal.Refusal.TheVariants.{FieldRun, TooSmall}
-use Rattle.ftd.specs.declared.write.Written.TheVariants.{Bytes, Refused}
 use Rattle.ftd.specs.declared.chain.Cut.{Cut}
 use Rattle.ftd.specs.declared.chain.Message.{Message}
 use Rattle.ftd.proofs.bytes.Put.{length-put, put-before}
 use Rattle.ftd.proofs.write.Puts.{by-refusal, by-room, by-writing}
 use Rattle.ftd.proofs.chain.Pieces.{both, below, pieces-some, framed-size, piece-packet, whole-last, broken-here}
 use Rattle.ftd.proofs.chain.Pieces.{frame-more, frame-last, tags-long}
+use Rattle.std.specs.Prelude.{Ok, Err}
+use Rattle.ftd.specs.declared.write.WriteError.TheVariants.{Refused}
 
 module _ (m : Message) (j : ℕ) (l : List ℕ) (at to tags : ℕ) (c : Cut) (next : NextPiece l at c)
     (t : tags ≡ length (extension_bytes (tags_at m 0))) (out : List ℕ) where
@@ -163,12 +164,12 @@ module _ (m : Message) (l out after : List ℕ) (reach : ℕ) (p : PutRest m 0 l
   unfolding packets_of
   long s = omega (arith, p.reaches s)
 
-  pub all-broken : reach ≡ 0 → (Refused FieldRun ≡ written_answer (chain_verdict l) (joined (packets_of m l)) out)
+  pub all-broken : reach ≡ 0 → (Err (Refused FieldRun) ≡ written_answer (chain_verdict l) (joined (packets_of m l)) out)
       × (after ≡ written_output (chain_verdict l) (joined (packets_of m l)) out)
   all-broken z = go (shapely (run_of field l)) refl
     where
       go : (b : Bool) → shapely (run_of field l) ≡ b
-          → (Refused FieldRun ≡ written_answer (chain_verdict l) (joined (packets_of m l)) out)
+          → (Err (Refused FieldRun) ≡ written_answer (chain_verdict l) (joined (packets_of m l)) out)
           × (after ≡ written_output (chain_verdict l) (joined (packets_of m l)) out)
       go true s =
           absurd (omega (
@@ -189,11 +190,11 @@ module _ (m : Message) (l out after : List ℕ) (reach : ℕ) (p : PutRest m 0 l
         go false s = absurd (z (p.broken s).0)
 
     pub all_small : length out < reach
-        → (Refused TooSmall ≡ written_answer (chain_verdict l) (joined (packets_of m l)) out)
+        → (Err (Refused TooSmall) ≡ written_answer (chain_verdict l) (joined (packets_of m l)) out)
         × (after ≡ written_output (chain_verdict l) (joined (packets_of m l)) out)
     all_small k = rw (p.stays whole k) (by-room _ _ _ (verdict ∙ rw whole) reach (long whole) k)
 
-    pub all-put : reach ≤ length out → (Bytes reach ≡ written_answer (chain_verdict l) (joined (packets_of m l)) out)
+    pub all-put : reach ≤ length out → (Ok reach ≡ written_answer (chain_verdict l) (joined (packets_of m l)) out)
         × (after ≡ written_output (chain_verdict l) (joined (packets_of m l)) out)
     unfolding packets_of
     all-put k = by-writing _ _ _ (verdict ∙ rw whole) reach (long whole) after k (p.puts whole k)

@@ -10,9 +10,9 @@ use Rattle.ftd.specs.Fields.{field, shapely}
 use Rattle.ftd.specs.Chain.{pieces_of}
 use Rattle.ftd.specs.Chain.Helpers.{NextPiece, size_of, measure_of}
 use Rattle.ftd.specs.declared.refusal.Refusal.TheVariants.{FieldRun}
-use Rattle.ftd.specs.declared.chain.ChainSize.TheVariants.{Takes, Refused}
 use Rattle.ftd.specs.declared.chain.Cut.{Cut}
 use Rattle.ftd.proofs.chain.Pieces.{whole-last, broken-here, count-more, count-last, size-more, size-last, below}
+use Rattle.std.specs.Prelude.{Ok, Err}
 
 -- Up to a place so many pieces of so many bytes: what is left is as shapely as all of it, and where that is shapely,
 -- its pieces are missing.
@@ -28,7 +28,7 @@ counted_none l tags = record { same = refl; count = λ s. omega arith; size = λ
 module _ (l : List ℕ) (tags at packets bytes : ℕ) (c : Cut) (next : NextPiece l at c)
     (k : Counted l tags at packets bytes) where
   pub counted-last : c.end ≡ length l
-      → Takes (record { packets = packets + 1; bytes = bytes + (4 + tags + (16 + (c.end - at))) }) ≡ measure_of tags l
+      → Ok (record { packets = packets + 1; bytes = bytes + (4 + tags + (16 + (c.end - at))) }) ≡ measure_of tags l
   unfolding measure_of
   counted-last h =
       let s = whole-last l at c next h in
@@ -37,7 +37,7 @@ module _ (l : List ℕ) (tags at packets bytes : ℕ) (c : Cut) (next : NextPiec
       omega (arith, k.size s, size-last l at c next s tags h) in
       rw (← k.same, s, p, b)
 
-  pub counted-broken : (c.end ≡ length l → ⊥) → c.end ≡ at → Refused FieldRun ≡ measure_of tags l
+  pub counted-broken : (c.end ≡ length l → ⊥) → c.end ≡ at → Err FieldRun ≡ measure_of tags l
   unfolding measure_of
   counted-broken h e = rw (← k.same, broken-here l at c next e h)
 

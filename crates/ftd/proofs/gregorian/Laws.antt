@@ -32,11 +32,6 @@ module _ (y m : ℕ) where
   other-month h n =
       second-alone 31 28 (cond (leap_year y) 29 28) (drop 2 (months_by false)) (m - 1) (λ e. n (omega arith))
 
--- A date in parts that were widened.
-pub real-parts : (y₀ y₁ y m₀ m₁ m d₀ d₁ d : ℕ) → y₀ ≡ y₁ → y₁ ≡ y → m₀ ≡ m₁ → m₁ ≡ m → d₀ ≡ d₁ → d₁ ≡ d
-    → (r : Bool) → r ≡ real_date y₀ m₀ d₀ → r ≡ real_date y m d
-real-parts y₀ y₁ y m₀ m₁ m d₀ d₁ d p q s t u v r e = rw (← q, ← p, ← t, ← s, ← v, ← u) e
-
 -- At most 31 days.
 most : (leap : Bool) (i : ℕ) → get_or (months_by leap) i 0 ≤ 31
 most leap zero = omega arith

@@ -20,12 +20,13 @@ use Rattle.ftd.specs.Places.{item_in, item_of}
 use Rattle.ftd.specs.Item.{ItemValue, char, value_of, value_bytes, fits, given_at, item_value_of, RowLaws}
 use Rattle.ftd.specs.Item.Fields.{ahead, values_in, values_of, bytes_in, field_bytes_of, fits_in, field_fits, Accepted}
 use Rattle.ftd.specs.Item.Fields.{KnownLaws}
-use Rattle.ftd.specs.declared.places.ItemPlace.TheVariants.{Item as Place}
 use Rattle.ftd.specs.declared.refusal.Refusal.TheVariants.{Item}
-use Rattle.ftd.specs.declared.items.Checked.TheVariants.{Passed, Refused}
 use Rattle.ftd.proofs.table.Rule.{row_count}
 use Rattle.ftd.proofs.item.Laws.{two, value-wide, field_row, item-laws}
 use Rattle.ftd.proofs.fields.Laws.{left-bytes, right-bytes, one_field, fid-back, bytes_back}
+use Rattle.std.specs.Prelude.{Ok, Err}
+use Rattle.ftd.specs.Types.{some_item}
+use Rattle.ftd.proofs.Options.{same-item}
 
 -- ─── Over any rows that have the laws ───
 
@@ -115,7 +116,7 @@ values-back (r ∷ rs) laws (v ∷ vs) e =
 -- Value i of the list, where the item stands.
 values-item : (rs : List Row) (at : ℕ) (l : List ℕ) → at ≤ length l
     → (vs : List ItemValue) → values_in rs (drop at l) ≡ some vs
-    → (i fid kind scale start width : ℕ) → item_in at rs i ≡ Place kind scale start width
+    → (i fid kind scale start width : ℕ) → item_in at rs i ≡ some_item kind scale start width
     → (i < length vs)
     × (start + width ≤ length l)
     × (value_of (row fid kind width scale) (part l start width) ≡ some (get_or vs i (char 0)))
@@ -124,10 +125,11 @@ values-item [] at l h vs e i fid kind scale start width p = let z : ◌≡◌ {A
 values-item (r ∷ rs) at l h vs e zero fid kind scale start width p =
     let m : List ℕ = drop at l in
     let (v, ws, a, b, s) = before-some (value_of r (take r.width m)) (values_in rs (drop r.width m)) vs e in
-    let k : r.kind ≡ kind = cc in
-    let c : r.scale ≡ scale = cc in
-    let t : at ≡ start = cc in
-    let w : r.width ≡ width = cc in
+    let o = same-item _ _ _ _ _ _ _ _ p in
+    let k : r.kind ≡ kind = o.0 in
+    let c : r.scale ≡ scale = o.1 in
+    let t : at ≡ start = o.2 in
+    let w : r.width ≡ width = o.3 in
     let n = rw length-drop at (front-whole r (drop at l) v a) in
     (rw s (omega arith), omega arith, rw (s, ← k, ← c, ← t, ← w) a)
 values-item (r ∷ rs) at l h vs e (suc i) fid kind scale start width p =
@@ -155,7 +157,7 @@ module _ (fid : ℕ) (l : List ℕ) where
   unfolding wrong_width
   width_is = rw (only, fid-back fid l, bytes_back fid l)
 
-  item-is : wrong_item (field_with fid l) ≡ is_refused (cond (items_good (rows_of fid) l) Passed (Refused Item))
+  item-is : wrong_item (field_with fid l) ≡ is_refused (cond (items_good (rows_of fid) l) (Ok tt) (Err Item))
   unfolding wrong_item walk_of
   item-is = rw (only, fid-back fid l, bytes_back fid l)
 
@@ -170,7 +172,7 @@ module _ (fid : ℕ) (l : List ℕ) where
       wide true q h = eqb-true (length l) (width_of fid) q
       wide false q h = absurd (false≢true (sym h))
 
-      good : (g : Bool) → is_refused (cond g Passed (Refused Item)) ≡ false → g ≡ true
+      good : (g : Bool) → is_refused (cond g (Ok tt) (Err Item)) ≡ false → g ≡ true
       good true h = refl
       good false h = absurd (false≢true (sym h))
 
@@ -205,7 +207,7 @@ back fid vs e =
     let (n, g, q) = values-back (rows_of fid) (field-rows fid) vs e in
     (n, good-accepted fid (bytes_in (rows_of fid) vs) n g, q)
 
-item : (fid i kind scale start width : ℕ) → item_of fid i ≡ Place kind scale start width
+item : (fid i kind scale start width : ℕ) → item_of fid i ≡ some_item kind scale start width
     → (l : List ℕ) (vs : List ItemValue) → values_of fid l ≡ some vs
     → (i < length vs) × (item_value_of fid i l ≡ given_at start (some (get_or vs i (char 0))))
 unfolding values_of item_of item_value_of

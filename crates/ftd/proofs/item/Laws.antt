@@ -23,14 +23,9 @@ use Rattle.ftd.specs.Signed.Write.{number_fits, float_fits}
 use Rattle.ftd.specs.Item.{ItemValue, char, word, int, text, number, float, date, whole_as, signed_as, date_as}
 use Rattle.ftd.specs.Item.{text_as, typed_value, value_of, value_bytes, fits, given_at, item_value_of, RowLaws, ItemLaws}
 use Rattle.ftd.specs.Places.{item_in, item_of}
-use Rattle.ftd.specs.declared.places.ItemPlace.TheVariants.{Item as Place}
 use Rattle.ftd.specs.declared.item.FieldItem.TheVariants.{NoItem, Text}
-use Rattle.ftd.specs.declared.whole.Whole.{Whole}
-use Rattle.ftd.specs.declared.whole.Whole.TheVariants.{NoValue, Value}
-use Rattle.ftd.specs.declared.signed.Signed.{Signed}
-use Rattle.ftd.specs.declared.signed.Signed.TheVariants.{NoValue as NoSigned, Value as SignedValue}
-use Rattle.ftd.specs.declared.texts.Text.{Text as StringValue}
-use Rattle.ftd.specs.declared.texts.Text.TheVariants.{NoValue as NoText, Value as TextValue}
+use Rattle.ftd.specs.Types.{Whole}
+use Rattle.ftd.specs.Types.{Text as StringValue}
 use Rattle.ftd.specs.declared.dates.Date.{Date}
 use Rattle.ftd.specs.declared.dates.Date.TheVariants.{NoDate, Unused, Day}
 use Rattle.ftd.proofs.table.Rule.{row_count, table-rule, rows-length}
@@ -38,6 +33,9 @@ use Rattle.ftd.proofs.signed.Stores.{fits-some, number-length, float_fits-parts,
 use Rattle.ftd.proofs.texts.Laws.{text-inside, text-parts, text-length}
 use Rattle.ftd.proofs.dates.Verdicts.{date-wide}
 use Rattle.ftd.proofs.values.Laws.{value-laws}
+use Rattle.std.specs.Prelude.{Some, None}
+use Rattle.ftd.specs.Types.{some_item, MaybeSigned, some_signed}
+use Rattle.ftd.proofs.Options.{same-item}
 
 -- ─── Tests ───
 
@@ -58,31 +56,31 @@ there-iff b (some v) q = (λ e. (v, refl), λ s. q)
 -- ─── What a value comes from ───
 
 whole-some : (make : ℕ → ItemValue) (o : Whole) (v : ItemValue) → whole_as make o ≡ some v
-    → (x : ℕ) × (o ≡ Value x) × (v ≡ make x)
-whole-some make NoValue v e = let z : ◌≡◌ {A = ℕ} 0 1 = cc in absurd (omega arith)
-whole-some make (Value x) v e = (x, refl, cc)
+    → (x : ℕ) × (o ≡ Some x) × (v ≡ make x)
+whole-some make None v e = let z : ◌≡◌ {A = ℕ} 0 1 = cc in absurd (omega arith)
+whole-some make (Some x) v e = (x, refl, cc)
 
-signed-some : (make : Bool → ℕ → ItemValue) (o : Signed) (v : ItemValue) → signed_as make o ≡ some v
-    → (n : Bool) × (x : ℕ) × (o ≡ SignedValue n x) × (v ≡ make n x)
-signed-some make NoSigned v e = let z : ◌≡◌ {A = ℕ} 0 1 = cc in absurd (omega arith)
-signed-some make (SignedValue n x) v e = (n, x, refl, cc)
+signed-some : (make : Bool → ℕ → ItemValue) (o : MaybeSigned) (v : ItemValue) → signed_as make o ≡ some v
+    → (n : Bool) × (x : ℕ) × (o ≡ some_signed n x) × (v ≡ make n x)
+signed-some make None v e = let z : ◌≡◌ {A = ℕ} 0 1 = cc in absurd (omega arith)
+signed-some make (Some found) v e = (found.negative, found.units, refl, cc)
 
 text-some : (l : List ℕ) (o : StringValue) (v : ItemValue) → text_as l o ≡ some v
-    → (x : ℕ) × (o ≡ TextValue x) × (v ≡ text (take x l))
-text-some l NoText v e = let z : ◌≡◌ {A = ℕ} 0 1 = cc in absurd (omega arith)
-text-some l (TextValue x) v e = (x, refl, cc)
+    → (x : ℕ) × (o ≡ Some x) × (v ≡ text (take x l))
+text-some l None v e = let z : ◌≡◌ {A = ℕ} 0 1 = cc in absurd (omega arith)
+text-some l (Some x) v e = (x, refl, cc)
 
-whole-there : (make : ℕ → ItemValue) (b : Bool) (x : ℕ) → b ≡ there (whole_as make (cond b (Value x) NoValue))
+whole-there : (make : ℕ → ItemValue) (b : Bool) (x : ℕ) → b ≡ there (whole_as make (cond b (Some x) None))
 whole-there make true x = refl
 whole-there make false x = refl
 
 signed-there : (make : Bool → ℕ → ItemValue) (b : Bool) (l : List ℕ)
-    → b ≡ there (signed_as make (cond b (signed_of l) NoSigned))
+    → b ≡ there (signed_as make (cond b (signed_of l) None))
 unfolding signed_of
 signed-there make false l = refl
 signed-there make true l = go (eqb (get_or l 0 0) 45) _ _
   where
-    go : (a : Bool) (x y : ℕ) → true ≡ there (signed_as make (cond a (SignedValue true x) (SignedValue false y)))
+    go : (a : Bool) (x y : ℕ) → true ≡ there (signed_as make (cond a (some_signed true x) (some_signed false y)))
     go true x y = refl
     go false x y = refl
 
@@ -128,7 +126,7 @@ module _ (s : ℕ) where
   unfolding is_value typed_value text_value
   text-shows w l n = go (every is_text l) _
     where
-      go : (b : Bool) (m : ℕ) → b ≡ there (text_as l (cond b (TextValue m) NoText))
+      go : (b : Bool) (m : ℕ) → b ≡ there (text_as l (cond b (Some m) None))
       go true m = refl
       go false m = refl
 
@@ -351,11 +349,16 @@ row_laws f (suc (suc (suc (suc (suc (suc (suc k))))))) w s h = char-laws f _ w s
 -- ─── The items of a field ───
 
 -- The row of an item is one of the field's.
-row-found : (l : List Row) (at i kind scale start width : ℕ) → item_in at l i ≡ Place kind scale start width
+row-found : (l : List Row) (at i kind scale start width : ℕ) → item_in at l i ≡ some_item kind scale start width
     → (i < length l) × (kind ≡ (get_or l i (row 0 0 0 0)).kind) × (scale ≡ (get_or l i (row 0 0 0 0)).scale)
     × (width ≡ (get_or l i (row 0 0 0 0)).width)
 row-found [] at i kind scale start width e = let z : ◌≡◌ {A = ℕ} 0 1 = cc in absurd (omega arith)
-row-found (r ∷ rs) at zero kind scale start width e = (omega arith, cc, cc, cc)
+row-found (r ∷ rs) at zero kind scale start width e =
+    let o = same-item _ _ _ _ _ _ _ _ e in
+    let k : kind ≡ r.kind = sym o.0 in
+    let c : scale ≡ r.scale = sym o.1 in
+    let w : width ≡ r.width = sym o.3 in
+    (omega arith, k, c, w)
 row-found (r ∷ rs) at (suc i) kind scale start width e =
     let t = row-found rs (at + r.width) i kind scale start width e in
     (omega arith, t.1, t.2, t.3)
@@ -372,7 +375,7 @@ field_row fid i h =
       rw ((table-rule.field fid).rows, get_or-take p.count (drop p.start table) i (row 0 0 0 0) low, get_or-drop),
     )
 
-module _ (fid i kind scale start width : ℕ) (e : item_of fid i ≡ Place kind scale start width) where
+module _ (fid i kind scale start width : ℕ) (e : item_of fid i ≡ some_item kind scale start width) where
   found-form : right_form (row fid kind width scale) ≡ true
   unfolding item_of
   found-form =
@@ -398,7 +401,7 @@ given-text start (some (date d)) at len e = let z : ◌≡◌ {A = ℕ} 0 1 = cc
 
 -- A text comes from a String alone, and is its value.
 typed-text : (kind scale : ℕ) (l t : List ℕ) → typed_value kind scale l ≡ some (text t)
-    → (n : ℕ) × (text_value l ≡ TextValue n) × (take n l ≡ t)
+    → (n : ℕ) × (text_value l ≡ Some n) × (take n l ≡ t)
 unfolding typed_value
 typed-text kind scale l t e =
     go (eqb kind word_kind) (eqb kind int_kind) (eqb kind string_kind) (eqb kind number_kind) (eqb kind float_kind)
@@ -407,7 +410,7 @@ typed-text kind scale l t e =
     whole : (make : ℕ → ItemValue) → ((x : ℕ) → make x ≡ text t → ⊥) → (o : Whole) → whole_as make o ≡ some (text t) → ⊥
     whole make n o e = let s = whole-some make o (text t) e in n s.0 (sym s.2)
 
-    signed : (make : Bool → ℕ → ItemValue) → ((b : Bool) (x : ℕ) → make b x ≡ text t → ⊥) → (o : Signed)
+    signed : (make : Bool → ℕ → ItemValue) → ((b : Bool) (x : ℕ) → make b x ≡ text t → ⊥) → (o : MaybeSigned)
         → signed_as make o ≡ some (text t) → ⊥
     signed make n o e = let s = signed-some make o (text t) e in n s.0 s.1 (sym s.3)
 
@@ -416,7 +419,7 @@ typed-text kind scale l t e =
         (cond d (signed_as number (number_value l))
         (cond f (signed_as float (float_value scale l))
         (cond g (date_as (date_value l)) (whole_as char (char_value kind l)))))))
-        ≡ some (text t) → (n : ℕ) × (text_value l ≡ TextValue n) × (take n l ≡ t)
+        ≡ some (text t) → (n : ℕ) × (text_value l ≡ Some n) × (take n l ≡ t)
     go true b c d f g e = absurd (whole word (λ y q. let z : ◌≡◌ {A = ℕ} 0 1 = cc in omega arith) (word_value l) e)
     go false true c d f g e = absurd (whole int (λ y q. let z : ◌≡◌ {A = ℕ} 0 1 = cc in omega arith) (int_value l) e)
     go false false true d f g e =
@@ -449,7 +452,7 @@ front-part bytes start width at len t s n f =
     let k : length t ≤ width = omega (arith, rw length-take at (ap length f)) in
     rw (← s, ← n, ← (take-take (length t) width (drop start bytes) k)) (sym f)
 
-text-place : (fid i kind scale start width : ℕ) → item_of fid i ≡ Place kind scale start width
+text-place : (fid i kind scale start width : ℕ) → item_of fid i ≡ some_item kind scale start width
     → (bytes : List ℕ) (at len : ℕ) → item_value_of fid i bytes ≡ Text at len
     → value_of (row fid kind width scale) (part bytes start width) ≡ some (text (part bytes at len))
 unfolding item_value_of

@@ -15,20 +15,19 @@ use Rattle.ftd.specs.Texts.{text_value}
 use Rattle.ftd.specs.Dates.{date_value}
 use Rattle.ftd.specs.Places.{item_of}
 use Rattle.ftd.specs.Item.{char, whole_as, typed_value, given_at, item_value_of}
-use Rattle.ftd.specs.declared.places.ItemPlace.{ItemPlace}
-use Rattle.ftd.specs.declared.places.ItemPlace.TheVariants.{NoItem as NoPlace, Item as Place}
 use Rattle.ftd.specs.declared.item.FieldItem.{FieldItem}
 use Rattle.ftd.specs.declared.item.FieldItem.TheVariants.{NoItem, NoValue, Char, Word, Int, Text, Number, Float}
 use Rattle.ftd.specs.declared.item.FieldItem.TheVariants.{Date}
-use Rattle.ftd.specs.declared.signed.Signed.{Signed}
-use Rattle.ftd.specs.declared.signed.Signed.TheVariants.{NoValue as NoSigned, Value as SignedValue}
-use Rattle.ftd.specs.declared.texts.Text.{Text as StringValue}
-use Rattle.ftd.specs.declared.texts.Text.TheVariants.{NoValue as NoText, Value as TextValue}
+use Rattle.ftd.specs.Types.{Text as StringValue}
 use Rattle.ftd.specs.declared.dates.Date.{Date as DateValue}
 use Rattle.ftd.specs.declared.dates.Date.TheVariants.{NoDate, Unused, Day}
 use Rattle.ftd.proofs.whole.Laws.{char-wide, char-wrong, char-read}
 use Rattle.ftd.proofs.texts.Laws.{text-inside}
 use Rattle.ftd.proofs.item.Laws.{wide_value}
+use Rattle.std.specs.Prelude.{Some, None}
+use Rattle.ftd.specs.Types.{MaybeItem, MaybeSigned}
+use Rattle.ftd.specs.declared.places.ItemPlace.{ItemPlace}
+use Rattle.ftd.specs.declared.signed.Signed.{Signed}
 
 -- ─── By kind ───
 
@@ -52,44 +51,45 @@ module _ (kind scale : ℕ) (s : List ℕ) (start : ℕ) where
     int-given h x q = rw (e, eq-eqb (length s) 4 h, q)
 
   module _ (e : kind ≡ string_kind) (o : StringValue) (q : o ≡ text_value s) where
-    pub text-none : o ≡ NoText → NoValue ≡ given_at start (typed_value kind scale s)
+    pub text-none : o ≡ None → NoValue ≡ given_at start (typed_value kind scale s)
     unfolding typed_value
     text-none h = rw (e, ← q, h)
 
-    pub text-given : (n : ℕ) → o ≡ TextValue n → Text start n ≡ given_at start (typed_value kind scale s)
+    pub text-given : (n : ℕ) → o ≡ Some n → Text start n ≡ given_at start (typed_value kind scale s)
     unfolding typed_value
     text-given n h = rw (e, ← q, h, text-inside s n (sym q ∙ h))
 
-  module _ (e : kind ≡ number_kind) (o : Signed) (q : o ≡ number_value s) where
-    pub number-none : o ≡ NoSigned → NoValue ≡ given_at start (typed_value kind scale s)
+  module _ (e : kind ≡ number_kind) (o : MaybeSigned) (q : o ≡ number_value s) where
+    pub number-none : o ≡ None → NoValue ≡ given_at start (typed_value kind scale s)
     unfolding typed_value
     number-none h = rw (e, ← q, h)
 
-    pub number-given : (n : Bool) (x : ℕ) → o ≡ SignedValue n x → Number n x ≡ given_at start (typed_value kind scale s)
+    pub number-given : (v : Signed) → o ≡ Some v → Number v.negative v.units ≡ given_at start (typed_value kind scale s)
     unfolding typed_value
-    number-given n x h = rw (e, ← q, h)
+    number-given v h = rw (e, ← q, h)
 
-  module _ (e : kind ≡ float_kind) (o : Signed) (q : o ≡ float_value scale s) where
-    pub float-none : o ≡ NoSigned → NoValue ≡ given_at start (typed_value kind scale s)
+  module _ (e : kind ≡ float_kind) (o : MaybeSigned) (q : o ≡ float_value scale s) where
+    pub float-none : o ≡ None → NoValue ≡ given_at start (typed_value kind scale s)
     unfolding typed_value
     float-none h = rw (e, ← q, h)
 
-    pub float-given : (n : Bool) (x : ℕ) → o ≡ SignedValue n x → Float n x ≡ given_at start (typed_value kind scale s)
+    pub float-given : (v : Signed) → o ≡ Some v → Float v.negative v.units ≡ given_at start (typed_value kind scale s)
     unfolding typed_value
-    float-given n x h = rw (e, ← q, h)
+    float-given v h = rw (e, ← q, h)
 
   module _ (e : kind ≡ date_kind) (o : DateValue) (q : o ≡ date_value s) where
     pub date-none : o ≡ NoDate → NoValue ≡ given_at start (typed_value kind scale s)
     unfolding typed_value
     date-none h = rw (e, ← q, h)
 
-    pub unused-given : o ≡ Unused → Date Unused ≡ given_at start (typed_value kind scale s)
+    pub date-given : (o ≡ NoDate → ⊥) → Date o ≡ given_at start (typed_value kind scale s)
     unfolding typed_value
-    unused-given h = rw (e, ← q, h)
-
-    pub day-given : (y m d : ℕ) → o ≡ Day y m d → Date (Day y m d) ≡ given_at start (typed_value kind scale s)
-    unfolding typed_value
-    day-given y m d h = rw (e, ← q, h)
+    date-given n = go o refl
+      where
+        go : (w : DateValue) → o ≡ w → Date o ≡ given_at start (typed_value kind scale s)
+        go NoDate h = absurd (n h)
+        go Unused h = rw (e, ← q, h)
+        go (Day y m d) h = rw (e, ← q, h)
 
   module _
       (n1 : kind ≡ word_kind → ⊥)
@@ -123,34 +123,34 @@ module _ (kind scale : ℕ) (s : List ℕ) (start : ℕ) where
 
 -- ─── At its place ───
 
-module _ (l : List ℕ) (fid i : ℕ) (p : ItemPlace) (q : p ≡ item_of fid i) where
-  pub no_place : p ≡ NoPlace → NoItem ≡ item_value_of fid i l
+module _ (l : List ℕ) (fid i : ℕ) (p : MaybeItem) (q : p ≡ item_of fid i) where
+  pub no_place : p ≡ None → NoItem ≡ item_value_of fid i l
   unfolding item_value_of
   no_place e = rw (← q, e)
 
-  module _ (kind scale start width : ℕ) (e : p ≡ Place kind scale start width) where
-    absent : length l < start + width → NoItem ≡ item_value_of fid i l
+  module _ (found : ItemPlace) (e : p ≡ Some found) where
+    absent : length l < found.start + found.width → NoItem ≡ item_value_of fid i l
     unfolding item_value_of
-    absent h = rw (← q, e, lt-leb (start + width) (length l) h)
+    absent h = rw (← q, e, lt-leb (found.start + found.width) (length l) h)
 
-    pub place-behind : length l < start → NoItem ≡ item_value_of fid i l
+    pub place-behind : length l < found.start → NoItem ≡ item_value_of fid i l
     place-behind h = absent (omega arith)
 
-    module _ (order : start ≤ length l) where
-      pub place_short : length l - start < width → NoItem ≡ item_value_of fid i l
+    module _ (order : found.start ≤ length l) where
+      pub place_short : length l - found.start < found.width → NoItem ≡ item_value_of fid i l
       place_short h = absent (omega arith)
 
-      pub place_read : width ≤ length l - start → (r : FieldItem)
-          → r ≡ given_at start (typed_value kind scale (take (start + width - start) (drop start l)))
+      pub place_read : found.width ≤ length l - found.start → (r : FieldItem)
+          → r ≡ given_at found.start (typed_value found.kind found.scale (take (found.start + found.width - found.start) (drop found.start l)))
           → r ≡ item_value_of fid i l
       unfolding item_value_of
       place_read h r g =
-          let n : length (part l start width) ≡ width = rw (length-take, length-drop) (omega arith) in
+          let n : length (part l found.start found.width) ≡ found.width = rw (length-take, length-drop) (omega arith) in
           rw (
             ← q,
             e,
-            le-leb (start + width) (length l) (omega arith),
-            wide_value (row fid kind width scale)
-                (part l start width) n,
+            le-leb (found.start + found.width) (length l) (omega arith),
+            wide_value (row fid found.kind found.width found.scale)
+                (part l found.start found.width) n,
           )
           (rw add-sub_cancel_left at g)

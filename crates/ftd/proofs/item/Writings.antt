@@ -1,6 +1,7 @@
 -- Items written: each type, and the item by its place. Assumes nothing.
 use Prim.Native.Nat.{ℕ, ◌<◌}
 use mathlib.Core.Path.{◌≡◌, refl, sym, ◌∙◌}
+use mathlib.Core.Logic.{◌⊎◌, inl, inr}
 use mathlib.Core.Option.{some}
 use mathlib.Core.List.{List, [], ◌∷◌}
 use mathlib.Core.Bool.{Bool, true, false, false≢true}
@@ -17,15 +18,15 @@ use Rattle.ftd.specs.Places.{item_of}
 use Rattle.ftd.specs.Item.{ItemValue, char, word, int, text, number, float, date, value_bytes, fits, taken_as}
 use Rattle.ftd.specs.Item.{fits_at, item_fits, item_written}
 use Rattle.ftd.specs.Item.Helpers.{of_kind}
-use Rattle.ftd.specs.declared.places.ItemPlace.{ItemPlace}
-use Rattle.ftd.specs.declared.places.ItemPlace.TheVariants.{NoItem as NoPlace, Item as Place}
 use Rattle.ftd.specs.declared.item.FieldItem.{FieldItem}
 use Rattle.ftd.specs.declared.item.FieldItem.TheVariants.{NoItem, NoValue, Char, Word, Int, Text, Number, Float}
 use Rattle.ftd.specs.declared.item.FieldItem.TheVariants.{Date}
 use Rattle.ftd.specs.declared.dates.Date.{Date as DateValue}
 use Rattle.ftd.specs.declared.refusal.Refusal.TheVariants.{Item}
-use Rattle.ftd.specs.declared.write.Written.{Written}
-use Rattle.ftd.specs.declared.write.Written.TheVariants.{Refused}
+use Rattle.ftd.specs.Types.{Written}
+use Rattle.std.specs.Prelude.{None, Err}
+use Rattle.ftd.specs.Types.{MaybeItem, some_item}
+use Rattle.ftd.specs.declared.write.WriteError.TheVariants.{Refused}
 
 -- What a writer answers and leaves.
 abbrev pub Wrote : Bool → List ℕ → List ℕ → Written → List ℕ → Type 0
@@ -33,7 +34,7 @@ Wrote f bytes out a new = (a ≡ written_answer (fit_verdict f) bytes out) × (n
 
 -- What is of another type does not fit.
 other_fits : (v : FieldItem) (t : List ℕ) (fid kind scale start width : ℕ) → of_kind kind v ≡ false
-    → fits_at fid (Place kind scale start width) (taken_as v t) ≡ false
+    → fits_at fid (some_item kind scale start width) (taken_as v t) ≡ false
 unfolding fits
 other_fits NoItem t fid kind scale start width h = refl
 other_fits NoValue t fid kind scale start width h = refl
@@ -51,26 +52,23 @@ other_fits (Date d) t fid kind scale start width h = rw h
 abbrev ItemWrote : ℕ → ℕ → FieldItem → List ℕ → List ℕ → Written → List ℕ → Type 0
 ItemWrote fid i v t out a new = Wrote (item_fits fid i v t) (item_written fid i v t) out a new
 
-module _ (fid i : ℕ) (v : FieldItem) (t out : List ℕ) (p : ItemPlace) (q : p ≡ item_of fid i) where
-  refused : item_fits fid i v t ≡ false → ItemWrote fid i v t out (Refused Item) out
+module _ (fid i : ℕ) (v : FieldItem) (t out : List ℕ) (p : MaybeItem) (q : p ≡ item_of fid i) where
+  refused : item_fits fid i v t ≡ false → ItemWrote fid i v t out (Err (Refused Item)) out
   unfolding written_answer written_output
   refused h = (rw h, rw h)
 
-  pub no_place : p ≡ NoPlace → ItemWrote fid i v t out (Refused Item) out
+  pub no_place : p ≡ None → ItemWrote fid i v t out (Err (Refused Item)) out
   unfolding item_fits
   no_place e = refused (rw (← q, e))
 
-  module _ {kind scale start width : ℕ} (e : p ≡ Place kind scale start width) where
-    pub none-given : v ≡ NoItem → ItemWrote fid i v t out (Refused Item) out
+  module _ {kind scale start width : ℕ} (e : p ≡ some_item kind scale start width) where
+    pub valueless : (v ≡ NoItem) ⊎ (v ≡ NoValue) → ItemWrote fid i v t out (Err (Refused Item)) out
     unfolding item_fits
-    none-given g = refused (rw (← q, e, g))
-
-    pub wrong-given : v ≡ NoValue → ItemWrote fid i v t out (Refused Item) out
-    unfolding item_fits
-    wrong-given g = refused (rw (← q, e, g))
+    valueless (inl g) = refused (rw (← q, e, g))
+    valueless (inr g) = refused (rw (← q, e, g))
 
     module _ {f : Bool} (k : f ≡ of_kind kind v) where
-      pub other-kind : f ≡ false → ItemWrote fid i v t out (Refused Item) out
+      pub other-kind : f ≡ false → ItemWrote fid i v t out (Err (Refused Item)) out
       unfolding item_fits
       other-kind h = refused (rw (← q, e) (other_fits v t fid kind scale start width (sym k ∙ h)))
 

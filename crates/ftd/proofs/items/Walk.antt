@@ -1,27 +1,30 @@
 -- One turn of each loop over the fields and their items, over plain variables. Assumes nothing.
 use Prim.Native.Nat.{ℕ, ◌+◌, ◌-◌, ◌<◌, ◌≤◌}
-use mathlib.Core.Path.{◌≡◌}
-use mathlib.Core.List.{List}
-use mathlib.Core.Bool.{Bool, true, false, cond, not, ◌&&◌, ◌||◌}
+use mathlib.Core.Path.{◌≡◌, refl}
+use mathlib.Core.List.{List, [], ◌∷◌}
+use mathlib.Core.Bool.{Bool, true, false, cond, not, ◌&&◌}
 use native.Mathlib.Omega.{arith}
 use borrow.Author.Tests.{lt-ltb, le-leb, lt-leb}
 use lib.ListN.{length, take, drop, length-take, length-drop}
 use lib.Seq.{drop-drop, take-take}
-use lib.Dec.{eqb}
+use lib.Dec.{leb, eqb}
 use Rattle.ftd.specs.Bytes.{be32_of}
 use Rattle.ftd.specs.Runs.{front, run_of}
-use Rattle.ftd.specs.Fields.{field}
+use Rattle.ftd.specs.Fields.{field, fields_of}
+use Rattle.ftd.specs.Fields.Helpers.{places, fields_from}
+use Rattle.std.specs.List.{list_any}
+use Rattle.ftd.specs.declared.fields.FieldPlace.{FieldPlace}
 use Rattle.ftd.specs.Table.{Row, table, rows_of}
 use Rattle.ftd.specs.Table.Rule.{rows_place, row_at}
 use Rattle.ftd.specs.Values.{is_value}
 use Rattle.ftd.specs.Items.{other_width, any_other, wrong_width, item_good, items_good, walk_fields, walk_of, check_of}
 use Rattle.ftd.specs.declared.refusal.Refusal.TheVariants.{FieldLength, Item}
-use Rattle.ftd.specs.declared.items.Checked.{Checked}
-use Rattle.ftd.specs.declared.items.Checked.TheVariants.{Passed, Refused}
+use Rattle.ftd.specs.Types.{Checked}
 use Rattle.ftd.proofs.Lists.{drop-part}
-use Rattle.ftd.proofs.runs.Laws.{run-over, run-next, entry_length}
+use Rattle.ftd.proofs.runs.Laws.{run-over, run-next}
 use Rattle.ftd.proofs.fields.Turns.{some-field, be32-entry, field-head}
 use Rattle.ftd.proofs.table.Rule.{table-rule, rows_none, rows-from, rows-length, rows_next, rows-over}
+use Rattle.std.specs.Prelude.{Ok, Err}
 
 -- ─── Refusal 8 ───
 
@@ -30,7 +33,7 @@ module _ (fid len : ℕ) where
   width-unknown h = rw (rows_none fid h)
 
   module _ (i count : ℕ) (e : i ≡ fid) (q : count ≡ (rows_place i).count) where
-    pub width-empty : count ≡ 0 → false ≡ other_width fid len
+    pub width-empty : count ≡ 0 → not (eqb count 0) ≡ other_width fid len
     width-empty z = rw (rows-length fid, ← e, ← q, z)
 
     pub width-known : (count ≡ 0 → ⊥) → (j wide : ℕ) → j ≡ fid → wide ≡ (rows_place j).wide
@@ -38,27 +41,16 @@ module _ (fid len : ℕ) where
     width-known z j wide f w =
         rw (rows-length fid, (table-rule.field fid).sum, ← f, ← w, f, ← e, ← q, lt-ltb 0 count (omega arith))
 
-module _ (l : List ℕ) (at n : ℕ) (e : n ≡ front field (drop at l)) where
-  module _ (t : Bool) (inv : any_other (run_of field (drop at l)).entries ≡ t) where
-    pub widths-over : n ≡ 0 → false ≡ t
-    widths-over z = rw (run-over field some-field l at n e z) at inv
+abbrev pub wide_otherwise : FieldPlace → Bool
+wide_otherwise p = other_width p.fid p.len
 
-    module _ (z : n ≡ 0 → ⊥) (fid : ℕ) (f : fid ≡ be32_of l at) (r : Bool) (q : r ≡ other_width fid (n - 6)) where
-      step : (r || any_other (run_of field (drop (at + n) l)).entries) ≡ t
-      step =
-          rw q (rw (
-            run-next field some-field l at n e z,
-            be32-entry l at n (field-head l at n e z),
-            length-drop,
-            entry_length field some-field l at n e,
-            ← f,
-          ) at inv)
+places-widths : (fs : List (List ℕ)) (at : ℕ) → list_any wide_otherwise (places at fs) ≡ any_other fs
+places-widths [] at = refl
+places-widths (f ∷ fs) at = rw (length-drop, places-widths fs (at + length f))
 
-      pub widths-here : r ≡ true → true ≡ t
-      widths-here w = rw w at step
-
-      pub widths-turn : r ≡ false → any_other (run_of field (drop (at + n) l)).entries ≡ t
-      widths-turn w = rw w at step
+pub walk-widths : (content : List ℕ) → list_any wide_otherwise (fields_from content 0) ≡ wrong_width content
+unfolding fields_from wrong_width
+walk-widths content = places-widths (fields_of content) 0
 
 -- ─── Refusal 9 ───
 
@@ -71,7 +63,7 @@ module _ (r : Row) (l : List ℕ) (pos end : ℕ) (order : pos ≤ end) (fits : 
   left : length (drop pos (take end l)) ≡ end - pos
   left = simp (length-drop, length-take) (omega arith)
 
-  pub item-short : end - pos < width → false ≡ item_good r (drop pos (take end l))
+  pub item-short : end - pos < width → leb width (end - pos) ≡ item_good r (drop pos (take end l))
   item-short h = rw (left, ← w, lt-leb width (end - pos) h)
 
   pub item-there : width ≤ end - pos → (kind scale : ℕ) → kind ≡ r.kind → scale ≡ r.scale
@@ -83,31 +75,31 @@ module _ (r : Row) (l : List ℕ) (pos end : ℕ) (order : pos ≤ end) (fits : 
 
 -- The items from a row on, up to the last one of the field, and what comes behind the field.
 module _ (l : List ℕ) (i last pos end : ℕ) (more t : Checked)
-    (inv : cond (items_good (take (last - i) (drop i table)) (drop pos (take end l))) more (Refused Item) ≡ t) where
+    (inv : cond (items_good (take (last - i) (drop i table)) (drop pos (take end l))) more (Err Item) ≡ t) where
   pub items-end : last ≤ i → more ≡ t
   items-end h = rw (rows-over i last h) at inv
 
   module _ (h : i < last) (inside : last ≤ 379) (g : Bool) (q : g ≡ item_good (row_at i) (drop pos (take end l))) where
     next : cond (g && items_good (take (last - (i + 1)) (drop (i + 1) table)) (drop (pos + (row_at i).width) (take end l)))
-        more (Refused Item) ≡ t
+        more (Err Item) ≡ t
     next = rw (q, ← (drop-drop (row_at i).width pos (take end l))) (rw (rows_next i last h inside) at inv)
 
-    pub items-wrong : g ≡ false → Refused Item ≡ t
+    pub items-wrong : g ≡ false → Err Item ≡ t
     items-wrong w = rw w at next
 
     pub items-turn : g ≡ true → (width : ℕ) → width ≡ (row_at i).width
         → cond (items_good (take (last - (i + 1)) (drop (i + 1) table)) (drop (pos + width) (take end l))) more
-        (Refused Item) ≡ t
+        (Err Item) ≡ t
     items-turn w width e = rw e (rw w at next)
 
 module _ (l : List ℕ) (at n : ℕ) (e : n ≡ front field (drop at l)) (t : Checked)
     (inv : walk_fields (run_of field (drop at l)).entries ≡ t) where
-  pub walk-over : n ≡ 0 → Passed ≡ t
+  pub walk-over : n ≡ 0 → (Ok tt) ≡ t
   walk-over z = rw (run-over field some-field l at n e z) at inv
 
   module _ (z : n ≡ 0 → ⊥) (fid : ℕ) (f : fid ≡ be32_of l at) where
     here : cond (items_good (rows_of fid) (drop (at + 6) (take (at + n) l)))
-        (walk_fields (run_of field (drop (at + n) l)).entries) (Refused Item) ≡ t
+        (walk_fields (run_of field (drop (at + n) l)).entries) (Err Item) ≡ t
     here =
         let d : at + n - at ≡ n = omega arith in
         rw (f, ← (drop-drop 6 at (take (at + n) l)), drop-part at (at + n) l, d)
@@ -119,13 +111,13 @@ module _ (l : List ℕ) (at n : ℕ) (e : n ≡ front field (drop at l)) (t : Ch
     pub walk-items : (i start : ℕ) → i ≡ fid → start ≡ (rows_place i).start → (j last : ℕ) → j ≡ fid
         → last ≡ (rows_place j).start + (rows_place j).count
         → cond (items_good (take (last - start) (drop start table)) (drop (at + 6) (take (at + n) l)))
-        (walk_fields (run_of field (drop (at + n) l)).entries) (Refused Item) ≡ t
+        (walk_fields (run_of field (drop (at + n) l)).entries) (Err Item) ≡ t
     walk-items i start a p j last b q = rw (rows-from fid i start a p j last b q) at here
 
 -- ─── Refusal 8, then 9 ───
 
 module _ (l : List ℕ) (w : Bool) (q : w ≡ wrong_width l) where
-  pub check-width : w ≡ true → Refused FieldLength ≡ check_of l
+  pub check-width : w ≡ true → Err FieldLength ≡ check_of l
   unfolding check_of
   check-width e = rw (← q, e)
 

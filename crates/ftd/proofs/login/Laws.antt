@@ -14,16 +14,15 @@ use Rattle.ftd.specs.Tags.{tags_for, extension_bytes}
 use Rattle.ftd.specs.Fields.{shaped}
 use Rattle.ftd.specs.Login.{login_header, login_bytes, ending_bytes, login_verdict, LoginLaws}
 use Rattle.ftd.specs.declared.refusal.Refusal.TheVariants.{FieldRun}
-use Rattle.ftd.specs.declared.tags.TradeDate.{TradeDate}
-use Rattle.ftd.specs.declared.tags.PacketPlace.TheVariants.{NoPlace}
+use Rattle.ftd.specs.Types.{TradeDate}
 use Rattle.ftd.specs.declared.packet.Packet.TheVariants.{Message}
-use Rattle.ftd.specs.declared.login.Ending.{Ending}
-use Rattle.ftd.specs.declared.login.Ending.TheVariants.{Nothing, Resume}
 use Rattle.ftd.proofs.chain.Pieces.{shaped-facts}
 use Rattle.ftd.proofs.write.Laws.{message-places, dated-back, message-one}
 use Rattle.ftd.proofs.chain.Laws.{date-good, date-back, no_place}
 use Rattle.ftd.proofs.chain.Singles.{exact-shaped}
 use Rattle.ftd.proofs.resume.Content.{start-shaped}
+use Rattle.std.specs.Prelude.{Some, None}
+use Rattle.ftd.specs.Types.{MaybeEnding}
 
 pub login-content : (d : TradeDate) (c : List ℕ)
     → part (login_bytes d c) (4 + length (extension_bytes (tags_for d)) + 16) (length c) ≡ c
@@ -47,7 +46,7 @@ module _ (d : TradeDate) (c : List ℕ) (h : shaped c 4080 ≡ true) where
         Message (login_header c) (span 4 (length (extension_bytes (tags_for d))))
         (span (4 + length (extension_bytes (tags_for d)) + 16) (length c));
     date = d;
-    place = NoPlace;
+    place = None;
   }
   unfolding login_bytes
   login-back =
@@ -70,11 +69,11 @@ by-fine : (b : Bool) → cond b fine (refuse FieldRun) ≡ fine → b ≡ true
 by-fine true e = refl
 by-fine false e = let z : ◌≡◌ {A = ℕ} 0 1 = cc in absurd (omega arith)
 
-pub fine-shaped : (c : List ℕ) (ending : Ending) → login_verdict c ending ≡ fine
+pub fine-shaped : (c : List ℕ) (ending : MaybeEnding) → login_verdict c ending ≡ fine
     → shaped (c ++ ending_bytes ending) 4080 ≡ true
 unfolding login_verdict
-fine-shaped c Nothing e = rw append-nil (by-fine (shaped c 4080) e)
-fine-shaped c (Resume series number) e = start-shaped c series number 4068 (by-fine (shaped c 4068) e)
+fine-shaped c None e = rw append-nil (by-fine (shaped c 4080) e)
+fine-shaped c (Some found) e = start-shaped c found.series found.number 4068 (by-fine (shaped c 4068) e)
 
 -- ─── All of it ───
 

@@ -16,16 +16,16 @@ use Rattle.ftd.specs.Tags.{tags_for, extension_bytes}
 use Rattle.ftd.specs.Resume.{resume_bytes}
 use Rattle.ftd.specs.Login.{login_tid, login_header, login_bytes, ending_bytes, login_verdict}
 use Rattle.ftd.specs.declared.refusal.Refusal.TheVariants.{FieldRun}
-use Rattle.ftd.specs.declared.tags.TradeDate.{TradeDate}
+use Rattle.ftd.specs.Types.{TradeDate}
 use Rattle.ftd.specs.declared.packet.Chain.TheVariants.{Single}
 use Rattle.ftd.specs.declared.packet.Header.{Header}
 use Rattle.ftd.specs.declared.chain.Cut.{Cut}
-use Rattle.ftd.specs.declared.login.Ending.{Ending}
-use Rattle.ftd.specs.declared.login.Ending.TheVariants.{Nothing, Resume}
 use Rattle.ftd.proofs.write.Puts.{then, between_put, length-header, length-message}
 use Rattle.ftd.proofs.chain.Pieces.{piece-length, whole-last, shaped-facts}
 use Rattle.ftd.proofs.chain.Singles.{shaped-ended, one_piece}
 use Rattle.ftd.proofs.resume.Behind.{behind}
+use Rattle.std.specs.Prelude.{Some, None, is_some}
+use Rattle.ftd.specs.Types.{MaybeEnding, some_start}
 
 -- ─── The bytes ───
 
@@ -63,7 +63,7 @@ parts-put l o1 o2 o3 o4 to h extension content more room b1 b2 b3 b4 =
     ∙ ap (put l to) (regroup f extension n content more))
 
 -- The login packet, put in four.
-module _ (l o1 o2 o3 o4 : List ℕ) (d : TradeDate) (content : List ℕ) (ending : Ending) (tags tail fields : ℕ) where
+module _ (l o1 o2 o3 o4 : List ℕ) (d : TradeDate) (content : List ℕ) (ending : MaybeEnding) (tags tail fields : ℕ) where
   pub login-put : tags ≡ length (extension_bytes (tags_for d)) → tail ≡ length (ending_bytes ending)
       → fields ≡ length (fields_of (content ++ ending_bytes ending))
       → fields < 65536 → 4 + tags ≤ length l
@@ -88,7 +88,7 @@ module _ (l o1 o2 o3 o4 : List ℕ) (d : TradeDate) (content : List ℕ) (ending
       (extension_bytes (tags_for d)) content (ending_bytes ending) (rw t at room) (rw (t, e, k) at b1) b2 (rw t at b3)
       (rw t at b4)
 
-pub login-size : (d : TradeDate) (content : List ℕ) (ending : Ending) (tags tail : ℕ)
+pub login-size : (d : TradeDate) (content : List ℕ) (ending : MaybeEnding) (tags tail : ℕ)
     → tags ≡ length (extension_bytes (tags_for d)) → tail ≡ length (ending_bytes ending)
     → length (login_bytes d (content ++ ending_bytes ending)) ≡ 4 + tags + (16 + (length content + tail))
 unfolding login_bytes
@@ -96,23 +96,27 @@ login-size d content ending tags tail p q = rw (length-message, length-append co
 
 -- ─── The fields ───
 
-pub no_fields : 0 ≡ length (fields_of (ending_bytes Nothing))
+pub no_fields : 0 ≡ length (fields_of (ending_bytes None))
 unfolding run_of
 no_fields = refl
 
-pub one_field : (series number : ℕ) → 1 ≡ length (fields_of (ending_bytes (Resume series number)))
+pub one_field : (series number : ℕ) → 1 ≡ length (fields_of (ending_bytes (some_start series number)))
 unfolding run_of
 one_field series number = sym (ap (λ (r : Run). length r.entries) (behind [] series number refl))
 
-fields-more : (content : List ℕ) (ending : Ending) → ended (run_of field content) ≡ true
+pub fields_of_ending : (e : MaybeEnding) → length (fields_of (ending_bytes e)) ≡ cond (is_some e) 1 0
+fields_of_ending None = sym no_fields
+fields_of_ending (Some e) = sym (one_field e.series e.number)
+
+fields-more : (content : List ℕ) (ending : MaybeEnding) → ended (run_of field content) ≡ true
     → length (fields_of content) + length (fields_of (ending_bytes ending)) ≡ length
     (fields_of (content ++ ending_bytes ending))
-fields-more content Nothing whole = rw (append-nil content, ← no_fields) (omega arith)
-fields-more content (Resume series number) whole =
-    let one = one_field series number in
-    let all : length (fields_of (content ++ resume_bytes series number)) ≡ length (fields_of content) + 1 =
-    ap (λ (r : Run). length r.entries) (behind content series number whole)
-    ∙ length-append (fields_of content) (resume_bytes series number ∷ []) in
+fields-more content None whole = rw (append-nil content, ← no_fields) (omega arith)
+fields-more content (Some found) whole =
+    let one = one_field found.series found.number in
+    let all : length (fields_of (content ++ resume_bytes found.series found.number)) ≡ length (fields_of content) + 1 =
+    ap (λ (r : Run). length r.entries) (behind content found.series found.number whole)
+    ∙ length-append (fields_of content) (resume_bytes found.series found.number ∷ []) in
     omega arith
 
 -- ─── The verdict ───
@@ -127,7 +131,7 @@ all-taken l c next s =
     let p : piece_at l 0 c ≡ record { count = length (fields_of l); bytes = l } = cc in
     (omega (arith, ap (λ (x : Piece). length x.bytes) p, piece-length l 0 c next), ap (λ (x : Piece). x.count) p)
 
-module _ (content : List ℕ) (ending : Ending) (tail : ℕ) (e : tail ≡ length (ending_bytes ending)) where
+module _ (content : List ℕ) (ending : MaybeEnding) (tail : ℕ) (e : tail ≡ length (ending_bytes ending)) where
   pub login-long : 4080 - tail < length content → login_verdict content ending ≡ refuse FieldRun
   unfolding login_verdict shaped
   login-long h = rw (← e, lt-leb (length content) (4080 - tail) h)

@@ -13,8 +13,6 @@ use Rattle.ftd.specs.Bytes.{be16_of, be32_of, part, joined, Bytes}
 use Rattle.ftd.specs.Runs.{run_of, ended}
 use Rattle.ftd.specs.Tags.{good_tags}
 use Rattle.ftd.specs.Fields.{field, fields_of, fid_of, bytes_of, exact_run, field_in, field_place_of, FieldInside}
-use Rattle.ftd.specs.declared.fields.FieldPlace.{FieldPlace}
-use Rattle.ftd.specs.declared.fields.FieldPlace.TheVariants.{NoField, Field}
 use Rattle.ftd.specs.Packet.{kind_of, extension_length, body_length, said_length, extension_of, version_of, tid_of}
 use Rattle.ftd.specs.Packet.{letter_of, series_of, message_number_of, field_count_of, content_length_of, content_of}
 use Rattle.ftd.specs.Packet.{head_missing, rest_missing, long_extension, wrong_body, is_skipped, broken_tag, is_link}
@@ -34,7 +32,7 @@ use Rattle.ftd.specs.declared.packet.Span.{Span}
 use Rattle.ftd.specs.declared.packet.Packet.{Packet}
 use Rattle.ftd.specs.declared.packet.Packet.TheVariants.{Short, Link, Skipped, Message, Refused}
 use Rattle.ftd.specs.declared.packet.Verdict.{Verdict}
-use Rattle.ftd.specs.declared.packet.Verdict.TheVariants.{LinkPacket, SkippedPacket, MessagePacket}
+use Rattle.ftd.specs.declared.packet.Verdict.TheVariants.{TooFew, LinkPacket, SkippedPacket, MessagePacket, Against}
 use Rattle.ftd.specs.declared.packet.Judged.{Judged}
 use Rattle.ftd.proofs.Lists.{byte-append, be16-append, be32-append, part-append, be16-width, be32-width}
 use Rattle.ftd.proofs.Lists.{part-part, drop-part, joined-part, joined-inside}
@@ -44,6 +42,8 @@ use Rattle.ftd.proofs.packet.Verdicts.{header_made, version-wrong, letter-wrong,
 use Rattle.ftd.proofs.packet.Verdicts.{message-good, whole-skipped, whole-broken, whole-link, whole-message}
 use Rattle.ftd.proofs.packet.Verdicts.{body-bounds, body-least, read-head-missing, read-long, read-body}
 use Rattle.ftd.proofs.packet.Verdicts.{read-rest-missing, read-there, head-number, rest-number}
+use Rattle.std.specs.Prelude.{Some, None}
+use Rattle.ftd.specs.Types.{MaybeField, some_field}
 
 -- A test decides between two answers: both cases are shown.
 pub by-test : {A : Type 0} (P : A → Type 0) (b : Bool) {x y : A} → (b ≡ true → P x) → (b ≡ false → P y) → P (cond b x y)
@@ -355,6 +355,17 @@ parts-read p =
 module _ (p : List ℕ) (v : Verdict) (e : v ≡ verdict_of (read_of p)) where
   pub read_as : (w : Verdict) → v ≡ w → read_of p ≡ parts_of p w
   read_as w f = sym (parts-read p) ∙ ap (parts_of p) (sym e ∙ f)
+
+  pub no_message : (v ≡ MessagePacket → ⊥) → (i : ℕ) → field_of p i ≡ None
+  unfolding field_of
+  no_message n i = go v refl
+    where
+      go : (w : Verdict) → v ≡ w → field_within p (read_of p) i ≡ None
+      go TooFew f = rw (read_as TooFew f)
+      go LinkPacket f = rw (read_as LinkPacket f)
+      go SkippedPacket f = rw (read_as SkippedPacket f)
+      go MessagePacket f = absurd (n f)
+      go (Against r) f = rw (read_as (Against r) f)
 
   pub link-told : v ≡ LinkPacket → IsLink p
   link-told f = (link p).0 (read_as LinkPacket f)
@@ -696,25 +707,25 @@ module _ (p : List ℕ) (h : Header) (x y : Span) (e : read_of p ≡ Message h x
   unfolding header_of
   count = rw (fields-are, (accepted p h x y e).header) (eqb-true _ _ run_is.1)
 
--- Field i of a list of fields that starts at a place.
+-- some_field i of a list of fields that starts at a place.
 place-some : (base : ℕ) (fs : List (List ℕ)) (i : ℕ) → i < length fs
-    → field_in base fs i ≡ Field (fid_of (get_or fs i [])) (base + length (joined (take i fs)) + 6)
+    → field_in base fs i ≡ some_field (fid_of (get_or fs i [])) (base + length (joined (take i fs)) + 6)
     (length (get_or fs i []) - 6)
 place-some base [] i h = absurd (omega arith)
-place-some base (f ∷ fs) zero h = ap (λ (n : ℕ). Field (fid_of f) (n + 6) (length f - 6)) (omega arith)
+place-some base (f ∷ fs) zero h = ap (λ (n : ℕ). some_field (fid_of f) (n + 6) (length f - 6)) (omega arith)
 place-some base (f ∷ fs) (suc i) h =
     let k : base + length (f ++ joined (take i fs)) + 6 ≡ base + length f + length (joined (take i fs)) + 6 =
     rw length-append (omega arith) in
     rw k (place-some (base + length f) fs i (omega arith))
 
-place_none : (base : ℕ) (fs : List (List ℕ)) (i : ℕ) → length fs ≤ i → field_in base fs i ≡ NoField
+place_none : (base : ℕ) (fs : List (List ℕ)) (i : ℕ) → length fs ≤ i → field_in base fs i ≡ None
 place_none base [] i h = refl
 place_none base (f ∷ fs) zero h = absurd (omega arith)
 place_none base (f ∷ fs) (suc i) h = place_none (base + length f) fs i (omega arith)
 
 -- What is said of field i of a packet that has that many fields.
-abbrev Found : List ℕ → List ℕ → FieldPlace → Type 0
-Found p f place = (start : ℕ) × (place ≡ Field (fid_of f) start (length f - 6)) × (part_at p place ≡ bytes_of f)
+abbrev Found : List ℕ → List ℕ → MaybeField → Type 0
+Found p f place = (start : ℕ) × (place ≡ some_field (fid_of f) start (length f - 6)) × (part_at p place ≡ bytes_of f)
 
 module _ (p : List ℕ) (i : ℕ) where
   in-message : (h : Header) (x y : Span) → read_of p ≡ Message h x y → i < length (fields_within p (Message h x y))
@@ -734,7 +745,7 @@ module _ (p : List ℕ) (i : ℕ) where
       let d : y.start + (0 + a + 6) ≡ y.start + a + 6 = omega arith in (
         y.start + (0 + a + 6),
         ap (moved_by y.start) place,
-        ap (λ (x : FieldPlace). part_at p (moved_by y.start x)) place
+        ap (λ (x : MaybeField). part_at p (moved_by y.start x)) place
             ∙ ap (λ (n : ℕ). part p n (length f - 6)) d
             ∙ ap (take (length f - 6)) (sym (drop-drop 6 (y.start + a) p))
             ∙ sym (drop-part 6 (length f) (drop (y.start + a) p))
@@ -743,7 +754,7 @@ module _ (p : List ℕ) (i : ℕ) where
 
   pub some : i < length (message_fields p)
       → (start : ℕ)
-      × (field_of p i ≡ Field (fid_of (get_or (message_fields p) i [])) start (length (get_or (message_fields p) i []) - 6))
+      × (field_of p i ≡ some_field (fid_of (get_or (message_fields p) i [])) start (length (get_or (message_fields p) i []) - 6))
       × (field_bytes p i ≡ bytes_of (get_or (message_fields p) i []))
   unfolding message_fields field_of field_bytes
   some = go (read_of p) refl
@@ -756,18 +767,18 @@ module _ (p : List ℕ) (i : ℕ) where
       go (Message h x y) e k = in-message h x y e k
       go (Refused r) e k = absurd (omega arith)
 
-  pub none : length (message_fields p) ≤ i → (field_of p i ≡ NoField) × (field_bytes p i ≡ [])
+  pub none : length (message_fields p) ≤ i → (field_of p i ≡ None) × (field_bytes p i ≡ [])
   unfolding message_fields field_of field_bytes field_place_of
   none = go (read_of p)
     where
       go : (x : Packet) → length (fields_within p x) ≤ i
-          → (field_within p x i ≡ NoField) × (part_at p (field_within p x i) ≡ [])
+          → (field_within p x i ≡ None) × (part_at p (field_within p x i) ≡ [])
       go (Short n) k = (refl, refl)
       go (Link kind extension) k = (refl, refl)
       go (Skipped kind extension body) k = (refl, refl)
       go (Message h x y) k = (rw e, rw e)
         where
-          e : field_in 0 (fields_of (part p y.start y.len)) i ≡ NoField
+          e : field_in 0 (fields_of (part p y.start y.len)) i ≡ None
           e = place_none 0 (fields_of (part p y.start y.len)) i k
       go (Refused r) k = (refl, refl)
 
@@ -777,7 +788,7 @@ module _ (p : List ℕ) (i : ℕ) where
 pub content-inside : (p : List ℕ) (h : Header) (x y : Span) → read_of p ≡ Message h x y → y.start + y.len ≤ length p
 content-inside p h x y e = let i = rw e at (inside p) in omega (arith, i.1, i.2)
 
-module _ (p : List ℕ) (y : Span) (g : FieldPlace) where
+module _ (p : List ℕ) (y : Span) (g : MaybeField) where
   content : List ℕ
   content = take (y.start + y.len - y.start) (drop y.start p)
 
@@ -794,20 +805,20 @@ module _ (p : List ℕ) (y : Span) (g : FieldPlace) where
   unfolding content
   place-fits = go g
     where
-      go : (x : FieldPlace) → FieldInside content x → FitsIn y.len x
-      go NoField k = tt
-      go (Field fid start len) k = omega (arith, content-room)
+      go : (x : MaybeField) → FieldInside content x → FitsIn y.len x
+      go None k = tt
+      go (Some found) k = omega (arith, content-room)
 
-  pub field_found : (h : Header) (x : Span) (i : ℕ) (r : FieldPlace) → read_of p ≡ Message h x y
+  pub field_found : (h : Header) (x : Span) (i : ℕ) (r : MaybeField) → read_of p ≡ Message h x y
       → g ≡ field_place_of (take (y.start + y.len - y.start) (drop y.start p)) i
       → FieldInside (take (y.start + y.len - y.start) (drop y.start p)) g
       → r ≡ moved_by y.start g → (r ≡ field_of p i) × FieldInside p r
   unfolding content field_of
   field_found h x i r e q k m = (m ∙ ap (moved_by y.start) (rw as-part at q) ∙ rw e, rw m (go g k))
     where
-      go : (x : FieldPlace) → FieldInside content x → FieldInside p (moved_by y.start x)
-      go NoField k = tt
-      go (Field fid start len) k = omega (arith, content-room, content-inside p h x y e)
+      go : (x : MaybeField) → FieldInside content x → FieldInside p (moved_by y.start x)
+      go None k = tt
+      go (Some found) k = omega (arith, content-room, content-inside p h x y e)
 
 -- ─── All of it ───
 

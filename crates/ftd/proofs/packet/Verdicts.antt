@@ -17,8 +17,8 @@ use Rattle.ftd.specs.Packet.{header_of, accepted_of, message_of, whole_of, read_
 use Rattle.ftd.specs.Packet.Helpers.{SaysLengths}
 use Rattle.ftd.specs.declared.refusal.Refusal.TheVariants.{LongExtension, BrokenTag, BodyLength, Version}
 use Rattle.ftd.specs.declared.refusal.Refusal.TheVariants.{ChainLetter, ContentLength, FieldRun}
-use Rattle.ftd.specs.declared.tags.TradeDate.{TradeDate}
-use Rattle.ftd.specs.declared.tags.PacketPlace.{PacketPlace}
+use Rattle.ftd.specs.Types.{TradeDate}
+use Rattle.ftd.specs.Types.{PacketPlace}
 use Rattle.ftd.specs.declared.packet.Chain.{Chain}
 use Rattle.ftd.specs.declared.packet.Header.{Header}
 use Rattle.ftd.specs.declared.packet.Verdict.TheVariants.{MessagePacket}

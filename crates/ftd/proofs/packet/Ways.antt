@@ -12,10 +12,8 @@ use Rattle.ftd.specs.Packet.{judged_of}
 use Rattle.ftd.specs.Packet.Helpers.{SaysLengths, bare}
 use Rattle.ftd.specs.declared.refusal.Refusal.{Refusal}
 use Rattle.ftd.specs.declared.refusal.Refusal.TheVariants.{LongExtension, BrokenTag, BodyLength}
-use Rattle.ftd.specs.declared.tags.TagRun.{TagRun}
-use Rattle.ftd.specs.declared.tags.TagRun.TheVariants.{Broken, Good}
-use Rattle.ftd.specs.declared.tags.TradeDate.{TradeDate}
-use Rattle.ftd.specs.declared.tags.PacketPlace.{PacketPlace}
+use Rattle.ftd.specs.Types.{TradeDate}
+use Rattle.ftd.specs.Types.{PacketPlace}
 use Rattle.ftd.specs.declared.packet.Packet.{Packet}
 use Rattle.ftd.specs.declared.packet.Packet.TheVariants.{Refused}
 use Rattle.ftd.specs.declared.packet.Verdict.TheVariants.{TooFew, LinkPacket, SkippedPacket, Against}
@@ -23,6 +21,8 @@ use Rattle.ftd.specs.declared.packet.Judged.{Judged}
 use Rattle.ftd.proofs.packet.Verdicts.{whole-skipped, whole-broken, whole-link, whole-message, read-head-missing}
 use Rattle.ftd.proofs.packet.Verdicts.{read-long, read-body, read-rest-missing, read-there}
 use Rattle.ftd.proofs.tags.Walk.{run-broken, run-good, run-date, run-place}
+use Rattle.std.specs.Prelude.{None}
+use Rattle.ftd.specs.Types.{MaybeTags, some_tags}
 
 -- What bears no tags, and what bears them.
 module _ (w : Packet) (d : TradeDate) (j : PacketPlace) where
@@ -51,13 +51,13 @@ module _ (p : List ℕ) (ext body : ℕ) (said : SaysLengths p ext body) (kind :
   pub judged-skipped : skipped ≡ true → (y : Judged) → y ≡ bare SkippedPacket → Whole y
   judged-skipped w = tags-none (whole_of p) _ _ _ (whole-skipped p ext body said kind a skipped s w) refl
 
-  module _ (not-skipped : skipped ≡ false) (r : TagRun) (g : r ≡ tag_run_of (take (4 + ext - 4) (drop 4 p))) where
-    pub judged-broken : r ≡ Broken → (y : Judged) → y ≡ bare (Against BrokenTag) → Whole y
+  module _ (not-skipped : skipped ≡ false) (r : MaybeTags) (g : r ≡ tag_run_of (take (4 + ext - 4) (drop 4 p))) where
+    pub judged-broken : r ≡ None → (y : Judged) → y ≡ bare (Against BrokenTag) → Whole y
     judged-broken w =
         tags-none (whole_of p) _ _ _
         (whole-broken p ext body said kind a skipped s not-skipped _ refl (run-broken _ r g w)) refl
 
-    module _ (x : TradeDate) (i : PacketPlace) (q : r ≡ Good x i) where
+    module _ (x : TradeDate) (i : PacketPlace) (q : r ≡ some_tags x i) where
       date-same : x ≡ trade_date_of (extension_of p)
       unfolding extension_of
       date-same =

@@ -14,8 +14,7 @@ use Rattle.ftd.specs.Runs.{front, run_of, ended}
 use Rattle.ftd.specs.Fields.{field, fields_of, all_small, shapely}
 use Rattle.ftd.specs.Content.{content_check}
 use Rattle.ftd.specs.declared.composition.Direction.{Direction}
-use Rattle.ftd.specs.declared.items.Checked.{Checked}
-use Rattle.ftd.specs.declared.items.Checked.TheVariants.{Refused}
+use Rattle.ftd.specs.Types.{Checked}
 use Rattle.ftd.specs.declared.refusal.Refusal.TheVariants.{FieldRun}
 use Rattle.ftd.proofs.Lists.{byte-append, be16-append}
 use Rattle.ftd.proofs.bytes.Put.{put-put, put-zero}
@@ -25,22 +24,23 @@ use Rattle.ftd.proofs.fields.Turns.{some-field, field-short, field-whole}
 use Rattle.ftd.proofs.fields.Shape.{shapely-next}
 use Rattle.ftd.proofs.content.Verdicts.{by_shape}
 use Rattle.ftd.proofs.parts.Laws.{shapely-behind, shaped-over, shaped-not, field-alone}
+use Rattle.std.specs.Prelude.{Err}
 
 module _ (tid : ℕ) (d : Direction) (limit : ℕ) where
-  not-shapely : (l : List ℕ) → shapely (run_of field l) ≡ false → Refused FieldRun ≡ content_check tid d l limit
+  not-shapely : (l : List ℕ) → shapely (run_of field l) ≡ false → Err FieldRun ≡ content_check tid d l limit
   not-shapely l e = by_shape tid d l limit false (sym (shaped-not l limit e)) refl
 
   -- Two parts are longer than the limit.
   module _ (h t : List ℕ) where
-    too_long : limit < length h + length t → Refused FieldRun ≡ content_check tid d (h ++ t) limit
+    too_long : limit < length h + length t → Err FieldRun ≡ content_check tid d (h ++ t) limit
     too_long k =
         by_shape tid d (h ++ t) limit false (sym (shaped-over (h ++ t) limit (rw (length-append h t) k))) refl
 
-    pub head-long : limit < length h → Refused FieldRun ≡ content_check tid d (h ++ t) limit
+    pub head-long : limit < length h → Err FieldRun ≡ content_check tid d (h ++ t) limit
     head-long k = too_long (omega arith)
 
     pub both_long : length h ≤ limit → limit - length h < length t
-        → Refused FieldRun ≡ content_check tid d (h ++ t) limit
+        → Err FieldRun ≡ content_check tid d (h ++ t) limit
     both_long k j = too_long (omega arith)
 
 -- `s` is the start of a field, `t` has the rest of it.
@@ -63,7 +63,7 @@ module _ (s t : List ℕ) (over : front field s ≡ 0) (n : ℕ) (e : n ≡ fron
           absurd (omega arith)
 
   module _ (tid : ℕ) (d : Direction) (limit : ℕ) (a : List ℕ) (whole : ended (run_of field a) ≡ true) where
-    behind : shapely (run_of field (s ++ t)) ≡ false → Refused FieldRun ≡ content_check tid d (a ++ (s ++ t)) limit
+    behind : shapely (run_of field (s ++ t)) ≡ false → Err FieldRun ≡ content_check tid d (a ++ (s ++ t)) limit
     behind f =
         not-shapely tid d limit (a ++ (s ++ t))
         (shapely-behind a (s ++ t) whole
@@ -71,7 +71,7 @@ module _ (s t : List ℕ) (over : front field s ≡ 0) (n : ℕ) (e : n ≡ fron
         ∙ and-false (all_small (fields_of a)))
 
     -- It does not stand there whole.
-    pub across-none : 0 < length s → n ≡ 0 → Refused FieldRun ≡ content_check tid d (a ++ (s ++ t)) limit
+    pub across-none : 0 < length s → n ≡ 0 → Err FieldRun ≡ content_check tid d (a ++ (s ++ t)) limit
     across-none h z =
         behind
         (rw (
@@ -80,7 +80,7 @@ module _ (s t : List ℕ) (over : front field s ≡ 0) (n : ℕ) (e : n ≡ fron
         ))
 
     -- It is too long for a packet.
-    pub across-long : (n ≡ 0 → ⊥) → 4080 < n → Refused FieldRun ≡ content_check tid d (a ++ (s ++ t)) limit
+    pub across-long : (n ≡ 0 → ⊥) → 4080 < n → Err FieldRun ≡ content_check tid d (a ++ (s ++ t)) limit
     across-long z h =
         behind
         (shapely-next (s ++ t) 0 n e z

@@ -15,13 +15,13 @@ use Rattle.ftd.specs.Fields.{field, fields_of, fid_of, bytes_of, all_small, shap
 use Rattle.ftd.specs.Table.{rows_of}
 use Rattle.ftd.specs.Items.{other_width, any_other, wrong_width, items_good, walk_fields, walk_of}
 use Rattle.ftd.specs.Content.{passed_then}
-use Rattle.ftd.specs.declared.items.Checked.TheVariants.{Refused}
 use Rattle.ftd.specs.declared.refusal.Refusal.TheVariants.{Item}
 use Rattle.ftd.proofs.runs.Laws.{run-whole, run-joined, run-next}
 use Rattle.ftd.proofs.runs.Turns.{and-false}
 use Rattle.ftd.proofs.fields.Turns.{some-field}
 use Rattle.ftd.proofs.chain.Laws.{fields-entries}
 use Rattle.ftd.proofs.runs.Joined.{Entries, run-behind, run-of}
+use Rattle.std.specs.Prelude.{Err}
 
 -- ─── Lists of fields, one behind the other ───
 
@@ -48,7 +48,7 @@ walk-append [] fs = refl
 walk-append (e ∷ es) fs = go (items_good (rows_of (fid_of e)) (bytes_of e)) (walk-append es fs)
   where
     go : (b : Bool) → walk_fields (es ++ fs) ≡ passed_then (walk_fields es) (walk_fields fs)
-        → cond b (walk_fields (es ++ fs)) (Refused Item) ≡ passed_then (cond b (walk_fields es) (Refused Item))
+        → cond b (walk_fields (es ++ fs)) (Err Item) ≡ passed_then (cond b (walk_fields es) (Err Item))
         (walk_fields fs)
     go true h = h
     go false h = refl

@@ -2,16 +2,13 @@
 use Prim.Native.Nat.{ℕ, ◌+◌, ◌≤◌}
 use mathlib.Core.Path.{◌≡◌, ap, ◌∙◌}
 use mathlib.Core.List.{List, ◌++◌}
-use mathlib.Core.Bool.{Bool, true, false, ◌&&◌, ◌||◌}
+use mathlib.Core.Bool.{Bool, true, ◌&&◌, ◌||◌}
 use native.Mathlib.Omega.{arith}
 use lib.ListN.{length, length-append}
 use Rattle.ftd.specs.Runs.{run_of, ended}
 use Rattle.ftd.specs.Fields.{field, fields_of, all_small, shaped, count_of}
 use Rattle.ftd.specs.Items.{wrong_width, walk_of}
 use Rattle.ftd.specs.Content.{passed_then}
-use Rattle.ftd.specs.declared.items.Checked.{Checked}
-use Rattle.ftd.specs.declared.items.Checked.TheVariants.{Passed, Refused}
-use Rattle.ftd.specs.declared.refusal.Refusal.{Refusal}
 use Rattle.ftd.proofs.parts.Laws.{widths-behind, walks-behind, counts_behind, shapely-behind, shaped-within}
 
 module _ (a m b : List ℕ) (wa : ended (run_of field a) ≡ true) (wm : ended (run_of field m) ≡ true) where
@@ -25,7 +22,7 @@ module _ (a m b : List ℕ) (wa : ended (run_of field a) ≡ true) (wm : ended (
     small_is : (l : List ℕ) → ended (run_of field l) ≡ true → length l ≤ limit → shaped l limit ≡ all_small (fields_of l)
     small_is l w h = rw (shaped-within l limit h, w)
 
-    three-shape : shaped (a ++ (m ++ b)) limit ≡ (shaped a limit && (shaped m limit && shaped b limit))
+    pub three-shape : shaped (a ++ (m ++ b)) limit ≡ (shaped a limit && (shaped m limit && shaped b limit))
     three-shape =
         rw (
           shaped-within (a ++ (m ++ b)) limit within,
@@ -36,48 +33,15 @@ module _ (a m b : List ℕ) (wa : ended (run_of field a) ≡ true) (wm : ended (
           shaped-within b limit (omega arith),
         )
 
-    module _ (x : Bool) (p : x ≡ shaped a limit) where
-      pub shape-first : x ≡ false → false ≡ shaped (a ++ (m ++ b)) limit
-      shape-first e = rw (three-shape, ← p, e)
-
-      module _ (h : x ≡ true) (y : Bool) (q : y ≡ shaped m limit) where
-        pub shape-across : y ≡ false → false ≡ shaped (a ++ (m ++ b)) limit
-        shape-across e = rw (three-shape, ← p, h, ← q, e)
-
-        pub shape-last : y ≡ true → (z : Bool) → z ≡ shaped b limit → z ≡ shaped (a ++ (m ++ b)) limit
-        shape-last e z r = rw (three-shape, ← p, h, ← q, e) r
-
   -- ─── Refusal 8 ───
 
-  three-widths : wrong_width (a ++ (m ++ b)) ≡ (wrong_width a || (wrong_width m || wrong_width b))
+  pub three-widths : wrong_width (a ++ (m ++ b)) ≡ (wrong_width a || (wrong_width m || wrong_width b))
   three-widths = widths-behind a (m ++ b) wa ∙ ap (λ (x : Bool). wrong_width a || x) (widths-behind m b wm)
-
-  module _ (x : Bool) (p : x ≡ wrong_width a) where
-    pub width-first : x ≡ true → true ≡ wrong_width (a ++ (m ++ b))
-    width-first e = rw (three-widths, ← p, e)
-
-    module _ (h : x ≡ false) (y : Bool) (q : y ≡ wrong_width m) where
-      pub width-across : y ≡ true → true ≡ wrong_width (a ++ (m ++ b))
-      width-across e = rw (three-widths, ← p, h, ← q, e)
-
-      pub width-last : y ≡ false → (z : Bool) → z ≡ wrong_width b → z ≡ wrong_width (a ++ (m ++ b))
-      width-last e z r = rw (three-widths, ← p, h, ← q, e) r
 
   -- ─── Refusal 9 ───
 
-  three-walks : walk_of (a ++ (m ++ b)) ≡ passed_then (walk_of a) (passed_then (walk_of m) (walk_of b))
+  pub three-walks : walk_of (a ++ (m ++ b)) ≡ passed_then (walk_of a) (passed_then (walk_of m) (walk_of b))
   three-walks = walks-behind a (m ++ b) wa ∙ ap (passed_then (walk_of a)) (walks-behind m b wm)
-
-  module _ (x : Checked) (p : x ≡ walk_of a) where
-    pub walk_first : (r : Refusal) → x ≡ Refused r → Refused r ≡ walk_of (a ++ (m ++ b))
-    walk_first r e = rw (three-walks, ← p, e)
-
-    module _ (h : x ≡ Passed) (y : Checked) (q : y ≡ walk_of m) where
-      pub walk-across : (r : Refusal) → y ≡ Refused r → Refused r ≡ walk_of (a ++ (m ++ b))
-      walk-across r e = rw (three-walks, ← p, h, ← q, e)
-
-      pub walk-last : y ≡ Passed → (z : Checked) → z ≡ walk_of b → z ≡ walk_of (a ++ (m ++ b))
-      walk-last e z s = rw (three-walks, ← p, h, ← q, e) s
 
   -- ─── Counts ───
 

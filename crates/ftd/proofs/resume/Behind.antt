@@ -10,7 +10,6 @@ use Rattle.ftd.specs.Bytes.{be16_of, be32_of, joined, bytes16, bytes32}
 use Rattle.ftd.specs.Runs.{Run, run_of, ended}
 use Rattle.ftd.specs.Fields.{field, fields_of, fid_of, field_with, one_if, counted, count_of, first_in, first_of}
 use Rattle.ftd.specs.Resume.{resume_fid, resume_of, resume_bytes}
-use Rattle.ftd.specs.declared.fields.FieldPlace.TheVariants.{Field}
 use Rattle.ftd.specs.declared.resume.Resume.TheVariants.{Next}
 use Rattle.ftd.proofs.runs.Laws.{run-whole}
 use Rattle.ftd.proofs.bytes.Numbers.{be16-behind, be32-behind}
@@ -18,6 +17,7 @@ use Rattle.ftd.proofs.fields.Turns.{some-field}
 use Rattle.ftd.proofs.runs.Joined.{Entry, run-of}
 use Rattle.ftd.proofs.chain.Laws.{joined-append, entries-snoc, fields-entries}
 use Rattle.ftd.proofs.fields.Laws.{field-entry}
+use Rattle.ftd.specs.Types.{some_field}
 
 -- The field of twelve bytes is an entry.
 resume-entry : (series number : ℕ) → Entry field (resume_bytes series number)
@@ -50,8 +50,8 @@ differs x = go (eqb x 4)
     go false e = refl
 
 first-behind : (series number at : ℕ) (fs : List (List ℕ)) (n : ℕ) → counted 4 fs n ≡ n
-    → first_in at (fs ++ (resume_bytes series number ∷ [])) 4 ≡ Field 4 (at + length (joined fs) + 6) 6
-first-behind series number at [] n z = rw (fid-is series number) (ap (λ (k : ℕ). Field 4 (k + 6) 6) (omega arith))
+    → first_in at (fs ++ (resume_bytes series number ∷ [])) 4 ≡ some_field 4 (at + length (joined fs) + 6) 6
+first-behind series number at [] n z = rw (fid-is series number) (ap (λ (k : ℕ). some_field 4 (k + 6) 6) (omega arith))
 first-behind series number at (f ∷ fs) n z =
     let none : one_if (fid_of f) 4 ≡ 0 = omega (arith, counted-least fs (n + one_if (fid_of f) 4)) in
     let k : at + length (f ++ joined fs) + 6 ≡ at + length f + length (joined fs) + 6 =
@@ -98,12 +98,12 @@ module _ (content : List ℕ) (series number : ℕ) (whole : ended (run_of field
   long : length (joined (fields_of content)) ≡ length content
   long = ap length (run-whole field content whole)
 
-  first-is : count_of 4 content ≡ 0 → first_of (content ++ resume_bytes series number) 4 ≡ Field 4 (length content + 6) 6
+  first-is : count_of 4 content ≡ 0 → first_of (content ++ resume_bytes series number) 4 ≡ some_field 4 (length content + 6) 6
   unfolding first_of count_of
   first-is z =
       ap (λ (r : Run). first_in 0 r.entries 4) behind
       ∙ first-behind series number 0 (fields_of content) 0 z
-      ∙ ap (λ (n : ℕ). Field 4 (n + 6) 6) (rw long (omega arith))
+      ∙ ap (λ (n : ℕ). some_field 4 (n + 6) 6) (rw long (omega arith))
 
   series-back : be16_of (content ++ resume_bytes series number) (length content + 6) ≡ series
   series-back = be16-behind content (resume_bytes series number) 6 ∙ in-series series number

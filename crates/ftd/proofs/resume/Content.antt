@@ -20,10 +20,7 @@ use Rattle.ftd.specs.Composition.{CompositionLine, direction_of, appendix_e, in_
 use Rattle.ftd.specs.Resume.{resume_fid, resume_at, resume_of, resume_bytes, ResumeLaws}
 use Rattle.ftd.specs.declared.composition.Direction.{Direction}
 use Rattle.ftd.specs.declared.composition.Direction.TheVariants.{Up}
-use Rattle.ftd.specs.declared.fields.FieldPlace.{FieldPlace}
-use Rattle.ftd.specs.declared.fields.FieldPlace.TheVariants.{Field}
-use Rattle.ftd.specs.declared.items.Checked.{Checked}
-use Rattle.ftd.specs.declared.items.Checked.TheVariants.{Refused}
+use Rattle.ftd.specs.Types.{Checked}
 use Rattle.ftd.specs.declared.refusal.Refusal.TheVariants.{Item}
 use Rattle.ftd.specs.declared.resume.Resume.{Resume}
 use Rattle.ftd.specs.declared.resume.Resume.TheVariants.{Absent, Next}
@@ -32,6 +29,8 @@ use Rattle.ftd.proofs.packet.Laws.{by-test}
 use Rattle.ftd.proofs.chain.Pieces.{shaped-facts}
 use Rattle.ftd.proofs.chain.Singles.{shaped-ended}
 use Rattle.ftd.proofs.resume.Behind.{fid-is, behind, counts, back}
+use Rattle.std.specs.Prelude.{Err}
+use Rattle.ftd.specs.Types.{MaybeField, some_field}
 
 -- ─── The field itself ───
 
@@ -64,7 +63,7 @@ widths-behind s k (f ∷ fs) = ap (λ (b : Bool). other_width (fid_of f) (length
 items-behind : (s k : ℕ) (fs : List (List ℕ)) → walk_fields (fs ++ (resume_bytes s k ∷ [])) ≡ walk_fields fs
 items-behind s k [] = rw (fid-is s k, start-items s k)
 items-behind s k (f ∷ fs) =
-    ap (λ (c : Checked). cond (items_good (rows_of (fid_of f)) (bytes_of f)) c (Refused Item)) (items-behind s k fs)
+    ap (λ (c : Checked). cond (items_good (rows_of (fid_of f)) (bytes_of f)) c (Err Item)) (items-behind s k fs)
 
 counted-behind : (s k fid : ℕ) (fs : List (List ℕ)) (n : ℕ)
     → counted fid (fs ++ (resume_bytes s k ∷ [])) n ≡ counted fid fs n + one_if resume_fid fid
@@ -157,7 +156,7 @@ neither false b h = (refl, h)
 module _ (c : List ℕ) where
   found_right : (f : List ℕ) (at : ℕ) → other_width (fid_of f) (length (bytes_of f)) ≡ false
       → eqb (fid_of f) resume_fid ≡ true
-      → Right (resume_at c (Field (fid_of f) (at + 6) (length f - 6)))
+      → Right (resume_at c (some_field (fid_of f) (at + 6) (length f - 6)))
   found_right f at h e =
       let w : other_width resume_fid (length f - 6) ≡ false = rw (eqb-true (fid_of f) resume_fid e, length-drop) at h in
       inr (be16_of c (at + 6), be32_of c (at + 6 + 2), rw (six-wide (length f - 6) w))
@@ -166,7 +165,7 @@ module _ (c : List ℕ) where
   first-right at [] h = inl refl
   first-right at (f ∷ fs) h =
       let x = neither _ _ h in
-      by-test (λ (p : FieldPlace). Right (resume_at c p)) (eqb (fid_of f) resume_fid) (λ b. found_right f at x.0 b)
+      by-test (λ (p : MaybeField). Right (resume_at c p)) (eqb (fid_of f) resume_fid) (λ b. found_right f at x.0 b)
       (λ b. first-right (at + length f) fs x.1)
 
   pub start_right : wrong_width c ≡ false → count_of resume_fid c ≤ 1 → Right (resume_of c)

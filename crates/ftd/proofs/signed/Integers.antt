@@ -11,9 +11,9 @@ use mir.Syntax.{w64}
 use mir.Val.{to_z, of_z, SFits, Fits}
 use mir.ValLaws.{to_z-of_z, to_z_pos}
 use Rattle.ftd.specs.Signed.Integer.{integer_of, from_integer}
-use Rattle.ftd.specs.declared.signed.Signed.{Signed}
-use Rattle.ftd.specs.declared.signed.Signed.TheVariants.{NoValue, Value}
-use Rattle.ftd.specs.declared.signed.Integer.TheVariants.{NoInteger, Number}
+use Rattle.std.specs.Prelude.{Some, None}
+use Rattle.ftd.specs.Types.{some_signed}
+use Rattle.ftd.proofs.Options.{same-signed}
 
 module _ (units : ℕ) (h : units ≤ 999999999999999999) where
   pub fits-above : SFits w64 (pos units)
@@ -39,37 +39,17 @@ module _ (units : ℕ) (h : units ≤ 999999999999999999) where
     pub below_again : to_z w64 (of_z w64 (pos 0 -ℤ to_z w64 (of_z w64 r))) ≡ neg_ℤ (pos units)
     below_again = rw below-is (to_z-of_z w64 (neg_ℤ (pos units)) fits_below)
 
-module _ (v : Signed) where
-  pub integer-none : v ≡ NoValue → NoInteger ≡ integer_of v
-  unfolding integer_of
-  integer-none e = rw e
-
-  module _ (negative : Bool) (units : ℕ) (e : v ≡ Value negative units) where
-    pub integer-over : 999999999999999999 < units → NoInteger ≡ integer_of v
-    unfolding integer_of
-    integer-over h = rw (e, lt-leb units 999999999999999999 h)
-
-    module _ (h : units ≤ 999999999999999999) (r : ℤ) where
-      pub integer-below : negative ≡ true → r ≡ pos units
-          → Number (to_z w64 (of_z w64 (pos 0 -ℤ to_z w64 (of_z w64 r)))) ≡ integer_of v
-      unfolding integer_of
-      integer-below n q = rw (e, n, le-leb units 999999999999999999 h, below_again units h r q)
-
-      pub integer-above : negative ≡ false → r ≡ pos units → Number (to_z w64 (of_z w64 r)) ≡ integer_of v
-      unfolding integer_of
-      integer-above n q = rw (e, n, le-leb units 999999999999999999 h, q, to_z-of_z w64 (pos units) (fits-above units h))
-
 -- ─── And apart again ───
 
 -- Below zero, with at most 18 digits.
 negated : (n : ℕ) → pos 0 -ℤ negsuc n ≡ pos (suc n)
 negated n = +ℤ_idl (pos (suc n))
 
-from-below : (n : ℕ) → n ≤ 999999999999999998 → from_integer (negsuc n) ≡ Value true (suc n)
+from-below : (n : ℕ) → n ≤ 999999999999999998 → from_integer (negsuc n) ≡ some_signed true (suc n)
 unfolding from_integer
 from-below n h = rw (le-leb (suc n) 999999999999999999 (omega arith))
 
-from-above : (n : ℕ) → n ≤ 999999999999999999 → from_integer (pos n) ≡ Value false n
+from-above : (n : ℕ) → n ≤ 999999999999999999 → from_integer (pos n) ≡ some_signed false n
 unfolding from_integer
 from-above n h = rw (le-leb n 999999999999999999 h)
 
@@ -81,11 +61,11 @@ module _ (x : ℤ) (f : SFits w64 x) where
   same = to_z-of_z w64 x f
 
   module _ (a : lt_z (to_z w64 (of_z w64 x)) (pos 0) ≡ true) where
-    pub from_low : lt_z (to_z w64 (of_z w64 x)) (negsuc 999999999999999998) ≡ true → NoValue ≡ from_integer x
+    pub from_low : lt_z (to_z w64 (of_z w64 x)) (negsuc 999999999999999998) ≡ true → None ≡ from_integer x
     unfolding from_integer
     from_low b = go x (rw same at a) (rw same at b)
       where
-        go : (x : ℤ) → lt_z x (pos 0) ≡ true → lt_z x (negsuc 999999999999999998) ≡ true → NoValue ≡ from_integer x
+        go : (x : ℤ) → lt_z x (pos 0) ≡ true → lt_z x (negsuc 999999999999999998) ≡ true → None ≡ from_integer x
         go (pos n) a b = absurd (omega (arith, ltb-true n 0 a))
         go (negsuc n) a b = rw (lt-leb (suc n) 999999999999999999 (omega (arith, ltb-true 999999999999999998 n b)))
 
@@ -112,18 +92,18 @@ module _ (x : ℤ) (f : SFits w64 x) where
           × Fits w64 (nat_abs (to_z w64 (of_z w64 (pos 0 -ℤ to_z w64 (of_z w64 x)))))
       from-cast = wide-above (suc minus.0) (omega (arith, minus.2)) _ turned-again
 
-      pub from-minus : Value true (nat_abs (to_z w64 (of_z w64 (pos 0 -ℤ to_z w64 (of_z w64 x))))) ≡ from_integer x
+      pub from-minus : some_signed true (nat_abs (to_z w64 (of_z w64 (pos 0 -ℤ to_z w64 (of_z w64 x))))) ≡ from_integer x
       unfolding from_integer
       from-minus =
-          ap (λ (y : ℤ). Value true (nat_abs y)) turned-again
+          ap (λ (y : ℤ). some_signed true (nat_abs y)) turned-again
           ∙ sym (ap from_integer minus.1 ∙ from-below minus.0 minus.2)
 
   module _ (a : lt_z (to_z w64 (of_z w64 x)) (pos 0) ≡ false) where
-    pub from-high : lt_z (pos 999999999999999999) (to_z w64 (of_z w64 x)) ≡ true → NoValue ≡ from_integer x
+    pub from-high : lt_z (pos 999999999999999999) (to_z w64 (of_z w64 x)) ≡ true → None ≡ from_integer x
     unfolding from_integer
     from-high b = go x (rw same at a) (rw same at b)
       where
-        go : (x : ℤ) → lt_z x (pos 0) ≡ false → lt_z (pos 999999999999999999) x ≡ true → NoValue ≡ from_integer x
+        go : (x : ℤ) → lt_z x (pos 0) ≡ false → lt_z (pos 999999999999999999) x ≡ true → None ≡ from_integer x
         go (pos n) a b = rw (lt-leb n 999999999999999999 (ltb-true 999999999999999999 n b))
         go (negsuc n) a b = absurd (false≢true (sym a))
 
@@ -139,50 +119,50 @@ module _ (x : ℤ) (f : SFits w64 x) where
       pub from-wide : T (non_neg (to_z w64 (of_z w64 x))) × Fits w64 (nat_abs (to_z w64 (of_z w64 x)))
       from-wide = wide-above plus.0 plus.2 (to_z w64 (of_z w64 x)) (same ∙ plus.1)
 
-      pub from-plus : Value false (nat_abs (to_z w64 (of_z w64 x))) ≡ from_integer x
+      pub from-plus : some_signed false (nat_abs (to_z w64 (of_z w64 x))) ≡ from_integer x
       unfolding from_integer
       from-plus =
-          ap (λ (y : ℤ). Value false (nat_abs y)) (same ∙ plus.1)
+          ap (λ (y : ℤ). some_signed false (nat_abs y)) (same ∙ plus.1)
           ∙ sym (ap from_integer plus.1 ∙ from-above plus.0 plus.2)
 
 -- ─── Round trips ───
 
-no_value : (negative : Bool) (units : ℕ) → NoValue ≡ Value negative units → ⊥
+no_value : (negative : Bool) (units : ℕ) → None ≡ some_signed negative units → ⊥
 no_value negative units p = let z : ◌≡◌ {A = ℕ} 0 1 = cc in omega arith
 
-no_number : (x : ℤ) → NoInteger ≡ Number x → ⊥
+no_number : (x : ℤ) → None ≡ Some x → ⊥
 no_number x p = let z : ◌≡◌ {A = ℕ} 0 1 = cc in omega arith
 
-pub integer-back : (x : ℤ) (negative : Bool) (units : ℕ) → from_integer x ≡ Value negative units
-    → integer_of (Value negative units) ≡ Number x
+pub integer-back : (x : ℤ) (negative : Bool) (units : ℕ) → from_integer x ≡ some_signed negative units
+    → integer_of (some_signed negative units) ≡ Some x
 unfolding from_integer integer_of
 integer-back (pos n) negative units e = go (leb n 999999999999999999) refl e
   where
-    go : (b : Bool) → leb n 999999999999999999 ≡ b → cond b (Value false n) NoValue ≡ Value negative units
-        → integer_of (Value negative units) ≡ Number (pos n)
+    go : (b : Bool) → leb n 999999999999999999 ≡ b → cond b (some_signed false n) None ≡ some_signed negative units
+        → integer_of (some_signed negative units) ≡ Some (pos n)
     go true p e =
-        let s : false ≡ negative = cc in
-        let u : n ≡ units = cc in
+        let s : false ≡ negative = (same-signed _ _ _ _ e).0 in
+        let u : n ≡ units = (same-signed _ _ _ _ e).1 in
         rw (← s, ← u, p)
     go false p e = absurd (no_value negative units e)
 integer-back (negsuc n) negative units e = go (leb (suc n) 999999999999999999) refl e
   where
-    go : (b : Bool) → leb (suc n) 999999999999999999 ≡ b → cond b (Value true (suc n)) NoValue ≡ Value negative units
-        → integer_of (Value negative units) ≡ Number (negsuc n)
+    go : (b : Bool) → leb (suc n) 999999999999999999 ≡ b → cond b (some_signed true (suc n)) None ≡ some_signed negative units
+        → integer_of (some_signed negative units) ≡ Some (negsuc n)
     go true p e =
-        let s : true ≡ negative = cc in
-        let u : suc n ≡ units = cc in
+        let s : true ≡ negative = (same-signed _ _ _ _ e).0 in
+        let u : suc n ≡ units = (same-signed _ _ _ _ e).1 in
         rw (← s, ← u, p)
     go false p e = absurd (no_value negative units e)
 
 pub integer-again : (negative : Bool) (units : ℕ) (x : ℤ) → (negative ≡ true → 0 < units)
-    → integer_of (Value negative units) ≡ Number x
-    → from_integer x ≡ Value negative units
+    → integer_of (some_signed negative units) ≡ Some x
+    → from_integer x ≡ some_signed negative units
 unfolding from_integer integer_of
 integer-again false units x s e = go (leb units 999999999999999999) refl e
   where
-    go : (b : Bool) → leb units 999999999999999999 ≡ b → cond b (Number (pos units)) NoInteger ≡ Number x
-        → from_integer x ≡ Value false units
+    go : (b : Bool) → leb units 999999999999999999 ≡ b → cond b (Some (pos units)) None ≡ Some x
+        → from_integer x ≡ some_signed false units
     go true p e =
         let v : pos units ≡ x = cc in
         rw (← v, p)
@@ -190,8 +170,8 @@ integer-again false units x s e = go (leb units 999999999999999999) refl e
 integer-again true zero x s e = absurd (omega (arith, s refl))
 integer-again true (suc n) x s e = go (leb (suc n) 999999999999999999) refl e
   where
-    go : (b : Bool) → leb (suc n) 999999999999999999 ≡ b → cond b (Number (negsuc n)) NoInteger ≡ Number x
-        → from_integer x ≡ Value true (suc n)
+    go : (b : Bool) → leb (suc n) 999999999999999999 ≡ b → cond b (Some (negsuc n)) None ≡ Some x
+        → from_integer x ≡ some_signed true (suc n)
     go true p e =
         let v : negsuc n ≡ x = cc in
         rw (← v, p)

@@ -13,11 +13,12 @@ use lib.Dec.{leb, ltb, eqb}
 use Rattle.ftd.specs.Values.{every, is_digit, is_zero, digit_of, is_number, point_at, without_point, is_float}
 use Rattle.ftd.specs.Signed.{pow10, digits_of, signed_of, number_value, float_value}
 use Rattle.ftd.specs.Signed.Write.{digits_in, number_bytes, number_fits, float_bytes, float_fits}
-use Rattle.ftd.specs.declared.signed.Signed.{Signed}
-use Rattle.ftd.specs.declared.signed.Signed.TheVariants.{NoValue, Value}
 use Rattle.ftd.proofs.values.Checks.{every_append}
 use Rattle.ftd.proofs.signed.Powers.{pow10-some, digits_append}
 use Rattle.ftd.proofs.signed.Stores.{digits-length, fits-some, number-length, float_fits-parts, float-length}
+use Rattle.std.specs.Prelude.{None}
+use Rattle.ftd.specs.Types.{MaybeSigned, some_signed}
+use Rattle.ftd.proofs.Options.{same-signed}
 
 -- ─── Digits written and read ───
 
@@ -153,7 +154,7 @@ module _ (width units : ℕ) where
       ltb-true units (pow10 width) (rw (le-leb width 18 b.1, le-leb 1 width b.0) at e)
 
 pub number-back : (width : ℕ) (negative : Bool) (units : ℕ) → number_fits width negative units ≡ true
-    → number_value (number_bytes width negative units) ≡ Value negative units
+    → number_value (number_bytes width negative units) ≡ some_signed negative units
 unfolding number_bytes number_value signed_of is_number
 number-back width true units e =
     let b = fits-some width true units e in
@@ -180,28 +181,28 @@ number-back width false units e =
     )
 
 -- Bytes with a value are at most 18, and a Number.
-value-parts : (g : Bool) (short : ℕ) (v : Signed) (negative : Bool) (units : ℕ)
-    → cond (leb short 18 && g) v NoValue ≡ Value negative units
-    → (short ≤ 18) × (g ≡ true) × (v ≡ Value negative units)
+value-parts : (g : Bool) (short : ℕ) (v : MaybeSigned) (negative : Bool) (units : ℕ)
+    → cond (leb short 18 && g) v None ≡ some_signed negative units
+    → (short ≤ 18) × (g ≡ true) × (v ≡ some_signed negative units)
 value-parts g short v negative units e = go (leb short 18) refl g e
   where
-    none : NoValue ≡ Value negative units → ⊥
+    none : None ≡ some_signed negative units → ⊥
     none p = let z : ◌≡◌ {A = ℕ} 0 1 = cc in omega arith
 
-    go : (a : Bool) → leb short 18 ≡ a → (g : Bool) → cond (a && g) v NoValue ≡ Value negative units
-        → (short ≤ 18) × (g ≡ true) × (v ≡ Value negative units)
+    go : (a : Bool) → leb short 18 ≡ a → (g : Bool) → cond (a && g) v None ≡ some_signed negative units
+        → (short ≤ 18) × (g ≡ true) × (v ≡ some_signed negative units)
     go true p true e = (leb-true short 18 p, refl, e)
     go true p false e = absurd (none e)
     go false p g e = absurd (none e)
 
-number-parts : (l : List ℕ) (negative : Bool) (units : ℕ) → number_value l ≡ Value negative units
-    → (length l ≤ 18) × (is_number l ≡ true) × (signed_of l ≡ Value negative units)
+number-parts : (l : List ℕ) (negative : Bool) (units : ℕ) → number_value l ≡ some_signed negative units
+    → (length l ≤ 18) × (is_number l ≡ true) × (signed_of l ≡ some_signed negative units)
 unfolding number_value
 number-parts l negative units e = value-parts (is_number l) (length l) (signed_of l) negative units e
 
 -- The bytes of a Number are those that its value writes.
 number_same : (l : List ℕ) (negative : Bool) (units : ℕ) → length l ≤ 18 → is_number l ≡ true
-    → signed_of l ≡ Value negative units
+    → signed_of l ≡ some_signed negative units
     → (number_fits (length l) negative units ≡ true) × (number_bytes (length l) negative units ≡ l)
 unfolding is_number signed_of number_fits number_bytes
 number_same [] negative units s g v = absurd (false≢true g)
@@ -217,11 +218,11 @@ number_same (x ∷ xs) negative units s g v = go (eqb x 45) refl g v
     less = omega arith
 
     minus : x ≡ 45 → every is_digit xs ≡ true → every is_zero xs ≡ false
-        → Value true (digits_of 0 xs) ≡ Value negative units
+        → some_signed true (digits_of 0 xs) ≡ some_signed negative units
         → (number_fits (suc (length xs)) negative units ≡ true) × (number_bytes (suc (length xs)) negative units ≡ x ∷ xs)
     minus e d z v =
-        let n : true ≡ negative = cc in
-        let u : digits_of 0 xs ≡ units = cc in (
+        let n : true ≡ negative = (same-signed _ _ _ _ v).0 in
+        let u : digits_of 0 xs ≡ units = (same-signed _ _ _ _ v).1 in (
           rw (
             ← n,
             ← u,
@@ -235,18 +236,18 @@ number_same (x ∷ xs) negative units s g v = go (eqb x 45) refl g v
           rw (← n, ← u, less, digits-again xs d 0, e),
         )
 
-    plain : every is_digit (x ∷ xs) ≡ true → Value false (digits_of 0 (x ∷ xs)) ≡ Value negative units
+    plain : every is_digit (x ∷ xs) ≡ true → some_signed false (digits_of 0 (x ∷ xs)) ≡ some_signed negative units
         → (number_fits (suc (length xs)) negative units ≡ true) × (number_bytes (suc (length xs)) negative units ≡ x ∷ xs)
     plain d v =
-        let n : false ≡ negative = cc in
-        let u : digits_of 0 (x ∷ xs) ≡ units = cc in (
+        let n : false ≡ negative = (same-signed _ _ _ _ v).0 in
+        let u : digits_of 0 (x ∷ xs) ≡ units = (same-signed _ _ _ _ v).1 in (
           rw (← n, ← u, short, low, lt-ltb (digits_of 0 (x ∷ xs)) (pow10 (suc (length xs))) (digits-below (x ∷ xs))),
           rw
               (← n, ← u) (digits-again (x ∷ xs) d 0),
         )
 
     split : (d z : Bool) → every is_digit xs ≡ d → every is_zero xs ≡ z → (d && not z) ≡ true → x ≡ 45
-        → Value true (digits_of 0 xs) ≡ Value negative units
+        → some_signed true (digits_of 0 xs) ≡ some_signed negative units
         → (number_fits (suc (length xs)) negative units ≡ true) × (number_bytes (suc (length xs)) negative units ≡ x ∷ xs)
     split true false d z g e v = minus e d z v
     split true true d z g e v = absurd (false≢true g)
@@ -254,12 +255,12 @@ number_same (x ∷ xs) negative units s g v = go (eqb x 45) refl g v
 
     go : (b : Bool) → eqb x 45 ≡ b → cond b (every is_digit xs && not (every is_zero xs))
         (ltb 0 (suc (length xs)) && every is_digit (x ∷ xs)) ≡ true
-        → cond b (Value true (digits_of 0 xs)) (Value false (digits_of 0 (x ∷ xs))) ≡ Value negative units
+        → cond b (some_signed true (digits_of 0 xs)) (some_signed false (digits_of 0 (x ∷ xs))) ≡ some_signed negative units
         → (number_fits (suc (length xs)) negative units ≡ true) × (number_bytes (suc (length xs)) negative units ≡ x ∷ xs)
     go true e g v = split (every is_digit xs) (every is_zero xs) refl refl g (eqb-true x 45 e) v
     go false e g v = plain (rw (lt-ltb 0 (suc (length xs)) (omega arith)) at g) v
 
-pub number-again : (l : List ℕ) (negative : Bool) (units : ℕ) → number_value l ≡ Value negative units
+pub number-again : (l : List ℕ) (negative : Bool) (units : ℕ) → number_value l ≡ some_signed negative units
     → (number_fits (length l) negative units ≡ true) × (number_bytes (length l) negative units ≡ l)
 number-again l negative units e =
     let p = number-parts l negative units e in
@@ -317,7 +318,7 @@ module _ (scale width : ℕ) (negative : Bool) (units : ℕ) (low : scale + 2 �
       rw (take_at before (46 ∷ digits_in scale units) point before-length, d) joined_bytes
 
 pub float_back : (scale width : ℕ) (negative : Bool) (units : ℕ) → float_fits scale width negative units ≡ true
-    → float_value scale (float_bytes scale width negative units) ≡ Value negative units
+    → float_value scale (float_bytes scale width negative units) ≡ some_signed negative units
 unfolding float_value is_float without_point point
 float_back scale width negative units e =
     let f = float_fits-parts scale width negative units e in
@@ -356,7 +357,7 @@ same_back : (a b c d : List ℕ) → length a ≡ length c → a ++ b ≡ c ++ d
 same_back a b c d n e =
     sym (drop_at a b (length c) n) ∙ ap (drop (length c)) e ∙ drop_at c d (length c) refl
 
-pub float-again : (scale : ℕ) (l : List ℕ) (negative : Bool) (units : ℕ) → float_value scale l ≡ Value negative units
+pub float-again : (scale : ℕ) (l : List ℕ) (negative : Bool) (units : ℕ) → float_value scale l ≡ some_signed negative units
     → (float_fits scale (length l) negative units ≡ true) × (float_bytes scale (length l) negative units ≡ l)
 unfolding float_value float_fits float_bytes without_point
 float-again scale l negative units e =

@@ -8,14 +8,14 @@ use native.Mathlib.Nat.{zero-add}
 use native.Mathlib.Numerals.{add-one}
 use native.Mathlib.Omega.{arith}
 use borrow.Author.Tests.{le-leb, lt-leb, eq-eqb, ne_eqb, leb-true}
-use lib.ListN.{length, get_or, take, drop, length-take, drop_of_length-le}
-use lib.Seq.{drop-cons, get_or-take, take-length}
+use lib.ListN.{length, get_or, take, drop, drop_of_length-le}
+use lib.Seq.{drop-cons, take-length}
 use lib.Dec.{leb, eqb}
 use Rattle.ftd.specs.Values.{digit_of, is_number, point_at, without_point, is_float}
 use Rattle.ftd.specs.Signed.{pow10, digits_of, signed_of, number_value, float_value}
-use Rattle.ftd.specs.declared.signed.Signed.{Signed}
-use Rattle.ftd.specs.declared.signed.Signed.TheVariants.{NoValue, Value}
 use Rattle.ftd.proofs.values.Checks.{first, rest}
+use Rattle.std.specs.Prelude.{None}
+use Rattle.ftd.specs.Types.{MaybeSigned, some_signed}
 
 -- ─── Powers of ten ───
 
@@ -50,16 +50,12 @@ module _ (n i to b : ℕ) (h : i < to) (bound : (n + 1) * pow10 (to - i) ≤ b) 
       let m : n * 10 + d + 1 ≤ b = le_trans w (bound-turn d k) in
       omega arith
 
-module _ (s : List ℕ) (n i to : ℕ) (fits : to ≤ length s) (t : ℕ) (inv : digits_of n (drop i (take to s)) ≡ t) where
-  pub digits-turn : i < to → (d : ℕ) → d ≡ digit_of (get_or s i 0) → digits_of (n * 10 + d) (drop (i + 1) (take to s)) ≡ t
-  digits-turn h d e =
-      let k : i < length (take to s) = rw length-take (omega arith) in
-      rw (e, add-one) (rw (drop-cons (take to s) i 0 k, get_or-take {A = ℕ} to s i 0 h) at inv)
+module _ (s : List ℕ) (n i : ℕ) (t : ℕ) (inv : digits_of n (drop i s) ≡ t) where
+  pub digits-turn : i < length s → (d : ℕ) → d ≡ digit_of (get_or s i 0) → digits_of (n * 10 + d) (drop (i + 1) s) ≡ t
+  digits-turn h d e = rw (e, add-one) (rw (drop-cons s i 0 h) at inv)
 
-  pub digits-end : to ≤ i → n ≡ t
-  digits-end h =
-      let e : length (take to s) ≤ i = rw length-take (omega arith) in
-      rw (drop_of_length-le (take to s) e) at inv
+  pub digits-end : length s ≤ i → n ≡ t
+  digits-end h = rw (drop_of_length-le s h) at inv
 
 pub bound-end : (n i to b : ℕ) → to ≤ i → (n + 1) * pow10 (to - i) ≤ b → n + 1 ≤ b
 bound-end n i to b h p =
@@ -93,26 +89,26 @@ parts-units s from point behind n r p q =
 
 module _ (s : List ℕ) (point behind : ℕ) (low : 1 ≤ point) (order : point ≤ behind) (fits : behind ≤ length s) where
   pub value-minus : get_or s 0 0 ≡ 45 → (n : ℕ) → n ≡ digits_of 0 (drop 1 (take point s) ++ drop behind s)
-      → Value true n ≡ signed_of (take point s ++ drop behind s)
+      → some_signed true n ≡ signed_of (take point s ++ drop behind s)
   unfolding signed_of
   value-minus e n q = rw (first s point behind low order fits, eq-eqb _ _ e, rest s point behind low order fits, ← q)
 
   pub value-plain : (get_or s 0 0 ≡ 45 → ⊥) → (n : ℕ) → n ≡ digits_of 0 (drop 0 (take point s) ++ drop behind s)
-      → Value false n ≡ signed_of (take point s ++ drop behind s)
+      → some_signed false n ≡ signed_of (take point s ++ drop behind s)
   unfolding signed_of
   value-plain e n q = rw (first s point behind low order fits, ne_eqb _ _ e, ← q)
 
 module _ (s : List ℕ) where
-  pub number-long : 18 < length s → NoValue ≡ number_value s
+  pub number-long : 18 < length s → None ≡ number_value s
   unfolding number_value
   number-long h = rw (lt-leb (length s) 18 h)
 
   module _ (short : length s ≤ 18) (g : Bool) (q : g ≡ is_number s) where
-    pub number-wrong : g ≡ false → NoValue ≡ number_value s
+    pub number-wrong : g ≡ false → None ≡ number_value s
     unfolding number_value
     number-wrong e = rw (le-leb (length s) 18 short, ← q, e)
 
-    pub number_read : g ≡ true → (v : Signed) → v ≡ signed_of (take (length s) s ++ drop (length s) s)
+    pub number_read : g ≡ true → (v : MaybeSigned) → v ≡ signed_of (take (length s) s ++ drop (length s) s)
         → v ≡ number_value s
     unfolding number_value
     number_read e v p =
@@ -129,16 +125,16 @@ module _ (s : List ℕ) where
         go (x ∷ xs) w = omega arith
 
 module _ (s : List ℕ) (scale : ℕ) where
-  pub float-long : 18 < length s → NoValue ≡ float_value scale s
+  pub float-long : 18 < length s → None ≡ float_value scale s
   unfolding float_value
   float-long h = rw (lt-leb (length s) 18 h)
 
   module _ (short : length s ≤ 18) (g : Bool) (q : g ≡ is_float scale s) where
-    pub float-none : g ≡ false → NoValue ≡ float_value scale s
+    pub float-none : g ≡ false → None ≡ float_value scale s
     unfolding float_value
     float-none e = rw (le-leb (length s) 18 short, ← q, e)
 
-    pub float_read : g ≡ true → (n : ℕ) → n ≡ scale → (v : Signed)
+    pub float_read : g ≡ true → (n : ℕ) → n ≡ scale → (v : MaybeSigned)
         → v ≡ signed_of (take (length s - (n + 1)) s ++ drop (length s - (n + 1) + 1) s) → v ≡ float_value scale s
     unfolding float_value without_point
     float_read e n x v p = rw (le-leb (length s) 18 short, ← q, e) (rw x at p)

@@ -5,7 +5,7 @@ use mathlib.Core.List.{List, [], ◌∷◌, ◌++◌, append_assoc, append-nil}
 use mathlib.Core.Bool.{Bool, true, false, cond, ◌&&◌, false≢true}
 use native.Mathlib.Nat.{add-zero, zero-add}
 use native.Mathlib.Omega.{arith}
-use borrow.Author.Tests.{lt-ltb, le-ltb, le-leb, lt-leb, leb-true}
+use borrow.Author.Tests.{leb-true}
 use lib.ListN.{length, get_or, take, drop, length-append, take-append-drop}
 use lib.Seq.{take-append-le, take-take, drop_at, length-take-le}
 use lib.Dec.{leb, ltb, eqb, T, eqb→eq}
@@ -14,11 +14,12 @@ use Rattle.ftd.specs.Table.Helpers.{all_below}
 use Rattle.ftd.specs.Signed.{pow10}
 use Rattle.ftd.specs.Write.{written_answer, written_output, fit_verdict}
 use Rattle.ftd.specs.Signed.Write.{digits_in, number_bytes, number_fits, float_bytes, float_fits}
-use Rattle.ftd.specs.declared.refusal.Refusal.TheVariants.{Item, TooSmall}
-use Rattle.ftd.specs.declared.write.Written.TheVariants.{Bytes, Refused}
-use Rattle.ftd.proofs.bytes.Put.{put-put, put-zero}
+use Rattle.ftd.specs.declared.refusal.Refusal.TheVariants.{Item}
+use Rattle.ftd.proofs.bytes.Put.{put-put}
 use Rattle.ftd.proofs.table.Rule.{below_at}
 use Rattle.ftd.proofs.signed.Powers.{pow10-some}
+use Rattle.std.specs.Prelude.{Err}
+use Rattle.ftd.specs.declared.write.WriteError.TheVariants.{Refused}
 
 -- ─── Powers of ten, as the code has them ───
 
@@ -45,7 +46,7 @@ pub digits-length : (n x : ℕ) → length (digits_in n x) ≡ n
 digits-length zero x = refl
 digits-length (suc n) x = rw (length-append, digits-length n (x / 10)) (omega arith)
 
--- Bytes put right before what has been put.
+-- Ok put right before what has been put.
 put_front : (l : List ℕ) (at : ℕ) (a vs : List ℕ) → at + length a ≤ length l
     → put (put l (at + length a) vs) at a ≡ put l at (a ++ vs)
 unfolding put
@@ -103,35 +104,6 @@ module _ (width : ℕ) (negative : Bool) (units : ℕ) where
     unfolding number_bytes
     put-plain n a p = rw n p
 
-  -- ─── Whether it fits ───
-
-  pub fits-wide : 18 < width → false ≡ number_fits width negative units
-  unfolding number_fits
-  fits-wide h = rw (lt-leb width 18 h)
-
-  module _ (short : width ≤ 18) where
-    pub fits-none : width < 1 → false ≡ number_fits width negative units
-    unfolding number_fits
-    fits-none h = rw (le-leb width 18 short, lt-leb 1 width h) (go negative)
-      where
-        go : (b : Bool) → false ≡ cond b false false
-        go true = refl
-        go false = refl
-
-    module _ (low : 1 ≤ width) where
-      pub fits-zero : negative ≡ true → units ≡ 0 → false ≡ number_fits width negative units
-      unfolding number_fits
-      fits-zero n z = rw (le-leb width 18 short, le-leb 1 width low, n, z)
-
-      pub fits-minus : negative ≡ true → (units ≡ 0 → ⊥) → (p : ℕ) → p ≡ pow10 (width - 1)
-          → ltb units p ≡ number_fits width negative units
-      unfolding number_fits
-      fits-minus n z p e = rw (le-leb width 18 short, le-leb 1 width low, n, lt-ltb 0 units (omega arith), e)
-
-      pub fits-plain : negative ≡ false → (p : ℕ) → p ≡ pow10 width → ltb units p ≡ number_fits width negative units
-      unfolding number_fits
-      fits-plain n p e = rw (le-leb width 18 short, le-leb 1 width low, n, e)
-
   -- What fits has a byte, and at most 18.
   pub fits-some : number_fits width negative units ≡ true → (1 ≤ width) × (width ≤ 18)
   unfolding number_fits
@@ -156,25 +128,10 @@ module _ (width : ℕ) (negative : Bool) (units : ℕ) where
 -- ─── What a writer answers and leaves ───
 
 module _ (fits : Bool) (bytes out : List ℕ) (f : Bool) (q : f ≡ fits) where
-  pub misfit : f ≡ false → (Refused Item ≡ written_answer (fit_verdict fits) bytes out)
+  pub misfit : f ≡ false → (Err (Refused Item) ≡ written_answer (fit_verdict fits) bytes out)
       × (out ≡ written_output (fit_verdict fits) bytes out)
   unfolding written_answer written_output
   misfit e = (rw (← q, e), rw (← q, e))
-
-  module _ (e : f ≡ true) (width : ℕ) (n : length bytes ≡ width) where
-    pub no_room : length out < width → (Refused TooSmall ≡ written_answer (fit_verdict fits) bytes out)
-        × (out ≡ written_output (fit_verdict fits) bytes out)
-    unfolding written_answer written_output
-    no_room h = (rw (← q, e, n, lt-ltb (length out) width h), rw (← q, e, n, lt-ltb (length out) width h))
-
-    pub stored : width ≤ length out → (new : List ℕ) → new ≡ put out 0 bytes
-        → (Bytes width ≡ written_answer (fit_verdict fits) bytes out) × (new ≡ written_output (fit_verdict fits) bytes out)
-    unfolding written_answer written_output
-    stored h new p = (
-      rw (← q, e, n, le-ltb (length out) width h),
-      p ∙ put-zero out bytes
-          ∙ rw (← q, e, n, le-ltb (length out) width h),
-    )
 
 module _ (width : ℕ) (negative : Bool) (units : ℕ) (f : Bool) (q : f ≡ number_fits width negative units) (e : f ≡ true)
   where
@@ -185,21 +142,6 @@ module _ (width : ℕ) (negative : Bool) (units : ℕ) (f : Bool) (q : f ≡ num
     number-wide = number-length width negative units number-low
 
 -- ─── The bytes of a Float ───
-
-module _ (scale n : ℕ) (e : n ≡ scale) (width : ℕ) (negative : Bool) (units : ℕ) where
-  pub float_narrow : width < n + 2 → false ≡ float_fits scale width negative units
-  unfolding float_fits
-  float_narrow h = rw (← e, lt-leb (n + 2) width h)
-
-  module _ (low : n + 2 ≤ width) where
-    pub float-over : 18 < width → false ≡ float_fits scale width negative units
-    unfolding float_fits
-    float-over h = rw (← e, le-leb (n + 2) width low, lt-leb width 18 h)
-
-    pub float-inner : width ≤ 18 → (r : Bool) → r ≡ number_fits (width - 1) negative units
-        → r ≡ float_fits scale width negative units
-    unfolding float_fits
-    float-inner h r q = rw (← e, le-leb (n + 2) width low, le-leb width 18 h) q
 
 module _ (scale width : ℕ) (negative : Bool) (units : ℕ) where
   pub float_fits-parts : float_fits scale width negative units ≡ true

@@ -12,7 +12,7 @@ use lib.Seq.{get_or-take, get_or-drop, drop-cons}
 use lib.Dec.{leb, ltb, eqb, T, eqb→eq, leb→le, ltb→lt}
 use Rattle.ftd.specs.Table.{Row, row, table, keep, total, rows_of}
 use Rattle.ftd.specs.Table.Rule.{Place, place, places, rows_place, row_at, right_form, RowRule, FieldRule, TableRule}
-use Rattle.ftd.specs.Table.Helpers.{kind_column, width_column, scale_column, row_holds, rows_hold, same_row, same_rows}
+use Rattle.ftd.specs.Table.Helpers.{row_holds, rows_hold, same_row, same_rows}
 use Rattle.ftd.specs.Table.Helpers.{field_holds, all_below, ruled}
 
 test : T ruled
@@ -167,6 +167,15 @@ table-rule = record { each = row-rule; field = λ fid. go fid (ltb fid 47) refl 
     go fid false e = unknown-rule fid (ltb-false fid 47 e)
 
 -- ─── The columns, as the code has them ───
+
+unfoldable pub kind_column : List ℕ
+kind_column = map (λ (r : Row). r.kind) table
+
+unfoldable pub width_column : List ℕ
+width_column = map (λ (r : Row). r.width) table
+
+unfoldable pub scale_column : List ℕ
+scale_column = map (λ (r : Row). r.scale) table
 
 unfoldable pub starts : List ℕ
 starts = map (λ (p : Place). p.start) places

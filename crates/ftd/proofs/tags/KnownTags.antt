@@ -2,7 +2,7 @@
 use Prim.Native.Nat.{ℕ, zero, suc, ◌+◌, ◌<◌, ◌≤◌}
 use mathlib.Core.Path.{◌≡◌, refl, sym}
 use mathlib.Core.List.{List, map}
-use mathlib.Core.Bool.{true, cond}
+use mathlib.Core.Bool.{cond}
 use native.Mathlib.Numerals.{add-one}
 use native.Mathlib.Omega.{arith}
 use borrow.Author.Tests.{eq-eqb, ne_eqb}
@@ -91,10 +91,10 @@ module _ (kind : ℕ) (h : 7 ≤ kind) where
 
 -- What the row says of a length.
 module _ (kind len r : ℕ) (k : KnownRow kind r) where
-  pub right-over : r ≡ 8 → true ≡ length_right kind len
+  pub right-over : r ≡ 8 → eqb r 8 ≡ length_right kind len
   right-over e =
       let b : length known_tags ≤ r = rw (eight, e) (omega arith) in
-      rw (drop_of_length-le known_tags b) at (k.same len)
+      rw (eq-eqb r 8 e) (rw (drop_of_length-le known_tags b) at (k.same len))
 
   pub right-row : (r ≡ 8 → ⊥) → eqb (get_or lengths r 0) len ≡ length_right kind len
   unfolding kinds

@@ -11,11 +11,11 @@ use lib.Seq.{get_or-drop}
 use lib.Dec.{leb}
 use Rattle.ftd.specs.Runs.{front, Run, in_front, run_of, ended}
 use Rattle.ftd.specs.Tags.{tag, length_right, all_right, count_kind, times, good_run, tag_in}
-use Rattle.ftd.specs.declared.tags.TagPlace.{TagPlace}
-use Rattle.ftd.specs.declared.tags.TagPlace.TheVariants.{NoTag, Data}
 use Rattle.ftd.proofs.runs.Laws.{run-over, run-next, entry-head, entry_length}
 use Rattle.ftd.proofs.runs.Turns.{and-false, not-ended, is-ended, entry-byte}
 use Rattle.ftd.proofs.runs.Heads.{front-short, front-whole}
+use Rattle.std.specs.Prelude.{None}
+use Rattle.ftd.specs.Types.{MaybeData, some_data}
 
 module _ (l : List ℕ) (at : ℕ) where
   pub tag-short : length l - at < 2 + get_or l (at + 1) 0 → front tag (drop at l) ≡ 0
@@ -76,11 +76,11 @@ module _ (l : List ℕ) (at n : ℕ) (e : n ≡ front tag (drop at l)) where
         (kind_at z) (length-at z) (sym q ∙ w) d p
         (rw (run-next tag some-tag l at n e z) at inv)
 
-  module _ (kind : ℕ) (t : TagPlace) (inv : tag_in at (run_of tag (drop at l)).entries kind ≡ t) where
-    pub find-over : n ≡ 0 → NoTag ≡ t
+  module _ (kind : ℕ) (t : MaybeData) (inv : tag_in at (run_of tag (drop at l)).entries kind ≡ t) where
+    pub find-over : n ≡ 0 → None ≡ t
     find-over z = rw (run-over tag some-tag l at n e z) at inv
 
-    pub find-here : (n ≡ 0 → ⊥) → get_or l at 0 ≡ kind → Data (at + 2) (n - 2) ≡ t
+    pub find-here : (n ≡ 0 → ⊥) → get_or l at 0 ≡ kind → some_data (at + 2) (n - 2) ≡ t
     find-here z h =
         rw (
           run-next tag some-tag l at n e z,

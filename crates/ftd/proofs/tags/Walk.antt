@@ -13,22 +13,19 @@ use Rattle.ftd.specs.Runs.{front, run_of}
 use Rattle.ftd.specs.Tags.{tag, known_tags, length_right, count_kind, good_run, good_tags, tag_in, tag_place}
 use Rattle.ftd.specs.Tags.{trade_date_of, packet_place_of, tag_run_of}
 use Rattle.ftd.specs.Tags.Helpers.{data_place, SeenTag}
-use Rattle.ftd.specs.declared.tags.TagPlace.TheVariants.{Data}
-use Rattle.ftd.specs.declared.tags.TradeDate.{TradeDate}
-use Rattle.ftd.specs.declared.tags.TradeDate.TheVariants.{None, At}
-use Rattle.ftd.specs.declared.tags.PacketPlace.{PacketPlace}
-use Rattle.ftd.specs.declared.tags.PacketPlace.TheVariants.{NoPlace, Nth}
-use Rattle.ftd.specs.declared.tags.TagRun.{TagRun}
-use Rattle.ftd.specs.declared.tags.TagRun.TheVariants.{Broken, Good}
+use Rattle.ftd.specs.Types.{TradeDate}
+use Rattle.ftd.specs.Types.{PacketPlace}
 use Rattle.ftd.proofs.tags.Turns.{tags-stop, tags-end, tags-wrong, find-over, find-here, find-turn, tag-short}
 use Rattle.ftd.proofs.tags.Turns.{tag-whole}
+use Rattle.std.specs.Prelude.{Some, None}
+use Rattle.ftd.specs.Types.{some_data, MaybeTags, some_tags}
 
 -- What is seen of a kind up to a place: none, and it is still to be found, or one, and where its data lies.
 pub record Seen (l : List ℕ) (kind size at k place : ℕ) : Type 0 where
   pub none : k ≡ 0 → tag_in at (run_of tag (drop at l)).entries kind ≡ tag_place l kind
-  pub one : k ≡ 1 → (tag_place l kind ≡ Data place size) × (place + size ≤ length l)
+  pub one : k ≡ 1 → (tag_place l kind ≡ some_data place size) × (place + size ≤ length l)
 
--- Data of a kind that has the right length has this size.
+-- some_data of a kind that has the right length has this size.
 abbrev Sized : ℕ → ℕ → Type 0
 Sized kind size = (k len : ℕ) → k ≡ kind → length_right k len ≡ true → size ≡ len
 
@@ -91,34 +88,27 @@ module _ (l : List ℕ) (at n : ℕ) (e : n ≡ front tag (drop at l)) where
 
   -- k trade dates and i places were seen before.
   module _ (k i : ℕ) (inv : good_run (run_of tag (drop at l)) k i ≡ good_tags l) where
-    pub run-stop : n ≡ 0 → at < length l → Broken ≡ tag_run_of l
+    pub run-stop : n ≡ 0 → at < length l → None ≡ tag_run_of l
     unfolding tag_run_of
     run-stop z h = rw (← (tags-stop l at n e k i _ inv z h))
 
     pub run-wrong : (n ≡ 0 → ⊥) → (r : Bool) → r ≡ length_right (get_or l at 0) (get_or l (at + 1) 0) → r ≡ false
-        → Broken ≡ tag_run_of l
+        → None ≡ tag_run_of l
     unfolding tag_run_of
     run-wrong z r g w = rw (← (tags-wrong l at n e k i _ inv z r g w))
 
     module _ (z : n ≡ 0) (h : length l ≤ at) where
-      -- The check alone.
-      pub good-dates : 1 < k → false ≡ good_tags l
-      good-dates o = rw (lt-leb k 1 o) at (tags-end l at n e k i _ inv z h)
-
-      pub good-places : k ≤ 1 → leb i 1 ≡ good_tags l
-      good-places o = rw (le-leb k 1 o) at (tags-end l at n e k i _ inv z h)
-
-      pub run-dates : 1 < k → Broken ≡ tag_run_of l
+      pub run-dates : 1 < k → None ≡ tag_run_of l
       unfolding tag_run_of
       run-dates o = rw (← (tags-end l at n e k i _ inv z h), lt-leb k 1 o)
 
       module _ (dates : k ≤ 1) where
-        pub run-places : 1 < i → Broken ≡ tag_run_of l
+        pub run-places : 1 < i → None ≡ tag_run_of l
         unfolding tag_run_of
         run-places o = rw (← (tags-end l at n e k i _ inv z h), le-leb k 1 dates, lt-leb i 1 o)
 
         pub run-whole : i ≤ 1 → (d : TradeDate) (p : PacketPlace) → d ≡ trade_date_of l → p ≡ packet_place_of l
-            → Good d p ≡ tag_run_of l
+            → some_tags d p ≡ tag_run_of l
         unfolding tag_run_of
         run-whole o d p x y = rw (← (tags-end l at n e k i _ inv z h), le-leb k 1 dates, le-leb i 1 o, x, y)
 
@@ -128,44 +118,44 @@ module _ (l : List ℕ) (k place : ℕ) where
   unfolding trade_date_of
   date-none s o = rw (s.none o)
 
-  pub date-one : SeenTag l 0x05 4 k place → k ≡ 1 → (v : ℕ) → v ≡ be32_of l place → At v ≡ trade_date_of l
+  pub date-one : SeenTag l 0x05 4 k place → k ≡ 1 → (v : ℕ) → v ≡ be32_of l place → Some v ≡ trade_date_of l
   unfolding trade_date_of
   date-one s o v w = rw ((s.one o).0, w)
 
-  pub place_none : SeenTag l 0x70 2 k place → k ≡ 0 → NoPlace ≡ packet_place_of l
+  pub place_none : SeenTag l 0x70 2 k place → k ≡ 0 → None ≡ packet_place_of l
   unfolding packet_place_of
   place_none s o = rw (s.none o)
 
-  pub place-one : SeenTag l 0x70 2 k place → k ≡ 1 → (v : ℕ) → v ≡ be16_of l place → Nth v ≡ packet_place_of l
+  pub place-one : SeenTag l 0x70 2 k place → k ≡ 1 → (v : ℕ) → v ≡ be16_of l place → Some v ≡ packet_place_of l
   unfolding packet_place_of
   place-one s o v w = rw ((s.one o).0, w)
 
 -- What the answer says.
-abbrev is_good : TagRun → Bool
-is_good Broken = false
-is_good (Good d p) = true
+abbrev is_good : MaybeTags → Bool
+is_good None = false
+is_good (Some found) = true
 
-abbrev date_in : TagRun → TradeDate
-date_in Broken = None
-date_in (Good d p) = d
+abbrev date_in : MaybeTags → TradeDate
+date_in None = None
+date_in (Some found) = found.date
 
-abbrev place_in : TagRun → PacketPlace
-place_in Broken = NoPlace
-place_in (Good d p) = p
+abbrev place_in : MaybeTags → PacketPlace
+place_in None = None
+place_in (Some found) = found.place
 
 module _ (l : List ℕ) where
   good-is : is_good (tag_run_of l) ≡ good_tags l
   unfolding tag_run_of
   good-is = go (good_tags l)
     where
-      go : (b : Bool) → is_good (cond b (Good (trade_date_of l) (packet_place_of l)) Broken) ≡ b
+      go : (b : Bool) → is_good (cond b (some_tags (trade_date_of l) (packet_place_of l)) None) ≡ b
       go true = refl
       go false = refl
 
-  pub run-broken : (r : TagRun) → r ≡ tag_run_of l → r ≡ Broken → good_tags l ≡ false
+  pub run-broken : (r : MaybeTags) → r ≡ tag_run_of l → r ≡ None → good_tags l ≡ false
   run-broken r q w = sym good-is ∙ ap is_good (sym q ∙ w)
 
-  module _ (r : TagRun) (d : TradeDate) (p : PacketPlace) (q : r ≡ tag_run_of l) (w : r ≡ Good d p) where
+  module _ (r : MaybeTags) (d : TradeDate) (p : PacketPlace) (q : r ≡ tag_run_of l) (w : r ≡ some_tags d p) where
     pub run-good : good_tags l ≡ true
     run-good = sym good-is ∙ ap is_good (sym q ∙ w)
 

@@ -3,21 +3,21 @@ use Prim.Native.Nat.{ℕ, zero, suc, ◌+◌, ◌-◌, ◌<◌, ◌≤◌}
 use mathlib.Core.Path.{◌≡◌, refl, sym, ap, ◌∙◌}
 use mathlib.Core.List.{List, [], ◌∷◌, ◌++◌}
 use mathlib.Core.Bool.{Bool, true, false, cond, ◌&&◌, false≢true}
-use native.Mathlib.Nat.{zero-add, le_refl}
+use native.Mathlib.Nat.{zero-add}
+use native.Mathlib.Numerals.{add-one}
 use native.Mathlib.Omega.{arith}
-use borrow.Author.Tests.{le-leb, lt-leb, leb-true, eq-eqb, eqb-true}
-use lib.ListN.{length, get_or, take, drop, replicate, get_or-replicate, length-replicate, length-append, drop_of_length-le}
-use lib.Seq.{drop-cons, take-length, take_at}
+use borrow.Author.Tests.{le-leb, leb-true, eq-eqb, eqb-true}
+use lib.ListN.{length, get_or, take, drop, replicate, get_or-replicate, length-replicate, length-append, length-drop}
+use lib.Seq.{get_or-drop, take-length, take_at}
 use lib.Dec.{leb, eqb}
 use Rattle.ftd.specs.Bytes.{put}
 use Rattle.ftd.specs.Values.{every, is_text, is_space}
 use Rattle.ftd.specs.Values.Helpers.{in_class}
 use Rattle.ftd.specs.Texts.{trimmed, text_value, text_bytes, text_fits}
 use Rattle.ftd.specs.declared.values.Class.TheVariants.{Text}
-use Rattle.ftd.specs.declared.texts.Text.TheVariants.{NoValue, Value}
 use Rattle.ftd.proofs.bytes.Put.{put-put}
 use Rattle.ftd.proofs.values.Checks.{every_append}
-use Rattle.ftd.proofs.signed.Stores.{put-none}
+use Rattle.std.specs.Prelude.{Some, None}
 
 -- ─── Spaces ───
 
@@ -45,7 +45,7 @@ trim-spaces (x ∷ xs) h = rw h
 one_more : (x : ℕ) → x ≡ 32 → (l : List ℕ) → every is_space l ≡ true → every is_space (x ∷ l) ≡ true
 one_more x e l h = rw e h
 
--- ─── The walk from the end ───
+-- ─── The last byte that is no space ───
 
 -- With only spaces from n on, and no space before it, n bytes are left.
 trim-size : (s : List ℕ) (n : ℕ) → every is_space (drop (suc n) s) ≡ true → n < length s → (get_or s n 0 ≡ 32 → ⊥)
@@ -62,27 +62,24 @@ trim-size (x ∷ xs) n h k d = go n (every is_space (x ∷ xs)) refl h k d (λ m
     go zero false e h k d ih = rw (trim-spaces xs h)
     go (suc m) false e h k d ih = ap suc (ih m h (omega arith) d)
 
-module _ (s : List ℕ) (n : ℕ) (inv : every is_space (drop n s) ≡ true) where
-  pub trim-found : 0 < n → n ≤ length s → (get_or s (n - 1) 0 ≡ 32 → ⊥) → n ≡ length (trimmed s)
-  trim-found h k d = go n inv h k d
-    where
-      go : (n : ℕ) → every is_space (drop n s) ≡ true → 0 < n → n ≤ length s → (get_or s (n - 1) 0 ≡ 32 → ⊥)
-          → n ≡ length (trimmed s)
-      go zero i h k d = absurd (omega arith)
-      go (suc m) i h k d =
-          let e : suc m - 1 ≡ m = omega arith in
-          sym (trim-size s m i k (rw e at d))
+all-space : (l : List ℕ) → ((k : ℕ) → k < length l → get_or l k 0 ≡ 32) → every is_space l ≡ true
+all-space [] h = refl
+all-space (x ∷ xs) h = one_more x (h 0 (omega arith)) xs (all-space xs (λ k b. h (suc k) (omega arith)))
 
-  pub trim-turn : 0 < n → n ≤ length s → get_or s (n - 1) 0 ≡ 32 → every is_space (drop (n - 1) s) ≡ true
-  trim-turn h k d =
-      let a : n - 1 < length s = omega arith in
-      let b : suc (n - 1) ≡ n = omega arith in
-      rw (drop-cons s (n - 1) 0 a) (one_more (get_or s (n - 1) 0) d (drop (suc (n - 1)) s) (rw b inv))
+module _ (s : List ℕ) where
+  pub trim-found : (n : ℕ) → n < length s → (get_or s n 0 ≡ 32 → ⊥)
+      → ((k : ℕ) → n < k → k < length s → get_or s k 0 ≡ 32)
+      → n + 1 ≡ length (trimmed s)
+  trim-found n h d spaces =
+      let behind : every is_space (drop (suc n) s) ≡ true =
+      all-space (drop (suc n) s)
+      (λ k b. get_or-drop (suc n) s k 0
+      ∙ spaces (suc n + k) (omega arith) (omega (arith, length-drop (suc n) s)))
+      in
+      add-one n ∙ sym (trim-size s n behind h d)
 
-  pub trim-none : n ≤ 0 → 0 ≡ length (trimmed s)
-  trim-none h =
-      let z : n ≡ 0 = omega arith in
-      rw (trim-spaces s (rw z at inv))
+  pub trim-none : ((k : ℕ) → k < length s → get_or s k 0 ≡ 32) → 0 ≡ length (trimmed s)
+  trim-none spaces = rw (trim-spaces s (all-space s spaces))
 
 -- ─── The value is the front of the bytes ───
 
@@ -115,24 +112,24 @@ trim-part l n e =
 -- ─── Read ───
 
 module _ (s : List ℕ) (a : Bool) (q : a ≡ every (in_class Text) (drop 0 (take (length s) s))) where
-  pub text-none : a ≡ false → NoValue ≡ text_value s
+  pub text-none : a ≡ false → None ≡ text_value s
   unfolding text_value
   text-none e = rw (← (rw take-length at q), e)
 
-  pub text-read : a ≡ true → (n : ℕ) → n ≡ length (trimmed s) → Value n ≡ text_value s
+  pub text-read : a ≡ true → (n : ℕ) → n ≡ length (trimmed s) → Some n ≡ text_value s
   unfolding text_value
   text-read e n p = rw (← (rw take-length at q), e, p)
 
 -- A value that is told is there, and is as long as that.
-text-told : (l : List ℕ) (n : ℕ) → text_value l ≡ Value n → (every is_text l ≡ true) × (length (trimmed l) ≡ n)
+text-told : (l : List ℕ) (n : ℕ) → text_value l ≡ Some n → (every is_text l ≡ true) × (length (trimmed l) ≡ n)
 unfolding text_value
 text-told l n e = go (every is_text l) e
   where
-    go : (b : Bool) → cond b (Value (length (trimmed l))) NoValue ≡ Value n → (b ≡ true) × (length (trimmed l) ≡ n)
+    go : (b : Bool) → cond b (Some (length (trimmed l))) None ≡ Some n → (b ≡ true) × (length (trimmed l) ≡ n)
     go true e = (refl, cc)
     go false e = let z : ◌≡◌ {A = ℕ} 0 1 = cc in absurd (omega arith)
 
-pub text-inside : (l : List ℕ) (n : ℕ) → text_value l ≡ Value n → length (take n l) ≡ n
+pub text-inside : (l : List ℕ) (n : ℕ) → text_value l ≡ Some n → length (take n l) ≡ n
 text-inside l n e =
     let t = text-told l n e in
     ap length (trim-part l n (sym t.1)) ∙ t.1
@@ -140,19 +137,6 @@ text-inside l n e =
 -- ─── Whether it fits ───
 
 module _ (width : ℕ) (v : List ℕ) where
-  pub text-wide : width < length v → false ≡ text_fits width v
-  unfolding text_fits
-  text-wide h = rw (lt-leb (length v) width h)
-
-  module _ (h : length v ≤ width) (a : Bool) (q : a ≡ every (in_class Text) (drop 0 (take (length v) v))) where
-    pub text-other : a ≡ false → false ≡ text_fits width v
-    unfolding text_fits
-    text-other e = rw (le-leb (length v) width h, ← (rw take-length at q), e)
-
-    pub text-ends : a ≡ true → (n : ℕ) → n ≡ length (trimmed v) → eqb n (length v) ≡ text_fits width v
-    unfolding text_fits
-    text-ends e n p = rw (le-leb (length v) width h, ← (rw take-length at q), e, p)
-
   pub text-parts : text_fits width v ≡ true
       → (length v ≤ width) × (every is_text v ≡ true) × (length (trimmed v) ≡ length v)
   unfolding text_fits
@@ -177,19 +161,7 @@ module _ (width : ℕ) (v : List ℕ) where
     pub text-full : length (text_bytes width v) ≡ width
     text-full = text-length text-low
 
--- ─── Spaces put, and the bytes of a value ───
-
-module _ (out : List ℕ) (i to : ℕ) (t : List ℕ) (inv : put out i (replicate (to - i) 32) ≡ t) where
-  pub spaces-turn : i < to → to ≤ length out → (next : List ℕ) → next ≡ put out i (32 ∷ [])
-      → put next (i + 1) (replicate (to - (i + 1)) 32) ≡ t
-  spaces-turn h k next q =
-      let s : to - i ≡ suc (to - (i + 1)) = omega arith in
-      rw (q, put-put out i (32 ∷ []) (replicate (to - (i + 1)) 32) (omega arith)) (rw s at inv)
-
-  pub spaces-done : to ≤ i → out ≡ t
-  spaces-done h =
-      let z : to - i ≡ 0 = omega arith in
-      sym (put-none out i) ∙ (rw z at inv)
+-- ─── The bytes of a value ───
 
 pub text-put : (out v : List ℕ) (width : ℕ) (a b : List ℕ) → a ≡ put out 0 v
     → b ≡ put a (length v) (replicate (width - length v) 32)
@@ -197,9 +169,6 @@ pub text-put : (out v : List ℕ) (width : ℕ) (a b : List ℕ) → a ≡ put o
 unfolding text_bytes
 text-put out v width a b p q =
     q ∙ rw p (rw zero-add at (put-put out 0 v (replicate (width - length v) 32) (omega arith)))
-
-pub trim_end : (s : List ℕ) → every is_space (drop (length s) s) ≡ true
-trim_end s = rw (drop_of_length-le s (le_refl (length s)))
 
 -- ─── Round trips ───
 
@@ -240,7 +209,7 @@ spaces-text zero = refl
 spaces-text (suc n) = spaces-text n
 
 pub text-back : (width : ℕ) (v : List ℕ) → text_fits width v ≡ true
-    → (text_value (text_bytes width v) ≡ Value (length v)) × (take (length v) (text_bytes width v) ≡ v)
+    → (text_value (text_bytes width v) ≡ Some (length v)) × (take (length v) (text_bytes width v) ≡ v)
 unfolding text_bytes text_value
 text-back width v e =
     let p = text-parts width v e in
@@ -265,7 +234,7 @@ again l h =
       trim-padded l,
     )
 
-pub text-again : (l : List ℕ) (n : ℕ) → text_value l ≡ Value n
+pub text-again : (l : List ℕ) (n : ℕ) → text_value l ≡ Some n
     → (text_fits (length l) (take n l) ≡ true) × (text_bytes (length l) (take n l) ≡ l)
 text-again l n e =
     let t = text-told l n e in

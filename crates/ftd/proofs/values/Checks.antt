@@ -1,15 +1,14 @@
 -- What the checks of bytes decide, and the turns of their loop, over plain variables. Assumes nothing.
 use Prim.Native.Nat.{ℕ, suc, ◌+◌, ◌-◌, ◌*◌, ◌<◌, ◌≤◌}
 use mathlib.Core.Path.{◌≡◌, refl, ◌∙◌}
-use mathlib.Core.List.{List, [], ◌∷◌, ◌++◌, append-nil}
+use mathlib.Core.List.{List, [], ◌∷◌, ◌++◌}
 use mathlib.Core.Bool.{Bool, true, false, cond, not, ◌&&◌}
-use native.Mathlib.Nat.{le_refl}
-use native.Mathlib.Numerals.{add-one}
 use native.Mathlib.Omega.{arith}
-use borrow.Author.Tests.{lt-ltb, le-leb, lt-leb, eq-eqb, ne_eqb}
-use lib.ListN.{length, get_or, take, drop, length-append, length-take, drop_of_length-le, get_or-append}
-use lib.Seq.{drop-cons, get_or-take, take-length, drop-append-le}
+use borrow.Author.Tests.{lt-ltb, le-ltb, le-leb, lt-leb, eq-eqb, ne_eqb}
+use lib.ListN.{length, get_or, take, drop, length-append, length-take, get_or-append}
+use lib.Seq.{get_or-take, take-length, drop-append-le}
 use lib.Dec.{leb, ltb, eqb, T, ltb→lt}
+use Rattle.std.specs.List.{fold}
 use Rattle.ftd.specs.Table.{char_kind, word_kind, int_kind, string_kind, number_kind, float_kind, date_kind, first_listed}
 use Rattle.ftd.specs.Table.{last_listed, enumerations}
 use Rattle.ftd.specs.Table.Helpers.{all_below}
@@ -17,71 +16,20 @@ use Rattle.ftd.specs.Values.{every, among, is_listed, is_number, without_point, 
 use Rattle.ftd.specs.Values.{year_of, is_date, is_value}
 use Rattle.ftd.specs.Gregorian.{real_date}
 use Rattle.ftd.specs.Values.Helpers.{in_class}
-use Rattle.ftd.specs.declared.values.Class.{Class}
 use Rattle.ftd.specs.declared.values.Class.TheVariants.{Text, Digit, Zero, Space}
 use Rattle.ftd.proofs.table.Rule.{both_left, both_right, below_at}
 
--- ─── A byte of a class ───
+-- ─── The bytes of a part ───
 
-module _ (k : Class) (b : ℕ) where
-  pub text-low : k ≡ Text → b < 32 → false ≡ in_class k b
-  text-low e h = rw (e, lt-leb 32 b h)
-
-  pub text-high : k ≡ Text → 32 ≤ b → not (eqb b 127) ≡ in_class k b
-  text-high e h = rw (e, le-leb 32 b h)
-
-  pub digit_low : k ≡ Digit → b < 48 → false ≡ in_class k b
-  digit_low e h = rw (e, lt-leb 48 b h)
-
-  pub digit-high : k ≡ Digit → 48 ≤ b → leb b 57 ≡ in_class k b
-  digit-high e h = rw (e, le-leb 48 b h)
-
-  pub zero-class : k ≡ Zero → eqb b 48 ≡ in_class k b
-  zero-class e = rw e
-
-  pub space-class : k ≡ Space → eqb b 32 ≡ in_class k b
-  space-class e = rw e
-
--- ─── The bytes of a part, one at a time ───
-
-module _ (k : Class) (s : List ℕ) (i to : ℕ) (fits : to ≤ length s) (t : Bool)
-    (inv : every (in_class k) (drop i (take to s)) ≡ t) where
-  pub every-end : to ≤ i → true ≡ t
-  every-end h =
-      let e : length (take to s) ≤ i = rw length-take (omega arith) in
-      rw (drop_of_length-le (take to s) e) at inv
-
-  step : i < to → (in_class k (get_or s i 0) && every (in_class k) (drop (i + 1) (take to s))) ≡ t
-  step h =
-      let e : i < length (take to s) = rw length-take (omega arith) in
-      rw add-one (rw (drop-cons (take to s) i 0 e, get_or-take {A = ℕ} to s i 0 h) at inv)
-
-  module _ (h : i < to) (r : Bool) (q : r ≡ in_class k (get_or s i 0)) where
-    pub every-wrong : r ≡ false → false ≡ t
-    every-wrong w = rw (← q, w) at (step h)
-
-    pub every-turn : r ≡ true → every (in_class k) (drop (i + 1) (take to s)) ≡ t
-    every-turn w = rw (← q, w) at (step h)
-
--- The same for a walk to the end: what was found so far, and the rest.
-module _ (k : Class) (s : List ℕ) (i to : ℕ) (fits : to ≤ length s) (t g : Bool)
-    (inv : (g && every (in_class k) (drop i (take to s))) ≡ t) where
-  pub all_end : to ≤ i → g ≡ t
-  all_end h = go g (rw (← (every-end k s i to fits (every (in_class k) (drop i (take to s))) refl h)) at inv)
-    where
-      go : (x : Bool) → (x && true) ≡ t → x ≡ t
-      go true e = e
-      go false e = e
-
-  pub all-turn : i < to → (r : Bool) → r ≡ in_class k (get_or s i 0) → (n : Bool) → n ≡ (g && r)
-      → (n && every (in_class k) (drop (i + 1) (take to s))) ≡ t
-  all-turn h r q n p =
-      rw p (go g r (every (in_class k) (drop (i + 1) (take to s)))
-      (rw (← (rw (← q) at (step k s i to fits (every (in_class k) (drop i (take to s))) refl h))) at inv))
-    where
-      go : (x y z : Bool) → (x && (y && z)) ≡ t → ((x && y) && z) ≡ t
-      go true y z e = e
-      go false y z e = e
+-- A walk to the end: what was found so far, and the rest.
+pub fold-every : (p : ℕ → Bool) (g : Bool) (l : List ℕ) → fold (λ (a : Bool) (b : ℕ). a && p b) g l ≡ (g && every p l)
+fold-every p true [] = refl
+fold-every p false [] = refl
+fold-every p g (x ∷ xs) = fold-every p (g && p x) xs ∙ and_assoc g (p x) (every p xs)
+  where
+    and_assoc : (a b c : Bool) → ((a && b) && c) ≡ (a && (b && c))
+    and_assoc true b c = refl
+    and_assoc false b c = refl
 
 pub every_append : (p : ℕ → Bool) (a b : List ℕ) → every p (a ++ b) ≡ (every p a && every p b)
 every_append p [] b = refl
@@ -91,16 +39,6 @@ every_append p (x ∷ xs) b = go (p x) (every_append p xs b)
         → (c && every p (xs ++ b)) ≡ ((c && every p xs) && every p b)
     go true e = e
     go false e = refl
-
-module _ (k : Class) (s : List ℕ) (from point behind : ℕ) (a : Bool)
-    (p : a ≡ every (in_class k) (drop from (take point s))) where
-  pub parts-wrong : a ≡ false → false ≡ every (in_class k) (drop from (take point s) ++ drop behind s)
-  parts-wrong w = rw (every_append (in_class k) (drop from (take point s)) (drop behind s), ← p, w)
-
-  pub parts-right : a ≡ true → (b : Bool) → b ≡ every (in_class k) (drop behind (take (length s) s))
-      → b ≡ every (in_class k) (drop from (take point s) ++ drop behind s)
-  parts-right w b q =
-      rw (every_append (in_class k) (drop from (take point s)) (drop behind s), ← p, w) (rw take-length at q)
 
 -- ─── Number ───
 
@@ -116,18 +54,14 @@ module _ (s : List ℕ) (point behind : ℕ) (low : 1 ≤ point) (order : point 
 
   module _ (minus : get_or s 0 0 ≡ 45) (d : Bool) (q : d ≡ every (in_class Digit) (drop 1 (take point s) ++ drop behind s))
     where
-      pub minus-wrong : d ≡ false → false ≡ is_number (take point s ++ drop behind s)
+      pub minus-wrong : d ≡ false → d ≡ is_number (take point s ++ drop behind s)
       unfolding is_number
       minus-wrong w = rw (first, eq-eqb _ _ minus, rest, ← q, w)
 
       module _ (w : d ≡ true) (z : Bool) (y : z ≡ every (in_class Zero) (drop 1 (take point s) ++ drop behind s)) where
-        pub minus-zero : z ≡ true → false ≡ is_number (take point s ++ drop behind s)
+        pub minus_number : not z ≡ is_number (take point s ++ drop behind s)
         unfolding is_number
-        minus-zero v = rw (first, eq-eqb _ _ minus, rest, ← q, w, ← y, v)
-
-        pub minus_number : z ≡ false → true ≡ is_number (take point s ++ drop behind s)
-        unfolding is_number
-        minus_number v = rw (first, eq-eqb _ _ minus, rest, ← q, w, ← y, v)
+        minus_number = rw (first, eq-eqb _ _ minus, rest, ← q, w, ← y)
 
   pub plain-number : (get_or s 0 0 ≡ 45 → ⊥) → (d : Bool)
       → d ≡ every (in_class Digit) (drop 0 (take point s) ++ drop behind s)
@@ -142,9 +76,6 @@ unfolding is_number
 empty-number [] h = refl
 empty-number (x ∷ xs) h = absurd (omega arith)
 
-pub whole-number : (s : List ℕ) (r : Bool) → r ≡ is_number (take (length s) s ++ drop (length s) s) → r ≡ is_number s
-whole-number s r q = rw (take-length, drop_of_length-le s (le_refl (length s)), append-nil) at q
-
 -- ─── Float ───
 
 module _ (s : List ℕ) (scale n : ℕ) (e : n ≡ scale) where
@@ -153,7 +84,7 @@ module _ (s : List ℕ) (scale n : ℕ) (e : n ≡ scale) where
   float-short h = rw (← e, lt-leb (n + 2) (length s) h)
 
   module _ (h : n + 2 ≤ length s) where
-    pub float-wrong : (get_or s (length s - (n + 1)) 0 ≡ 46 → ⊥) → false ≡ is_float scale s
+    pub float-wrong : (get_or s (length s - (n + 1)) 0 ≡ 46 → ⊥) → eqb (get_or s (length s - (n + 1)) 0) 46 ≡ is_float scale s
     unfolding is_float
     float-wrong w = rw (← e, le-leb (n + 2) (length s) h, ne_eqb _ _ w)
 
@@ -165,7 +96,7 @@ module _ (s : List ℕ) (scale n : ℕ) (e : n ≡ scale) where
 -- ─── Date ───
 
 module _ (s : List ℕ) where
-  pub date-width : (length s ≡ 8 → ⊥) → false ≡ is_date s
+  pub date-width : (length s ≡ 8 → ⊥) → eqb (length s) 8 ≡ is_date s
   unfolding is_date
   date-width h = rw (ne_eqb _ _ h)
 
@@ -173,12 +104,12 @@ module _ (s : List ℕ) where
     all : take 8 s ≡ s
     all = rw (← h, take-length)
 
-    pub date-spaces : a ≡ true → true ≡ is_date s
+    pub date-spaces : a ≡ true → a ≡ is_date s
     unfolding is_date
     date-spaces w = rw (eq-eqb _ _ h, ← (rw all at p), w)
 
     module _ (w : a ≡ false) (b : Bool) (q : b ≡ every (in_class Digit) (drop 0 (take 8 s))) where
-      pub date-other : b ≡ false → false ≡ is_date s
+      pub date-other : b ≡ false → b ≡ is_date s
       unfolding is_date
       date-other v = rw (eq-eqb _ _ h, ← (rw all at p), w, ← (rw all at q), v)
 
@@ -230,11 +161,12 @@ among-over b h (v ∷ vs) t =
     rw (ne_eqb b v (λ e. omega arith)) (among-over b h vs (both_right (ltb v 8) (every (λ x. ltb x 8) vs) t))
 
 module _ (kind : ℕ) (low : first_listed ≤ kind) (high : kind ≤ last_listed) (b : ℕ) where
-  pub listed-over : 8 ≤ b → false ≡ is_listed kind b
+  pub listed-over : 8 ≤ b → ltb b 8 ≡ is_listed kind b
   unfolding is_listed
   listed-over h =
       let k : kind - first_listed < 10 = omega arith in
       rw (
+        le-ltb b 8 h,
         ne_eqb b 0 (λ e. omega arith),
         among-over b h (get_or enumerations (kind - first_listed) [])
             (below_at (λ k. every (λ v. ltb v 8) (get_or enumerations k [])) 10 small (kind - first_listed) k),
@@ -326,7 +258,7 @@ module _ (kind scale : ℕ) (s : List ℕ) where
     pub listed-value : kind < 17 → length s ≡ 1 → (r : Bool) → r ≡ is_listed kind (get_or s 0 0) → r ≡ is_value kind scale s
     listed-value h e r q = rw (passed, le-leb kind last_listed (omega arith), eq-eqb _ _ e) q
 
-    pub listed-wide : kind < 17 → (length s ≡ 1 → ⊥) → false ≡ is_value kind scale s
+    pub listed-wide : kind < 17 → (length s ≡ 1 → ⊥) → eqb (length s) 1 ≡ is_value kind scale s
     listed-wide h e = rw (passed, le-leb kind last_listed (omega arith), ne_eqb _ _ e)
 
     pub no_kind : 17 ≤ kind → false ≡ is_value kind scale s

@@ -28,7 +28,7 @@ use Rattle.ftd.specs.declared.packet.Chain.TheVariants.{Single, First, Middle, L
 use Rattle.ftd.specs.declared.packet.Header.{Header}
 use Rattle.ftd.specs.declared.packet.Packet.{Packet}
 use Rattle.ftd.specs.declared.packet.Packet.TheVariants.{Link, Skipped, Message, Refused}
-use Rattle.ftd.specs.declared.write.Written.{Written}
+use Rattle.ftd.specs.Types.{Written}
 use Rattle.ftd.specs.Write.Laws.{at, plain_packet, WriteLaws}
 use Rattle.ftd.proofs.Lists.{part-append, be16-width}
 use Rattle.ftd.proofs.runs.Heads.{be16-drop, be32-drop}

@@ -2,25 +2,25 @@
 use Prim.Native.Nat.{ℕ, ◌+◌, ◌%◌, ◌<◌, ◌≤◌}
 use mathlib.Core.Path.{◌≡◌, refl, sym, ap, ◌∙◌}
 use mathlib.Core.List.{List, [], ◌∷◌, ◌++◌, append_assoc}
-use mathlib.Core.Bool.{Bool, true, false, not, ◌&&◌, ◌||◌}
+use mathlib.Core.Bool.{Bool, true, false, cond, not, ◌&&◌, ◌||◌, false≢true}
 use native.Mathlib.Omega.{arith}
-use borrow.Author.Tests.{lt-ltb, le-ltb, ltb-false}
+use borrow.Author.Tests.{lt-ltb, le-ltb, ltb-true, ltb-false}
 use lib.ListN.{length, drop, length-append}
 use lib.Dec.{ltb, eqb}
 use Rattle.ftd.specs.Bytes.{put, bytes16, bytes32}
 use Rattle.ftd.specs.Fields.{field_with}
 use Rattle.ftd.specs.Packet.{chain_letter}
 use Rattle.ftd.specs.Write.{frame_head, packet_bytes, header_bytes, message_bytes, is_plain, Verdict, fine, refuse}
-use Rattle.ftd.specs.Write.{other, written_answer, written_output}
+use Rattle.ftd.specs.Write.{other, written_answer, written_output, fit_verdict}
 use Rattle.ftd.specs.declared.refusal.Refusal.{Refusal}
 use Rattle.ftd.specs.declared.refusal.Refusal.TheVariants.{TooSmall}
 use Rattle.ftd.specs.Tags.{extension_bytes, tag_bytes, tags_for, place_tag}
 use Rattle.ftd.specs.Resume.{resume_bytes}
-use Rattle.ftd.specs.declared.tags.TradeDate.TheVariants.{At}
-use Rattle.ftd.specs.declared.write.Written.{Written}
-use Rattle.ftd.specs.declared.write.Written.TheVariants.{Bytes, Refused}
+use Rattle.ftd.specs.Types.{Written, Checked}
 use Rattle.ftd.specs.declared.packet.Header.{Header}
 use Rattle.ftd.proofs.bytes.Put.{length-put, put-put, put-before, put-zero}
+use Rattle.std.specs.Prelude.{Some, Ok, Err}
+use Rattle.ftd.specs.declared.write.WriteError.TheVariants.{Refused}
 
 -- A put right behind a put is one put of both.
 pub then : (l o p : List ℕ) (to at : ℕ) (vs ws : List ℕ) → to ≤ length l → at ≡ to + length vs → o ≡ put l to vs
@@ -123,9 +123,40 @@ length-message h extension content =
 
 -- ─── What a verdict makes of the answer and the output ───
 
+-- What `room` answers, by whether the output is short.
+abbrev pub room_answer : Bool → Checked
+room_answer short = cond short (Err TooSmall) (Ok tt)
+
+abbrev refusal_in : Checked → Refusal
+refusal_in (Ok t) = TooSmall
+refusal_in (Err r) = r
+
+abbrev is_refused : Checked → Bool
+is_refused (Ok t) = false
+is_refused (Err r) = true
+
+module _ (n there : ℕ) (r : Checked) (q : r ≡ room_answer (ltb there n)) where
+  pub short-told : (x : Refusal) → r ≡ Err x → (there < n) × (x ≡ TooSmall)
+  short-told x e = go (ltb there n) refl (sym q ∙ e)
+    where
+      go : (b : Bool) → ltb there n ≡ b → room_answer b ≡ Err x → (there < n) × (x ≡ TooSmall)
+      go true h e = (ltb-true there n h, sym (ap refusal_in e))
+      go false h e = absurd (false≢true (ap is_refused e))
+
+  pub fits-told : r ≡ Ok tt → n ≤ there
+  fits-told e = go (ltb there n) refl (sym q ∙ e)
+    where
+      go : (b : Bool) → ltb there n ≡ b → room_answer b ≡ Ok tt → n ≤ there
+      go true h e = absurd (false≢true (sym (ap is_refused e)))
+      go false h e = ltb-false there n h
+
+-- A value that fits may be written.
+pub fit-fine : (fits f : Bool) → f ≡ fits → f ≡ true → fit_verdict fits ≡ fine
+fit-fine fits f q e = rw (← q, e)
+
 module _ (v : Verdict) (bytes out : List ℕ) where
   pub by-refusal : (r : Refusal) → v ≡ refuse r
-      → (Refused r ≡ written_answer v bytes out) × (out ≡ written_output v bytes out)
+      → (Err (Refused r) ≡ written_answer v bytes out) × (out ≡ written_output v bytes out)
   unfolding written_answer written_output
   by-refusal r e = rw e (refl, refl)
 
@@ -134,18 +165,31 @@ module _ (v : Verdict) (bytes out : List ℕ) where
   by-other w e = rw e (refl, refl)
 
   module _ (e : v ≡ fine) (n : ℕ) (long : length bytes ≡ n) where
-    pub by-room : length out < n → (Refused TooSmall ≡ written_answer v bytes out) × (out ≡ written_output v bytes out)
+    pub by-room : length out < n → (Err (Refused TooSmall) ≡ written_answer v bytes out) × (out ≡ written_output v bytes out)
     unfolding written_answer written_output
     by-room h = rw (e, long, lt-ltb (length out) n h) (refl, refl)
 
     pub by-filling : (o : List ℕ) → n ≤ length out → o ≡ bytes ++ drop n out
-        → (Bytes n ≡ written_answer v bytes out) × (o ≡ written_output v bytes out)
+        → (Ok n ≡ written_answer v bytes out) × (o ≡ written_output v bytes out)
     unfolding written_answer written_output
     by-filling o h p = (rw (e, long, le-ltb (length out) n h), p ∙ rw (e, long, le-ltb (length out) n h))
 
     pub by-writing : (o : List ℕ) → n ≤ length out → o ≡ put out 0 bytes
-        → (Bytes n ≡ written_answer v bytes out) × (o ≡ written_output v bytes out)
+        → (Ok n ≡ written_answer v bytes out) × (o ≡ written_output v bytes out)
     by-writing o h p = by-filling o h (p ∙ put-zero out bytes ∙ rw long)
+
+    -- By what `room` answers.
+    module _ (r : Checked) (q : r ≡ room_answer (ltb (length out) n)) where
+      pub by-short : (x : Refusal) → r ≡ Err x → (w : Written) → w ≡ Err (Refused x)
+          → (w ≡ written_answer v bytes out) × (out ≡ written_output v bytes out)
+      by-short x f w g =
+          let short = short-told n (length out) r q x f in
+          let said = by-room short.0 in
+          (g ∙ ap (λ (y : Refusal). Err (Refused y)) short.1 ∙ said.0, said.1)
+
+      pub by-fitting : r ≡ Ok tt → (o : List ℕ) → o ≡ put out 0 bytes
+          → (Ok n ≡ written_answer v bytes out) × (o ≡ written_output v bytes out)
+      by-fitting f o p = by-writing o (fits-told n (length out) r q f) p
 
 -- A body that may be written has a length of two bytes.
 pub plain_body : (kind body : ℕ) (plain : Bool) → plain ≡ is_plain kind body → plain ≡ true → body < 65536
@@ -159,7 +203,7 @@ plain_body kind body plain e t = go (ltb 65535 body) refl (sym e ∙ t)
 -- The trade date as the only tag.
 pub date-put : (l o1 o2 o3 : List ℕ) (to d : ℕ) → to ≤ length l → o1 ≡ put l to (5 ∷ []) → o2 ≡ put o1 (to + 1) (4 ∷ [])
     → o3 ≡ put o2 (to + 2) (bytes32 d)
-    → o3 ≡ put l to (extension_bytes (tags_for (At d)))
+    → o3 ≡ put l to (extension_bytes (tags_for (Some d)))
 date-put l o1 o2 o3 to d h b1 b2 b3 =
     then l o2 o3 to (to + 2) (5 ∷ 4 ∷ []) (bytes32 d) h refl (then l o1 o2 to (to + 1) (5 ∷ []) (4 ∷ []) h refl b1 b2)
     b3

@@ -6,11 +6,10 @@ use Rattle.ftd.specs.Fields.{field, fields_of, shapely, packet_content}
 use Rattle.ftd.specs.Chain.{Piece, no_fields, pack, pieces_of, framed}
 use Rattle.ftd.specs.declared.refusal.Refusal.TheVariants.{FieldRun}
 use Rattle.ftd.specs.declared.chain.Cut.{Cut}
-use Rattle.ftd.specs.declared.chain.PiecePlace.{PiecePlace}
-use Rattle.ftd.specs.declared.chain.PiecePlace.TheVariants.{NoPiece, At as Found}
 use Rattle.ftd.specs.declared.chain.Message.{Message}
-use Rattle.ftd.specs.declared.chain.ChainSize.{ChainSize}
-use Rattle.ftd.specs.declared.chain.ChainSize.TheVariants.{Takes, Refused}
+use Rattle.ftd.specs.Types.{ChainSize}
+use Rattle.std.specs.Prelude.{Some, None, Ok, Err}
+use Rattle.ftd.specs.Types.{MaybePiece}
 
 -- The pieces of the fields behind a piece.
 abbrev pub others_of : List (List ℕ) → List Piece
@@ -35,11 +34,11 @@ pub record NextPiece (content : List ℕ) (at : ℕ) (c : Cut) : Type 0 where
 
 -- Piece i of a content starts at a place and is the first piece from there on, and each piece before it has a byte; or
 -- there are no more than i.
-abbrev pub FoundPiece : List ℕ → ℕ → PiecePlace → Type 0
-FoundPiece content i NoPiece = length (pieces_of content) ≤ i
-FoundPiece content i (Found at c) =
-    NextPiece content at c × (shapely (run_of field (drop at content)) ≡ true)
-    × (drop i (pieces_of content) ≡ pieces_of (drop at content)) × (i ≤ at)
+abbrev pub FoundPiece : List ℕ → ℕ → MaybePiece → Type 0
+FoundPiece content i None = length (pieces_of content) ≤ i
+FoundPiece content i (Some found) =
+    NextPiece content found.at found.cut × (shapely (run_of field (drop found.at content)) ≡ true)
+    × (drop i (pieces_of content) ≡ pieces_of (drop found.at content)) × (i ≤ found.at)
 
 -- The packets of a content from a place on, packet j first, at a place of the output: how far they reach, 0 where the
 -- content is not shapely from there on; they are put where they fit, and otherwise the output stays.
@@ -63,5 +62,5 @@ size_of ext (p ∷ ps) = 4 + ext + (16 + length p.bytes) + size_of ext ps
 unfoldable pub measure_of : ℕ → List ℕ → ChainSize
 measure_of ext content =
     cond (shapely (run_of field content))
-    (Takes (record { packets = length (pieces_of content); bytes = size_of ext (pieces_of content) }))
-    (Refused FieldRun)
+    (Ok (record { packets = length (pieces_of content); bytes = size_of ext (pieces_of content) }))
+    (Err FieldRun)

@@ -8,12 +8,12 @@ use Rattle.ftd.specs.Fields.{fields_of, exact_run, shaped, most_content, packet_
 use Rattle.ftd.specs.Packet.{extension_length, body_length, not_one_packet, no_message_packet, span, read_of, dated_of}
 use Rattle.ftd.specs.Chain.{Piece, no_fields, pieces_of, chain_at, header_for, packets_of, overhead_of, overhead}
 use Rattle.ftd.specs.Chain.{most_packets, tags_at}
-use Rattle.ftd.specs.declared.tags.TradeDate.{TradeDate}
-use Rattle.ftd.specs.declared.tags.PacketPlace.{PacketPlace}
-use Rattle.ftd.specs.declared.tags.PacketPlace.TheVariants.{NoPlace, Nth}
+use Rattle.ftd.specs.Types.{TradeDate}
+use Rattle.ftd.specs.Types.{PacketPlace}
 use Rattle.ftd.specs.declared.chain.Message.{Message}
 use Rattle.ftd.specs.declared.packet.Chain.{Chain}
 use Rattle.ftd.specs.declared.packet.Packet.TheVariants.{Message as Accepted}
+use Rattle.std.specs.Prelude.{Some, None}
 
 -- Bytes cut by the packets' first four bytes.
 unfoldable pub packet_form : Form
@@ -32,7 +32,7 @@ letter_at m content i = chain_at (eqb i 0) (eqb (i + 1) (length (packets_of m co
 
 -- The place that packet i bears.
 abbrev pub place_for : Message → ℕ → PacketPlace
-place_for m i = cond m.counted (Nth i) NoPlace
+place_for m i = cond m.counted (Some i) None
 
 pub record ChainLaws : Type 0 where
   -- An extension made of tags is a run of just these tags.
@@ -40,7 +40,7 @@ pub record ChainLaws : Type 0 where
   -- The tags that an end writes pass the check of tags, and have the trade date and no place;
   pub tags-good : (d : TradeDate) → good_tags (extension_bytes (tags_for d)) ≡ true
   pub tags-date : (d : TradeDate) → trade_date_of (extension_bytes (tags_for d)) ≡ d
-  pub tags-unplaced : (d : TradeDate) → packet_place_of (extension_bytes (tags_for d)) ≡ NoPlace
+  pub tags-unplaced : (d : TradeDate) → packet_place_of (extension_bytes (tags_for d)) ≡ None
   -- those of packet j have its place too where the packets are counted, and take as many bytes at every place.
   pub at-good : (m : Message) (j : ℕ) → good_tags (extension_bytes (tags_at m j)) ≡ true
   pub at-date : (m : Message) (j : ℕ) → trade_date_of (extension_bytes (tags_at m j)) ≡ m.date

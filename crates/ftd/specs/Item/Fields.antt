@@ -8,7 +8,7 @@ use Rattle.ftd.specs.Table.{Row, rows_of, width_of, known}
 use Rattle.ftd.specs.Items.{wrong_width, wrong_item}
 use Rattle.ftd.specs.Places.{item_of}
 use Rattle.ftd.specs.Item.{ItemValue, char, value_of, value_bytes, fits, given_at, item_value_of}
-use Rattle.ftd.specs.declared.places.ItemPlace.TheVariants.{Item as Place}
+use Rattle.ftd.specs.Types.{some_item}
 
 -- ─── Read ───
 
@@ -69,6 +69,6 @@ pub record KnownLaws : Type 0 where
       × Accepted fid (field_bytes_of fid vs)
       × (values_of fid (field_bytes_of fid vs) ≡ some vs)
   -- Value i of the list is that of item i, counted from 0: what reading the item by place gives.
-  pub item : (fid i kind scale start width : ℕ) → item_of fid i ≡ Place kind scale start width
+  pub item : (fid i kind scale start width : ℕ) → item_of fid i ≡ some_item kind scale start width
       → (l : List ℕ) (vs : List ItemValue) → values_of fid l ≡ some vs
       → (i < length vs) × (item_value_of fid i l ≡ given_at start (some (get_or vs i (char 0))))

@@ -8,11 +8,12 @@ use Rattle.ftd.specs.Packet.{extension_of, version_of, letter_of, field_count_of
 use Rattle.ftd.specs.Packet.{head_missing, rest_missing, missing_of, not_one_packet, long_extension, wrong_body, whole_of}
 use Rattle.ftd.specs.Packet.{span, extension_span, accepted_of, is_short, read_of, message_fields, field_of, field_bytes}
 use Rattle.ftd.specs.declared.refusal.Refusal.TheVariants.{LongExtension, BodyLength}
-use Rattle.ftd.specs.declared.fields.FieldPlace.TheVariants.{NoField, Field}
 use Rattle.ftd.specs.declared.packet.Span.{Span}
 use Rattle.ftd.specs.declared.packet.Header.{Header}
 use Rattle.ftd.specs.declared.packet.Packet.{Packet}
 use Rattle.ftd.specs.declared.packet.Packet.TheVariants.{Short, Link, Skipped, Message, Refused}
+use Rattle.std.specs.Prelude.{None}
+use Rattle.ftd.specs.Types.{some_field}
 
 -- ─── What each kind of packet is: conditions on the bytes, each by itself, in no order ───
 
@@ -138,9 +139,9 @@ pub record ReadLaws : Type 0 where
   pub whole : (p : List ℕ) (h : Header) (e c : Span) → read_of p ≡ Message h e c
       → joined (message_fields p) ≡ part p c.start c.len
   pub count : (p : List ℕ) (h : Header) (e c : Span) → read_of p ≡ Message h e c → length (message_fields p) ≡ h.fields
-  -- Field i is field i of these: its FID, and its bytes without FID and length; from their count on there is none.
+  -- some_field i is field i of these: its FID, and its bytes without FID and length; from their count on there is none.
   pub some : (p : List ℕ) (i : ℕ) → i < length (message_fields p) →
       (start : ℕ)
-      × (field_of p i ≡ Field (fid_of (get_or (message_fields p) i [])) start (length (get_or (message_fields p) i []) - 6))
+      × (field_of p i ≡ some_field (fid_of (get_or (message_fields p) i [])) start (length (get_or (message_fields p) i []) - 6))
       × (field_bytes p i ≡ bytes_of (get_or (message_fields p) i []))
-  pub none : (p : List ℕ) (i : ℕ) → length (message_fields p) ≤ i → (field_of p i ≡ NoField) × (field_bytes p i ≡ [])
+  pub none : (p : List ℕ) (i : ℕ) → length (message_fields p) ≤ i → (field_of p i ≡ None) × (field_bytes p i ≡ [])

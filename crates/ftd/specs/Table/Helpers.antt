@@ -1,18 +1,7 @@
--- The columns that the code has of the table, and the test that is computed over the whole table; only private
--- contracts and the proof of the rule use them.
-use Rattle.std.specs.Prelude.{ℕ, zero, suc, ◌+◌, List, map, [], ◌∷◌, Bool, true, false, ◌&&◌, take, drop, leb, ltb, eqb}
+-- The test that is computed over the whole table; only the proof of the rule uses it.
+use Rattle.std.specs.Prelude.{ℕ, zero, suc, ◌+◌, List, [], ◌∷◌, Bool, true, false, ◌&&◌, take, drop, leb, ltb, eqb}
 use Rattle.ftd.specs.Table.{Row, table, total, rows_of}
 use Rattle.ftd.specs.Table.Rule.{rows_place, right_form}
-
--- The columns of the table.
-unfoldable pub kind_column : List ℕ
-kind_column = map (λ (r : Row). r.kind) table
-
-unfoldable pub width_column : List ℕ
-width_column = map (λ (r : Row). r.width) table
-
-unfoldable pub scale_column : List ℕ
-scale_column = map (λ (r : Row). r.scale) table
 
 -- ─── The test ───
 

@@ -1,7 +1,8 @@
 -- What the private functions of the tags promise; only their contracts use it.
 use Rattle.std.specs.Prelude.{ℕ, ◌+◌, ◌<◌, ◌≤◌, List, map, ◌≡◌, cond, length, get_or, drop, eqb}
 use Rattle.ftd.specs.Tags.{KnownTag, known_tags, right_in, length_right, tag_place}
-use Rattle.ftd.specs.declared.tags.TagPlace.TheVariants.{NoTag, Data}
+use Rattle.std.specs.Prelude.{None}
+use Rattle.ftd.specs.Types.{some_data}
 
 -- The first row of a kind: its place in the list, or 8 where the list does not have it. From there on the list says the
 -- same.
@@ -16,5 +17,5 @@ data_place counted kind place at = cond (eqb kind counted) (at + 2) place
 
 -- What a walk over all tags has seen of a kind whose data has a size: none of them, or one, and where its data lies.
 pub record SeenTag (l : List ℕ) (kind size k place : ℕ) : Type 0 where
-  pub none : k ≡ 0 → tag_place l kind ≡ NoTag
-  pub one : k ≡ 1 → (tag_place l kind ≡ Data place size) × (place + size ≤ length l)
+  pub none : k ≡ 0 → tag_place l kind ≡ None
+  pub one : k ≡ 1 → (tag_place l kind ≡ some_data place size) × (place + size ≤ length l)

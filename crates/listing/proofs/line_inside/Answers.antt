@@ -25,8 +25,8 @@ returns-then-goes_on c =
     c.said_length.ensures in
     record { answer = said.0; output = said.1 }
 
-pub returns : goal.returns
-returns c =
+pub returns-else-goes_on : goal.returns-else-goes_on
+returns-else-goes_on c =
     let said = inside-last c.args.capture.now c.args.at c.requires.0 _ _ c.read-found.ensures
     c.goes_on.ensures c.args.out.now _ _ c.requires.1
     c.packet_line-len.ensures c.if-goes_on.false in

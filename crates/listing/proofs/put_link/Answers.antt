@@ -10,10 +10,10 @@ returns-then-is_heart c =
       c.if-is_heart.true,
     ) (c.put_word.ensures, omega arith)
 
-pub returns : goal.returns
+pub returns-else-is_heart : goal.returns-else-is_heart
 unfolding link_text
-returns c =
+returns-else-is_heart c =
     rw (
       ← c.is_heart.ensures,
       c.if-is_heart.false,
-    ) (c.put_word-2.ensures, omega arith)
+    ) (c.put_word-else-is_heart.ensures, omega arith)

@@ -74,9 +74,6 @@ module _ (line : List ℕ) (v : Verb) (r : Call) where
         → x ≡ number_at line 0 → y ≡ tid_in w → w ≡ argument line 1 → r ≡ named_call line v
     names-publish w k e h q p f = let z : y ≡ tid_in (argument line 1) = rw f at p in rw (e, ← h, ← q, ← z) k
 
-  pub names-unknown : v ≡ Unknown → Bad ≡ named_call line v
-  names-unknown e = rw e
-
   pub names-day : (x n : ℕ) → r ≡ open_day_with x n → v ≡ NamesOpenDay → x ≡ number_at line 0 → n ≡ share_count line 1
       → r ≡ named_call line v
   names-day x n k e q p = rw (e, ← q, ← p) k

@@ -2,40 +2,20 @@
 use Prim.Native.Nat.{ℕ}
 use mathlib.Core.Path.{◌≡◌}
 use mathlib.Core.List.{List}
-use Rattle.ftd.specs.declared.refusal.Refusal.{Refusal}
 use Rattle.flow.specs.declared.checkpoint.Checkpoints.{Checkpoints}
-use Rattle.flow.specs.declared.checkpoint.Saved.{Saved}
-use Rattle.flow.specs.declared.checkpoint.Saved.TheVariants.{Done as IsSaved}
-use Rattle.flow.specs.declared.checkpoint.Saved.TheVariants.{Refused as NotSaved}
-use Rattle.flow.specs.declared.checkpoint.Restored.{Restored}
-use Rattle.flow.specs.declared.checkpoint.Restored.TheVariants.{Done as IsRestored}
-use Rattle.flow.specs.declared.checkpoint.Restored.TheVariants.{Refused as NotRestored}
+use Rattle.flow.specs.Types.{Saved}
+use Rattle.flow.specs.Types.{Restored}
 use Rattle.listing.specs.Text.{WroteText}
 use Rattle.play.specs.declared.player.Player.{Player}
 use Rattle.play.specs.declared.player.Played.{Played}
 use Rattle.play.specs.Words.{name_in}
-use Rattle.play.specs.Lines.{word_line, kept, returned, refused_line, saved_line, restored_line}
+use Rattle.play.specs.Lines.{saved_line, restored_line}
 use Rattle.play.specs.Played.{with_checkpoints, ShowsKeep, ShowsReturn}
 
 pub checkpoints-are : (p pl : Player) (c m : Checkpoints) → pl ≡ with_checkpoints p c → c ≡ m → pl ≡ with_checkpoints p m
 checkpoints-are p pl c m q f = rw (← f) q
 
 module _ {l t : List ℕ} {to : ℕ} where
-  pub saved-done : (a : Saved) → a ≡ IsSaved → WroteText l 0 (word_line kept) t to → WroteText l 0 (saved_line a) t to
-  saved-done a e q = rw e q
-
-  pub saved-not : (a : Saved) (r : Refusal) → a ≡ NotSaved r → WroteText l 0 (refused_line r) t to
-      → WroteText l 0 (saved_line a) t to
-  saved-not a r e q = rw e q
-
-  pub restored-done : (a : Restored) → a ≡ IsRestored → WroteText l 0 (word_line returned) t to
-      → WroteText l 0 (restored_line a) t to
-  restored-done a e q = rw e q
-
-  pub restored-not : (a : Restored) (r : Refusal) → a ≡ NotRestored r → WroteText l 0 (refused_line r) t to
-      → WroteText l 0 (restored_line a) t to
-  restored-not a r e q = rw e q
-
   pub saved-is : (a m : Saved) → a ≡ m → WroteText l 0 (saved_line a) t to → WroteText l 0 (saved_line m) t to
   saved-is a m e q = rw (← e) q
 

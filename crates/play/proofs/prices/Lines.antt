@@ -9,19 +9,14 @@ use lib.IntN.{ℤ, pos, negsuc, nat_abs}
 use lib.Signed.{lt_z}
 use lib.ListN.{length}
 use Rattle.ftd.specs.Signed.Write.{digits_in}
-use Rattle.ftd.specs.declared.refusal.Refusal.{Refusal}
 use Rattle.listing.specs.Text.{WroteText, decimal_of}
 use Rattle.listing.proofs.Numbers.{digits-most}
 use Rattle.listing.proofs.Texts.{wrote-both}
-use Rattle.book.specs.declared.calls.Outcome.{Outcome}
-use Rattle.book.specs.declared.calls.Outcome.TheVariants.{Done as IsDone}
-use Rattle.book.specs.declared.calls.Outcome.TheVariants.{Refused as NotDone}
-use Rattle.book.specs.declared.levels.Listed.{Listed}
-use Rattle.book.specs.declared.levels.Listed.TheVariants.{NoLevel, At}
-use Rattle.book.specs.declared.sums.Mean.{Mean}
-use Rattle.book.specs.declared.sums.Mean.TheVariants.{NoMean, Price}
-use Rattle.play.specs.Lines.{word_line, refused_line, none, level, mean, units_text, price_text, priced, spaced}
-use Rattle.play.specs.Lines.{outcome_line, pair_line, price_line, level_line, mean_line}
+use Rattle.book.specs.Types.{Mean}
+use Rattle.play.specs.Lines.{word_line, none, level, mean, units_text, price_text, priced, spaced}
+use Rattle.play.specs.Lines.{pair_line, price_line, level_line, mean_line}
+use Rattle.std.specs.Prelude.{Some, None}
+use Rattle.book.specs.Types.{MaybeLevel, some_level}
 
 -- ─── A price ───
 
@@ -86,24 +81,16 @@ module _ {l o₁ o₂ : List ℕ} {e₁ e₂ : ℕ} where
   mean-text x y a b e = rw (← e) (wrote-both (omega arith) a b)
 
 module _ {l o : List ℕ} {to : ℕ} where
-  module _ (w : List ℕ) (a : Outcome) where
-    pub outcome-done : a ≡ IsDone → WroteText l 0 (word_line w) o to → WroteText l 0 (outcome_line w a) o to
-    outcome-done e q = rw e q
-
-    pub outcome-not : (r : Refusal) → a ≡ NotDone r → WroteText l 0 (refused_line r) o to
-        → WroteText l 0 (outcome_line w a) o to
-    outcome-not r e q = rw e q
-
-  pub level-none : (a : Listed) → a ≡ NoLevel → WroteText l 0 (word_line none) o to → WroteText l 0 (level_line a) o to
+  pub level-none : (a : MaybeLevel) → a ≡ None → WroteText l 0 (word_line none) o to → WroteText l 0 (level_line a) o to
   level-none a e q = rw e q
 
-  pub level-at : (a : Listed) (p y : ℤ) (n : ℕ) → a ≡ At p n → WroteText l 0 (pair_line y n) o to → y ≡ p
+  pub level-at : (a : MaybeLevel) (p y : ℤ) (n : ℕ) → a ≡ some_level p n → WroteText l 0 (pair_line y n) o to → y ≡ p
       → WroteText l 0 (level_line a) o to
   level-at a p y n e q f = rw (e, ← f) q
 
-  pub mean-none : (a : Mean) → a ≡ NoMean → WroteText l 0 (word_line none) o to → WroteText l 0 (mean_line a) o to
+  pub mean-none : (a : Mean) → a ≡ None → WroteText l 0 (word_line none) o to → WroteText l 0 (mean_line a) o to
   mean-none a e q = rw e q
 
-  pub mean-price : (a : Mean) (p y : ℤ) → a ≡ Price p → WroteText l 0 (price_line y) o to → y ≡ p
+  pub mean-price : (a : Mean) (p y : ℤ) → a ≡ Some p → WroteText l 0 (price_line y) o to → y ≡ p
       → WroteText l 0 (mean_line a) o to
   mean-price a p y e q f = rw (e, ← f) q

@@ -3,13 +3,13 @@ use Prim.Native.Nat.{ℕ}
 use mathlib.Core.Path.{◌≡◌}
 use mathlib.Core.List.{List}
 use Rattle.book.specs.declared.calls.Step.{Step}
-use Rattle.book.specs.declared.levels.Listed.{Listed}
-use Rattle.book.specs.declared.sums.Mean.{Mean}
+use Rattle.book.specs.Types.{Mean}
 use Rattle.listing.specs.Text.{WroteText}
 use Rattle.play.specs.declared.player.Player.{Player}
 use Rattle.play.specs.declared.player.Played.{Played}
 use Rattle.play.specs.Lines.{outcome_line, level_line, mean_line}
 use Rattle.play.specs.Played.{with_book, ShowsStart, ShowsTake}
+use Rattle.book.specs.Types.{MaybeLevel}
 
 pub book-is : (p pl : Player) (s m : Step) → pl ≡ with_book p s.book → s ≡ m → pl ≡ with_book p m.book
 book-is p pl s m q f = rw (← f) q
@@ -19,7 +19,7 @@ module _ {l t : List ℕ} {to : ℕ} where
       → WroteText l 0 (outcome_line w m.answer) t to
   outcome-is w s m e q = rw (← e) q
 
-  pub level-is : (a m : Listed) → a ≡ m → WroteText l 0 (level_line a) t to → WroteText l 0 (level_line m) t to
+  pub level-is : (a m : MaybeLevel) → a ≡ m → WroteText l 0 (level_line a) t to → WroteText l 0 (level_line m) t to
   level-is a m e q = rw (← e) q
 
   pub mean-is : (a m : Mean) → a ≡ m → WroteText l 0 (mean_line a) t to → WroteText l 0 (mean_line m) t to

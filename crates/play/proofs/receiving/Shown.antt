@@ -4,8 +4,8 @@ use mathlib.Core.Path.{◌≡◌, ap}
 use mathlib.Core.List.{List, ◌++◌}
 use lib.ListN.{replicate, take, drop}
 use Rattle.flow.specs.declared.receiver.Receiver.{Receiver}
-use Rattle.flow.specs.declared.receiver.Requested.{Requested}
-use Rattle.flow.specs.declared.receiver.Confirmed.{Confirmed}
+use Rattle.flow.specs.Types.{Requested}
+use Rattle.flow.specs.Types.{Confirmed}
 use Rattle.flow.specs.declared.receiver.Received.{Received}
 use Rattle.flow.specs.Receiving.{request_login_of}
 use Rattle.listing.specs.Text.{WroteText}

@@ -5,11 +5,9 @@ use mathlib.Core.List.{List, ◌++◌}
 use mathlib.Core.Bool.{Bool, true, false}
 use lib.ListN.{replicate, take, drop}
 use Rattle.flow.specs.declared.sender.Sender.{Sender}
-use Rattle.flow.specs.declared.sender.Opened.{Opened}
-use Rattle.flow.specs.declared.sender.Published.{Published}
-use Rattle.flow.specs.declared.sender.LoggedIn.{LoggedIn}
-use Rattle.flow.specs.declared.sender.Sent.{Sent}
-use Rattle.flow.specs.declared.sender.SentPacket.{SentPacket}
+use Rattle.flow.specs.Types.{Opened}
+use Rattle.flow.specs.Types.{Published}
+use Rattle.flow.specs.Types.{LoggedIn}
 use Rattle.flow.specs.Serving.{login_of, send_of, send_packet_of}
 use Rattle.listing.specs.Text.{WroteText}
 use Rattle.play.specs.declared.player.Player.{Player}
@@ -18,6 +16,7 @@ use Rattle.play.specs.Words.{series_from, reserves_from}
 use Rattle.play.specs.Lines.{opened_line, published_line, login_answer_line, sent_line, sent_packet_line}
 use Rattle.play.specs.Played.{with_sender, ShowsOpenDay, ShowsPublish, ShowsLogin, ShowsSend, PlaysPublish}
 use Rattle.play.specs.Played.{PlaysLogin, ShowsSendPacket, PlaysSend, PlaysOpenDay}
+use Rattle.flow.specs.Types.{SendAnswer, PacketSent}
 
 pub sender-is : (p pl : Player) (e m : Sender) → pl ≡ with_sender p e → e ≡ m → pl ≡ with_sender p m
 sender-is p pl e m q f = rw (← f) q
@@ -52,7 +51,7 @@ module _ (n : ℕ) (o : List ℕ) (z : o ≡ replicate n 0) where
         → pl ≡ with_sender p (send_of x s log (replicate n 0)).end
     send-sender p pl e q f = rw (← z, ← f) q
 
-    pub send-shown : {l t : List ℕ} {to : ℕ} (a : Sent) (b : List ℕ) → a ≡ (send_of x s log o).answer
+    pub send-shown : {l t : List ℕ} {to : ℕ} (a : SendAnswer) (b : List ℕ) → a ≡ (send_of x s log o).answer
         → b ≡ (send_of x s log o).bytes → WroteText l 0 (sent_line b a) t to
         → WroteText l 0 (sent_line (send_of x s log (replicate n 0)).bytes (send_of x s log (replicate n 0)).answer) t to
     send-shown a b f g q = rw (← z, ← f, ← g) q
@@ -64,7 +63,7 @@ module _ (n : ℕ) (o : List ℕ) (z : o ≡ replicate n 0) where
         → pl ≡ with_sender p (send_packet_of x s log (replicate n 0)).end
     packet-sender p pl e q f = rw (← z, ← f) q
 
-    pub packet-shown : {l t : List ℕ} {to : ℕ} (a : SentPacket) (b : List ℕ) → a ≡ (send_packet_of x s log o).answer
+    pub packet-shown : {l t : List ℕ} {to : ℕ} (a : PacketSent) (b : List ℕ) → a ≡ (send_packet_of x s log o).answer
         → b ≡ (send_packet_of x s log o).bytes → WroteText l 0 (sent_packet_line b a) t to
         → WroteText l 0 (sent_packet_line (send_packet_of x s log (replicate n 0)).bytes
         (send_packet_of x s log (replicate n 0)).answer) t to

@@ -16,12 +16,9 @@ use Rattle.flow.specs.declared.receiver.Received.TheVariants.{Idle, Duplicate, P
 use Rattle.flow.specs.declared.receiver.Received.TheVariants.{Refused as NotTaken}
 use Rattle.flow.specs.declared.sender.Sender.{Sender}
 use Rattle.flow.specs.declared.sender.PublishStep.{PublishStep}
-use Rattle.flow.specs.declared.sender.Published.TheVariants.{Number}
-use Rattle.flow.specs.declared.sender.Published.TheVariants.{Refused as NotPublished}
 use Rattle.flow.specs.declared.several.ReceivedSeveral.{ReceivedSeveral}
 use Rattle.flow.specs.declared.several.PublishedSeveral.TheVariants.{Refused as PublishedRefused}
-use Rattle.flow.specs.declared.several.ReceiveTurn.{ReceiveTurn}
-use Rattle.flow.specs.declared.several.ReceiveTurn.TheVariants.{On, Stop}
+use Rattle.flow.specs.Types.{ReceiveTurn}
 use Rattle.flow.specs.Ends.{wrote}
 use Rattle.flow.specs.Promises.{Receives}
 use Rattle.flow.specs.Receiving.{receive_of}
@@ -34,6 +31,8 @@ use Rattle.listing.specs.Text.{WroteText}
 use Rattle.play.specs.Lines.{received_line, published_line, Passing}
 use Rattle.play.specs.Several.{lines_over, record_line}
 use Rattle.play.proofs.several.Lines.{Completes, lines-stop, lines-on}
+use Rattle.std.specs.Prelude.{Ok, Err}
+use Rattle.std.specs.Prelude.{Some, None}
 
 -- ─── Room ───
 
@@ -56,7 +55,7 @@ module _ (s : List ℕ) (at n : ℕ) (z : n ≡ 0 → ⊥) (to end : ℕ) (h : t
   record-room m = let g : 10 ≤ n = entry-head record_form some-record s at n m z in omega arith
 
 pub on_room : (s : List ℕ) (at n : ℕ) → n ≡ front packet_form (drop at s) → (n ≡ 0 → ⊥) → (a : Received) (t : ReceiveTurn)
-    → turn_stop t ≡ received_stops at a → t ≡ On → (to to' : ℕ) → to ≤ 7 * at → Passing a to to' → to' ≤ 7 * (at + n)
+    → turn_stop t ≡ received_stops at a → t ≡ None → (to to' : ℕ) → to ≤ 7 * at → Passing a to to' → to' ≤ 7 * (at + n)
 on_room s at n m z a t k q to to' h p =
     packet-room s at n z to to' h (passing at a (sym k ∙ ap turn_stop q) to to' p) m
 
@@ -78,12 +77,12 @@ module _ (text₀ all s : List ℕ) (at n : ℕ) (m : n ≡ front packet_form (d
   whole : wrote r.end r.answer after ≡ receive_of e (take (at + n - at) (drop at s)) l
   whole = rw (c.0, c.2, c.3)
 
-  pub stop-lines : (a : ReceivedSeveral) → t ≡ Stop a → WroteText text₀ 0 all text' to'
+  pub stop-lines : (a : ReceivedSeveral) → t ≡ Some a → WroteText text₀ 0 all text' to'
   stop-lines a q =
       lines-stop receiving received_line some-packet s at n m e l text₀ text to all inv z
       (wrote r.end r.answer after) whole text' to' w a (sym k ∙ ap turn_stop q)
 
-  pub on-lines : t ≡ On → to ≤ length text
+  pub on-lines : t ≡ None → to ≤ length text
       → Completes text₀ text' to' (lines_over receiving received_line r.end after (at + n)
       (run_of packet_form (drop (at + n) s))) all
   on-lines q h =
@@ -101,12 +100,12 @@ module _ (text₀ all s : List ℕ) (at n : ℕ) (m : n ≡ front record_form (d
   unfolding publish_record
   published = rw (c.0, c.1.1, c.2)
 
-  pub refused-lines : (x : Refusal) → r.answer ≡ NotPublished x → WroteText text₀ 0 all text' to'
+  pub refused-lines : (x : Refusal) → r.answer ≡ Err x → WroteText text₀ 0 all text' to'
   refused-lines x q =
       lines-stop publishing record_line some-record s at n m e l text₀ text to all inv z
       (wrote r.end r.answer after) published text' to' w (PublishedRefused x) (rw q)
 
-  pub number-lines : (k : ℕ) → r.answer ≡ Number k → to ≤ length text
+  pub number-lines : (k : ℕ) → r.answer ≡ Ok k → to ≤ length text
       → Completes text₀ text' to' (lines_over publishing record_line r.end after (at + n)
       (run_of record_form (drop (at + n) s))) all
   number-lines k q h =

@@ -1,12 +1,11 @@
 -- The letters of a name's number, one behind the other, and how many names are in use, over plain variables. Assumes
 -- nothing.
-use Prim.Native.Nat.{ℕ, suc, ◌+◌, ◌-◌, ◌/◌, ◌%◌, ◌<◌, ◌≤◌}
+use Prim.Native.Nat.{ℕ, suc, ◌+◌, ◌-◌, ◌/◌, ◌%◌, ◌<◌, ◌≤◌, min}
 use mathlib.Core.Path.{◌≡◌, sym, ◌∙◌}
 use mathlib.Core.List.{List, [], ◌∷◌}
 use native.Mathlib.Omega.{arith}
 use borrow.Author.Tests.{eq-eqb, ne_eqb}
-use lib.ListN.{length, length-map, take}
-use lib.Seq.{length-take-le, take_all}
+use lib.ListN.{length, length-map, length-take, take}
 use Rattle.flow.specs.declared.checkpoint.Checkpoint.{Checkpoint}
 use Rattle.flow.specs.declared.checkpoint.Checkpoints.{Checkpoints}
 use Rattle.flow.specs.Checkpoints.{used_names}
@@ -63,8 +62,5 @@ module _ (c : Checkpoints) (h : length c.places ≡ 4) where
   unfolding used_names
   used = length-map (take c.count c.places) (λ (x : Checkpoint). x.name)
 
-  pub used-few : c.count < 4 → c.count ≡ length (used_names c)
-  used-few g = sym (used ∙ length-take-le c.count c.places (omega arith))
-
-  pub used_all : 4 ≤ c.count → 4 ≡ length (used_names c)
-  used_all g = sym (used ∙ rw (take_all c.count c.places (omega arith)) h)
+  pub used-least : min c.count 4 ≡ length (used_names c)
+  used-least = rw (used, length-take, h)

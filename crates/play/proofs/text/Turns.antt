@@ -6,7 +6,6 @@ use mathlib.Core.List.{List, [], ◌∷◌, ◌++◌, append-nil, append_assoc}
 use mathlib.Core.Bool.{Bool, true, false}
 use native.Mathlib.Numerals.{add-one}
 use native.Mathlib.Omega.{arith}
-use borrow.Author.Tests.{eq-eqb, ne_eqb}
 use native.Mathlib.Nat.{add-sub_cancel_left}
 use lib.ListN.{length, get_or, take, drop, drop_of_length-le, length-append, length-drop, length-take}
 use lib.Seq.{take-suc, take_all, length-take-le}
@@ -15,46 +14,26 @@ use Rattle.listing.proofs.Numbers.{digits-most}
 use Rattle.listing.proofs.Texts.{wrote-both}
 use Rattle.ftd.specs.Refusal.{number_of}
 use Rattle.ftd.specs.declared.refusal.Refusal.{Refusal}
-use Rattle.flow.specs.declared.sender.Opened.{Opened}
-use Rattle.flow.specs.declared.sender.Opened.TheVariants.{Done}
-use Rattle.flow.specs.declared.sender.Opened.TheVariants.{Refused as NotOpened}
-use Rattle.flow.specs.declared.sender.Published.{Published}
-use Rattle.flow.specs.declared.sender.Published.TheVariants.{Number}
-use Rattle.flow.specs.declared.sender.Published.TheVariants.{Refused as NotPublished}
-use Rattle.flow.specs.declared.sender.LoggedIn.{LoggedIn}
-use Rattle.flow.specs.declared.sender.LoggedIn.TheVariants.{Wrote as Answered}
-use Rattle.flow.specs.declared.sender.LoggedIn.TheVariants.{Refused as NotIn}
-use Rattle.flow.specs.declared.sender.Sent.{Sent}
-use Rattle.flow.specs.declared.sender.Sent.TheVariants.{Drained}
-use Rattle.flow.specs.declared.sender.Sent.TheVariants.{Wrote as MessageSent}
-use Rattle.flow.specs.declared.sender.Sent.TheVariants.{Refused as NotSent}
-use Rattle.flow.specs.declared.sender.SentPacket.{SentPacket}
-use Rattle.flow.specs.declared.sender.SentPacket.TheVariants.{Drained as NoPacket}
-use Rattle.flow.specs.declared.sender.SentPacket.TheVariants.{Wrote as PacketSent}
-use Rattle.flow.specs.declared.sender.SentPacket.TheVariants.{Refused as NotPacket}
-use Rattle.flow.specs.declared.receiver.Requested.{Requested}
-use Rattle.flow.specs.declared.receiver.Requested.TheVariants.{Wrote as Asked}
-use Rattle.flow.specs.declared.receiver.Requested.TheVariants.{Refused as NotAsked}
-use Rattle.flow.specs.declared.receiver.Confirmed.{Confirmed}
-use Rattle.flow.specs.declared.receiver.Confirmed.TheVariants.{Last}
-use Rattle.flow.specs.declared.receiver.Confirmed.TheVariants.{Refused as NotConfirmed}
+use Rattle.book.specs.Types.{Outcome}
+use Rattle.flow.specs.Types.{Published}
+use Rattle.flow.specs.Types.{LoggedIn}
+use Rattle.flow.specs.Types.{Requested}
+use Rattle.flow.specs.Types.{Confirmed}
 use Rattle.flow.specs.declared.receiver.Origin.{Origin}
 use Rattle.flow.specs.declared.receiver.Origin.TheVariants.{Packet, Buffer}
 use Rattle.flow.specs.declared.receiver.Received.{Received}
 use Rattle.flow.specs.declared.receiver.Received.TheVariants.{Idle, Duplicate, Partial, Complete}
 use Rattle.flow.specs.declared.receiver.Received.TheVariants.{Refused as NotTaken}
-use Rattle.calendar.specs.declared.trading.SetAnswer.{SetAnswer}
-use Rattle.calendar.specs.declared.trading.SetAnswer.TheVariants.{Done as IsSet}
-use Rattle.calendar.specs.declared.trading.SetAnswer.TheVariants.{Refused as NotSet}
-use Rattle.calendar.specs.declared.trading.TradeTime.{TradeTime}
-use Rattle.calendar.specs.declared.trading.TradeTime.TheVariants.{Outside, Inside}
+use Rattle.calendar.specs.Types.{TradeTime}
 use Rattle.ftd.specs.Bytes.{part}
 use Rattle.ftd.specs.declared.packet.Span.{Span}
 use Rattle.flow.specs.Answers.{content_in}
-use Rattle.play.specs.Lines.{hex_bytes, content_text, gap, word_line, numbered, bytes_line, refused_line, opened_line}
-use Rattle.play.specs.Lines.{published_line, login_answer_line, sent_line, packet_line, sent_packet_line, opened, published, login}
+use Rattle.play.specs.Lines.{hex_bytes, gap, word_line, numbered, bytes_line, refused_line, outcome_line}
+use Rattle.play.specs.Lines.{published_line, login_answer_line, sent_line, packet_line, sent_packet_line, published, login}
 use Rattle.play.specs.Lines.{sent, packet, last_gap, more_gap, none, requested_line, confirmed_line, message_line, received_line, asked}
-use Rattle.play.specs.Lines.{answered, idle, again, Passing, held, set, inside, outside, date, set_line, time_line, date_line}
+use Rattle.play.specs.Lines.{answered, idle, again, Passing, held, inside, outside, date, time_line, date_line}
+use Rattle.std.specs.Prelude.{Some, None, Ok, Err}
+use Rattle.flow.specs.Types.{SendAnswer, message_sent, PacketSent, packet_sent}
 
 pub hex-append : (l m : List ℕ) → hex_bytes (l ++ m) ≡ hex_bytes l ++ hex_bytes m
 unfolding hex_bytes
@@ -75,16 +54,6 @@ pairs-turn b i x fits h inv q more =
 pub pairs-over : {l o : List ℕ} {at to : ℕ} (b : List ℕ) (i : ℕ) → length b ≤ i
     → WroteText l at (hex_bytes (take i b)) o to → WroteText l at (hex_bytes b) o to
 pairs-over b i h inv = rw (take_all i b h) at inv
-
-pub content-none : {l o : List ℕ} {at to : ℕ} (b : List ℕ) → length b ≡ 0 → WroteText l at (45 ∷ []) o to
-    → WroteText l at (content_text b) o to
-unfolding content_text
-content-none b h q = rw (eq-eqb (length b) 0 h) q
-
-pub content-some : {l o : List ℕ} {at to : ℕ} (b : List ℕ) → (length b ≡ 0 → ⊥) → WroteText l at (hex_bytes b) o to
-    → WroteText l at (content_text b) o to
-unfolding content_text
-content-some b h q = rw (ne_eqb (length b) 0 h) q
 
 -- ─── Parts ───
 
@@ -161,39 +130,40 @@ module _ {l o : List ℕ} {to : ℕ} where
   unfolding refused_line
   refused-is x n r e f q = rw (← f, ← e) q
 
-  pub opened-done : (a : Opened) → a ≡ Done → WroteText l 0 (word_line opened) o to → WroteText l 0 (opened_line a) o to
-  opened-done a e q = rw e q
+  module _ (w : List ℕ) (a : Outcome) where
+    pub outcome-done : a ≡ (Ok tt) → WroteText l 0 (word_line w) o to → WroteText l 0 (outcome_line w a) o to
+    outcome-done e q = rw e q
 
-  pub opened-not : (a : Opened) (r : Refusal) → a ≡ NotOpened r → WroteText l 0 (refused_line r) o to
-      → WroteText l 0 (opened_line a) o to
-  opened-not a r e q = rw e q
+    pub outcome-not : (r : Refusal) → a ≡ Err r → WroteText l 0 (refused_line r) o to
+        → WroteText l 0 (outcome_line w a) o to
+    outcome-not r e q = rw e q
 
-  pub published-as : (a : Published) (k x : ℕ) → a ≡ Number k → x ≡ k
+  pub published-as : (a : Published) (k x : ℕ) → a ≡ Ok k → x ≡ k
       → WroteText l 0 (word_line (numbered published x)) o to
       → WroteText l 0 (published_line a) o to
   published-as a k x e f q = rw (e, ← f) q
 
-  pub published-not : (a : Published) (r : Refusal) → a ≡ NotPublished r → WroteText l 0 (refused_line r) o to
+  pub published-not : (a : Published) (r : Refusal) → a ≡ Err r → WroteText l 0 (refused_line r) o to
       → WroteText l 0 (published_line a) o to
   published-not a r e q = rw e q
 
-  pub login-as : (a : LoggedIn) (b : List ℕ) (n : ℕ) → a ≡ Answered n → WroteText l 0 (bytes_line login gap (take n b)) o to
+  pub login-as : (a : LoggedIn) (b : List ℕ) (n : ℕ) → a ≡ Ok n → WroteText l 0 (bytes_line login gap (take n b)) o to
       → WroteText l 0 (login_answer_line b a) o to
   login-as a b n e q = rw e q
 
-  pub login-not : (a : LoggedIn) (b : List ℕ) (r : Refusal) → a ≡ NotIn r → WroteText l 0 (refused_line r) o to
+  pub login-not : (a : LoggedIn) (b : List ℕ) (r : Refusal) → a ≡ Err r → WroteText l 0 (refused_line r) o to
       → WroteText l 0 (login_answer_line b a) o to
   login-not a b r e q = rw e q
 
-  pub sent-none : (a : Sent) (b : List ℕ) → a ≡ Drained → WroteText l 0 (word_line none) o to
+  pub sent-none : (a : SendAnswer) (b : List ℕ) → a ≡ (Ok None) → WroteText l 0 (word_line none) o to
       → WroteText l 0 (sent_line b a) o to
   sent-none a b e q = rw e q
 
-  pub sent-as : (a : Sent) (b : List ℕ) (k n : ℕ) → a ≡ MessageSent k n → WroteText l 0 (bytes_line sent gap (take n b)) o to
+  pub sent-as : (a : SendAnswer) (b : List ℕ) (k n : ℕ) → a ≡ message_sent k n → WroteText l 0 (bytes_line sent gap (take n b)) o to
       → WroteText l 0 (sent_line b a) o to
   sent-as a b k n e q = rw e q
 
-  pub sent-not : (a : Sent) (b : List ℕ) (r : Refusal) → a ≡ NotSent r → WroteText l 0 (refused_line r) o to
+  pub sent-not : (a : SendAnswer) (b : List ℕ) (r : Refusal) → a ≡ Err r → WroteText l 0 (refused_line r) o to
       → WroteText l 0 (sent_line b a) o to
   sent-not a b r e q = rw e q
 
@@ -207,32 +177,32 @@ module _ {l o : List ℕ} {to : ℕ} where
   unfolding packet_line
   packet-more b x e q = rw e q
 
-  module _ (a : SentPacket) (b : List ℕ) where
-    pub one_none : a ≡ NoPacket → WroteText l 0 (word_line none) o to → WroteText l 0 (sent_packet_line b a) o to
+  module _ (a : PacketSent) (b : List ℕ) where
+    pub one_none : a ≡ (Ok None) → WroteText l 0 (word_line none) o to → WroteText l 0 (sent_packet_line b a) o to
     one_none e q = rw e q
 
-    pub one-as : (k n : ℕ) (is_last : Bool) → a ≡ PacketSent k n is_last
+    pub one-as : (k n : ℕ) (is_last : Bool) → a ≡ packet_sent k n is_last
         → WroteText l 0 (packet_line is_last (take n b)) o to → WroteText l 0 (sent_packet_line b a) o to
     one-as k n is_last e q = rw e q
 
-    pub one-not : (r : Refusal) → a ≡ NotPacket r → WroteText l 0 (refused_line r) o to
+    pub one-not : (r : Refusal) → a ≡ Err r → WroteText l 0 (refused_line r) o to
         → WroteText l 0 (sent_packet_line b a) o to
     one-not r e q = rw e q
 
-  pub requested-as : (a : Requested) (b : List ℕ) (n : ℕ) → a ≡ Asked n → WroteText l 0 (bytes_line asked gap (take n b)) o to
+  pub requested-as : (a : Requested) (b : List ℕ) (n : ℕ) → a ≡ Ok n → WroteText l 0 (bytes_line asked gap (take n b)) o to
       → WroteText l 0 (requested_line b a) o to
   requested-as a b n e q = rw e q
 
-  pub requested-not : (a : Requested) (b : List ℕ) (r : Refusal) → a ≡ NotAsked r → WroteText l 0 (refused_line r) o to
+  pub requested-not : (a : Requested) (b : List ℕ) (r : Refusal) → a ≡ Err r → WroteText l 0 (refused_line r) o to
       → WroteText l 0 (requested_line b a) o to
   requested-not a b r e q = rw e q
 
-  pub confirmed-as : (a : Confirmed) (k x : ℕ) → a ≡ Last k → x ≡ k
+  pub confirmed-as : (a : Confirmed) (k x : ℕ) → a ≡ Ok k → x ≡ k
       → WroteText l 0 (word_line (numbered answered x)) o to
       → WroteText l 0 (confirmed_line a) o to
   confirmed-as a k x e f q = rw (e, ← f) q
 
-  pub confirmed-not : (a : Confirmed) (r : Refusal) → a ≡ NotConfirmed r → WroteText l 0 (refused_line r) o to
+  pub confirmed-not : (a : Confirmed) (r : Refusal) → a ≡ Err r → WroteText l 0 (refused_line r) o to
       → WroteText l 0 (confirmed_line a) o to
   confirmed-not a r e q = rw e q
 
@@ -267,18 +237,11 @@ module _ {l o : List ℕ} {to : ℕ} where
         → WroteText l 0 (received_line p b a) o to
     received-not r e q = rw e q
 
-  pub set-done : (a : SetAnswer) → a ≡ IsSet → WroteText l 0 (word_line set) o to → WroteText l 0 (set_line a) o to
-  set-done a e q = rw e q
-
-  pub set-not : (a : SetAnswer) (r : Refusal) → a ≡ NotSet r → WroteText l 0 (refused_line r) o to
-      → WroteText l 0 (set_line a) o to
-  set-not a r e q = rw e q
-
-  pub time-outside : (a : TradeTime) → a ≡ Outside → WroteText l 0 (word_line outside) o to
+  pub time-outside : (a : TradeTime) → a ≡ None → WroteText l 0 (word_line outside) o to
       → WroteText l 0 (time_line a) o to
   time-outside a e q = rw e q
 
-  pub time-inside : (a : TradeTime) (d x : ℕ) → a ≡ Inside d → x ≡ d → WroteText l 0 (word_line (numbered inside x)) o to
+  pub time-inside : (a : TradeTime) (d x : ℕ) → a ≡ Some d → x ≡ d → WroteText l 0 (word_line (numbered inside x)) o to
       → WroteText l 0 (time_line a) o to
   time-inside a d x e f q = rw (e, ← f) q
 

@@ -3,7 +3,7 @@ use Prim.Native.Nat.{ℕ}
 use mathlib.Core.Path.{◌≡◌}
 use mathlib.Core.List.{List}
 use Rattle.calendar.specs.declared.trading.SetStep.{SetStep}
-use Rattle.calendar.specs.declared.trading.TradeTime.{TradeTime}
+use Rattle.calendar.specs.Types.{TradeTime}
 use Rattle.listing.specs.Text.{WroteText}
 use Rattle.play.specs.declared.player.Player.{Player}
 use Rattle.play.specs.declared.player.Played.{Played}

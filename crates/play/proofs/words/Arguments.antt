@@ -1,21 +1,19 @@
 -- The words behind the first one, over plain variables. Assumes nothing.
 use Prim.Native.Nat.{ℕ, zero, suc, ◌+◌, ◌-◌, ◌<◌, ◌≤◌}
 use mathlib.Core.Path.{◌≡◌, refl, sym, ◌∙◌}
-use mathlib.Core.List.{List, [], ◌∷◌, ◌++◌}
-use mathlib.Core.Bool.{Bool, true, false, cond}
+use mathlib.Core.List.{List, [], ◌∷◌, ◌++◌, append-nil}
+use mathlib.Core.Bool.{Bool, true, false, not, cond}
 use native.Mathlib.Nat.{add-sub_cancel_left}
 use native.Mathlib.Numerals.{add-one}
 use native.Mathlib.Omega.{arith}
-use borrow.Author.Tests.{lt-ltb, le-ltb}
+use borrow.Author.Tests.{lt-ltb, le-ltb, ne_eqb}
 use lib.ListN.{length, take, drop, get_or, set, drop_of_length-le, length-append, length-take, length-drop}
-use lib.Seq.{drop-cons, set_at, append_snoc, take_at}
+use lib.Seq.{drop-cons, set_at, append_snoc, take_at, length-take-le}
 use lib.Dec.{eqb, ltb}
 use Rattle.play.specs.Words.{up_to_space, end_of, number_in, says_bytes, next_end, end_at, argument, has_arguments}
 use Rattle.play.specs.Words.{all_bytes, numbers_behind, number_count, number_up_to, list_from}
-use Rattle.play.specs.Words.{series_in, reserve_in, says_share, series_at, shares_behind, share_count, reserve_at}
+use Rattle.play.specs.Words.{series_in, says_share, series_at, shares_behind, share_count}
 use Rattle.play.specs.Words.{same_word, has_name, name_in}
-use Rattle.play.specs.declared.words.Wide.{Wide}
-use Rattle.play.specs.declared.words.Wide.TheVariants.{Missing, Number}
 
 -- ─── Where words end ───
 
@@ -56,9 +54,13 @@ module _ (line : List ℕ) (i a : ℕ) (p : a ≡ end_at line i) where
 -- ─── Names ───
 
 module _ (line : List ℕ) (b : Bool) (q : b ≡ has_arguments line 1) where
-  pub name-there : (w : List ℕ) → b ≡ true → w ≡ argument line 0 → ltb 0 (length w) ≡ has_name line
+  pub name-there : (w : List ℕ) → b ≡ true → w ≡ argument line 0 → not (eqb (length w) 0) ≡ has_name line
   unfolding has_name
-  name-there w e f = rw (← q, e, f)
+  name-there w e f = rw (← q, e, ← f) (go w)
+    where
+      go : (w : List ℕ) → not (eqb (length w) 0) ≡ ltb 0 (length w)
+      go [] = refl
+      go (x ∷ w) = rw (ne_eqb (length (x ∷ w)) 0 (λ e. omega (arith, e)), lt-ltb 0 (length (x ∷ w)) (omega arith)) refl
 
   pub no_name : b ≡ false → false ≡ has_name line
   unfolding has_name
@@ -184,15 +186,6 @@ module _ (line : List ℕ) (i : ℕ) (w : List ℕ) (q : w ≡ argument line i) 
     unfolding series_at
     some-series g = rw (← q, ← e, le-ltb 65535 x g)
 
-  module _ (x : Wide) (e : x ≡ reserve_in w) where
-    pub no-reserve : x ≡ Missing → 0 ≡ reserve_at line i
-    unfolding reserve_at
-    no-reserve g = rw (← q, ← e, g)
-
-    pub some-reserve : (n : ℕ) → x ≡ Number n → n ≡ reserve_at line i
-    unfolding reserve_at
-    some-reserve n g = rw (← q, ← e, g)
-
 -- ─── Lists of values ───
 
 length-list : (value : ℕ → ℕ) (i n : ℕ) → length (list_from value i n) ≡ n
@@ -215,9 +208,14 @@ module _ (value : ℕ → ℕ) (l : List ℕ) (i : ℕ) where
         (set_at some (get_or l k 0) (drop (suc k) l) v k (length-list value i k)
         ∙ sym (append_snoc some v (drop (suc k) l)))
 
-    pub list_over : (n : ℕ) → k ≤ n → n ≤ k → out ≡ list_from value i n ++ drop n l
-    list_over n h g = let e : n ≡ k = omega arith in rw e inv
-
     -- The list's front part is the values.
     pub list-front : take k out ≡ list_from value i k
     list-front = rw inv (take_at (list_from value i k) (drop k l) k (length-list value i k))
+
+  -- All values are in the front part.
+  pub list-whole : (out : List ℕ) (k n : ℕ) → out ≡ list_from value i k ++ drop k (take n l) → n ≤ length l
+      → length (take n l) ≤ k → k ≤ length (take n l) → out ++ drop n l ≡ list_from value i n ++ drop n l
+  list-whole out k n inv h g f =
+      let w : length (take n l) ≡ n = length-take-le n l h in
+      let e : k ≡ n = omega arith in
+      rw (inv, e, drop_of_length-le (take n l) {i = n} (omega arith), append-nil (list_from value i n)) refl

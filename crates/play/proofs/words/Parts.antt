@@ -4,7 +4,7 @@ use mathlib.Core.Path.{◌≡◌, sym, ◌∙◌}
 use mathlib.Core.List.{List, ◌++◌, append_assoc}
 use native.Mathlib.Nat.{add-sub_cancel_left}
 use native.Mathlib.Omega.{arith}
-use lib.ListN.{length, take, drop, length-take}
+use lib.ListN.{length, take, drop}
 use lib.Seq.{length-take-le, take_at, drop_at}
 use Rattle.ftd.specs.Bytes.{put}
 use Rattle.ftd.proofs.bytes.Put.{length-put, put-zero, put-put}
@@ -25,10 +25,6 @@ taken_back l n h = length-take-le n l h
 -- Twice as many digits as bytes, of a front part or of one that an argument says.
 pub digits-fit : (l : List ℕ) (n m : ℕ) → n ≤ length l → 64 + 2 * n ≤ m → 64 + 2 * length (take n l) ≤ m
 digits-fit l n m h g = rw (taken_back l n h) g
-
--- A front part of a line is no longer than a buffer that holds the line.
-pub said_fits : (line : List ℕ) (n m : ℕ) → length line ≤ m → length (take n line) ≤ m
-said_fits line n m h = rw length-take (omega arith)
 
 -- ─── The bytes that an argument says, put into a buffer that holds the line ───
 

@@ -1,38 +1,68 @@
 -- The turns of the loops over a word's bytes, over plain variables. Assumes nothing.
 use Prim.Native.Nat.{ℕ, zero, suc, ◌+◌, ◌-◌, ◌*◌, ◌/◌, ◌%◌, ◌<◌, ◌≤◌}
-use mathlib.Core.Path.{◌≡◌, refl, sym, ap, ◌∙◌}
+use mathlib.Core.Path.{◌≡◌, refl, ap, ◌∙◌}
 use mathlib.Core.List.{List, [], ◌∷◌}
-use mathlib.Core.Bool.{Bool, true, false, cond}
-use native.Mathlib.Nat.{add-zero, mul-le-mul_left}
+use mathlib.Core.Bool.{Bool, true, false, cond, not, ◌&&◌}
 use native.Mathlib.Numerals.{add-one}
 use native.Mathlib.Omega.{arith}
-use borrow.Author.Tests.{ltb-true, ltb-false, lt-ltb, le-ltb, le-leb, lt-leb, eq-eqb, ne_eqb}
+use borrow.Author.Tests.{ltb-false, lt-ltb, le-ltb, le-leb, lt-leb, eq-eqb, ne_eqb}
 use lib.ListN.{length, get_or, set, take, drop, drop_of_length-le, length-drop}
 use lib.Seq.{drop-cons, take_all, paste, paste-zero, paste-suc}
 use lib.Dec.{eqb, leb, ltb}
+use Rattle.std.specs.List.{position_or_len, position}
+use Rattle.std.specs.Option.{unwrap_or}
+use Rattle.std.specs.Cmp.Lexicographic.{pointwise}
+use Rattle.std.specs.declared.option.Option.{Option}
+use Rattle.std.specs.declared.option.Option.TheVariants.{None, Some}
+use Rattle.std.proofs.lemmas.List.Sums.{prefix_len-le-length}
+use Rattle.std.proofs.lemmas.List.Recursion.{is_position_or_len, and_is}
 use Rattle.ftd.specs.Bytes.{put}
 use Rattle.ftd.proofs.bytes.Put.{paste-put}
-use Rattle.play.specs.Words.{up_to_space, digit_value, no_number, digits_from, number_in, tid_in, all_hex, pair_of, said_bytes}
-use Rattle.play.specs.Words.{same_word, wide_from, wide_in, up_to_colon, series_in, reserve_in, says_share, is_number}
-use Rattle.play.specs.declared.words.Wide.{Wide}
-use Rattle.play.specs.declared.words.Wide.TheVariants.{Missing, Number}
+use Rattle.play.specs.Words.{up_to_space, end_of, digit_value, no_number, digits_from, number_in, tid_in, all_hex, pair_of, said_bytes}
+use Rattle.play.specs.Words.{same_word, wide_from, wide_in, up_to_colon, series_in, reserve_in}
+use Rattle.play.specs.Types.{Wide}
 
 -- ─── Where a word ends ───
 
-module _ (l : List ℕ) (i e : ℕ) (inv : i + up_to_space (drop i l) ≡ e) where
-  pub space-here : i < length l → get_or l i 0 ≡ 32 → i ≡ e
-  unfolding up_to_space
-  space-here h s = rw add-zero at (rw (drop-cons l i 0 h, s) at inv)
+one-more : (b : Bool) (n : ℕ) → cond b 0 (suc n) ≡ cond b 0 (1 + n)
+one-more b n = let e : suc n ≡ 1 + n = omega arith in ap (cond b 0) e
 
-  pub no-space : i < length l → (get_or l i 0 ≡ 32 → ⊥) → (i + 1) + up_to_space (drop (i + 1) l) ≡ e
-  unfolding up_to_space
-  no-space h s =
-      let z : i + suc (up_to_space (drop (suc i) l)) ≡ e = rw (drop-cons l i 0 h, ne_eqb (get_or l i 0) 32 s) at inv in
-      rw (add-one i) (omega arith)
+-- How many elements stand before the first that passes.
+first-within : (p : ℕ → Bool) (l : List ℕ) → position_or_len p l ≤ length l
+first-within p l = prefix_len-le-length (λ x. not (p x)) l
 
-  pub line-over : length l ≤ i → i ≡ e
-  unfolding up_to_space
-  line-over h = rw add-zero at (rw (drop_of_length-le l h) at inv)
+first-or-all : (p : ℕ → Bool) (l : List ℕ) (o : Option ℕ) → o ≡ position p l → unwrap_or o (length l) ≡ position_or_len p l
+first-or-all p l o q = rw q (go (ltb (position_or_len p l) (length l)) refl)
+  where
+    go : (b : Bool) → ltb (position_or_len p l) (length l) ≡ b
+        → unwrap_or (cond b (Some (position_or_len p l)) None) (length l) ≡ position_or_len p l
+    go true e = refl
+    go false e =
+        let h = ltb-false (position_or_len p l) (length l) e in
+        let g = first-within p l in
+        omega arith
+
+space-is : (l : List ℕ) → up_to_space l ≡ position_or_len (λ x. eqb x 32) l
+unfolding up_to_space
+space-is = is_position_or_len up_to_space (λ x. eqb x 32) refl (λ x l. one-more (eqb x 32) (up_to_space l))
+
+module _ (line : List ℕ) (at : ℕ) (o : Option ℕ) (h : at ≤ length line)
+    (q : o ≡ position (λ x. eqb x 32) (take (length line - at) (drop at line))) where
+  count : unwrap_or o (length line - at) ≡ up_to_space (drop at line)
+  count =
+      let g : length (drop at line) ≡ length line - at = length-drop at line in
+      let e : take (length line - at) (drop at line) ≡ drop at line = take_all (length line - at) (drop at line) (omega arith) in
+      rw (← g, space-is (drop at line)) (first-or-all (λ x. eqb x 32) (drop at line) o (rw e at q))
+
+  pub end-is : at + unwrap_or o (length line - at) ≡ end_of line at
+  unfolding end_of
+  end-is = rw count
+
+  pub end-within : at + unwrap_or o (length line - at) ≤ length line
+  end-within =
+      let g : up_to_space (drop at line) ≤ length (drop at line) = rw (space-is (drop at line)) (first-within (λ x. eqb x 32) (drop at line)) in
+      let f : length (drop at line) ≡ length line - at = length-drop at line in
+      rw count (omega arith)
 
 -- ─── Numbers ───
 
@@ -52,10 +82,6 @@ module _ (base : ℕ) (l : List ℕ) (i n t : ℕ) (inv : digits_from base n (dr
 
     pub digit-more : d < base → (m : ℕ) → m ≡ n * base + d → m < no_number → digits_from base m (drop (i + 1) l) ≡ t
     digit-more b m e g = rw (add-one i) (rw (← q, lt-leb base d b, ← e, lt-leb no_number m g) at step)
-
--- The bound of a step.
-pub scaled : (n base : ℕ) → n < 4294967296 → base ≤ 16 → n * base ≤ 68719476720
-scaled n base h b = omega (arith, mul-le-mul_left n b)
 
 -- A word with a byte at least.
 pub number-some : (base : ℕ) (l : List ℕ) → (length l ≡ 0 → ⊥) → digits_from base 0 l ≡ number_in base l
@@ -78,40 +104,27 @@ module _ (w : List ℕ) where
 
 -- ─── Numbers of eight bytes ───
 
--- The test without a sum that could be too large.
-pub wide_test : (n d : ℕ) → d < 10 → ltb ((18446744073709551615 - d) / 10) n ≡ ltb 18446744073709551615 (n * 10 + d)
-wide_test n d h = go (ltb ((18446744073709551615 - d) / 10) n) refl
-  where
-    go : (b : Bool) → ltb ((18446744073709551615 - d) / 10) n ≡ b → b ≡ ltb 18446744073709551615 (n * 10 + d)
-    go true e =
-        let g = ltb-true ((18446744073709551615 - d) / 10) n e in
-        sym (lt-ltb 18446744073709551615 (n * 10 + d) (omega (arith, g)))
-    go false e =
-        let g = ltb-false ((18446744073709551615 - d) / 10) n e in
-        sym (le-ltb 18446744073709551615 (n * 10 + d) (omega (arith, g)))
-
 module _ (l : List ℕ) (i n : ℕ) (t : Wide) (inv : wide_from n (drop i l) ≡ t) where
   module _ (h : i < length l) (d : ℕ) (q : d ≡ digit_value (get_or l i 0)) where
-    wide_step : cond (leb 10 d) Missing
-        (cond (ltb 18446744073709551615 (n * 10 + d)) Missing (wide_from (n * 10 + d) (drop (suc i) l))) ≡ t
+    wide_step : cond (leb 10 d) None
+        (cond (ltb 18446744073709551615 (n * 10 + d)) None (wide_from (n * 10 + d) (drop (suc i) l))) ≡ t
     unfolding wide_from
     wide_step = rw q (rw (drop-cons l i 0 h) at inv)
 
-    pub wide-no-digit : 10 ≤ d → Missing ≡ t
+    pub wide-no-digit : 10 ≤ d → None ≡ t
     wide-no-digit b = rw (le-leb 10 d b) at wide_step
 
-    module _ (b : d < 10) (a : Bool) (p : a ≡ ltb 18446744073709551615 (n * 10 + d)) where
-      pub wide-above : a ≡ true → Missing ≡ t
-      wide-above y = rw (lt-leb 10 d b, ← p, y) at wide_step
+    pub wide-above : d < 10 → 18446744073709551615 < n * 10 + d → None ≡ t
+    wide-above b g = rw (lt-leb 10 d b, lt-ltb 18446744073709551615 (n * 10 + d) g) at wide_step
 
-      pub wide-more : a ≡ false → (m : ℕ) → m ≡ n * 10 + d → wide_from m (drop (i + 1) l) ≡ t
-      wide-more y m e = rw (add-one i, e) (rw (lt-leb 10 d b, ← p, y) at wide_step)
+    pub wide-more : d < 10 → n * 10 + d ≤ 18446744073709551615 → (m : ℕ) → m ≡ n * 10 + d → wide_from m (drop (i + 1) l) ≡ t
+    wide-more b g m e = rw (add-one i, e) (rw (lt-leb 10 d b, le-ltb 18446744073709551615 (n * 10 + d) g) at wide_step)
 
-  pub wide-over : length l ≤ i → Number n ≡ t
+  pub wide-over : length l ≤ i → Some n ≡ t
   unfolding wide_from
   wide-over h = rw (drop_of_length-le l h) at inv
 
-pub wide-none : (l : List ℕ) → length l ≡ 0 → Missing ≡ wide_in l
+pub wide-none : (l : List ℕ) → length l ≡ 0 → None ≡ wide_in l
 unfolding wide_in
 wide-none l e = rw (eq-eqb (length l) 0 e)
 
@@ -119,30 +132,18 @@ pub wide-some : (l : List ℕ) → (length l ≡ 0 → ⊥) → wide_from 0 l �
 unfolding wide_in
 wide-some l n = rw (ne_eqb (length l) 0 n)
 
--- What the test lets through fits.
-pub wide_fits : (n d : ℕ) (a : Bool) → a ≡ ltb 18446744073709551615 (n * 10 + d) → a ≡ false
-    → n * 10 + d ≤ 18446744073709551615
-wide_fits n d a p y = ltb-false 18446744073709551615 (n * 10 + d) (rw p at y)
-
 -- ─── A series and its reserve ───
 
-pub colon-first : (l : List ℕ) → 0 + up_to_colon (drop 0 l) ≡ up_to_colon l
-colon-first l = omega arith
+colon-is : (l : List ℕ) → up_to_colon l ≡ position_or_len (λ x. eqb x 58) l
+unfolding up_to_colon
+colon-is = is_position_or_len up_to_colon (λ x. eqb x 58) refl (λ x l. one-more (eqb x 58) (up_to_colon l))
 
-module _ (l : List ℕ) (i e : ℕ) (inv : i + up_to_colon (drop i l) ≡ e) where
-  pub colon-here : i < length l → get_or l i 0 ≡ 58 → i ≡ e
-  unfolding up_to_colon
-  colon-here h s = rw add-zero at (rw (drop-cons l i 0 h, s) at inv)
+module _ (l : List ℕ) (o : Option ℕ) (q : o ≡ position (λ x. eqb x 58) l) where
+  pub colon-place : unwrap_or o (length l) ≡ up_to_colon l
+  colon-place = rw (colon-is l) (first-or-all (λ x. eqb x 58) l o q)
 
-  pub no-colon : i < length l → (get_or l i 0 ≡ 58 → ⊥) → (i + 1) + up_to_colon (drop (i + 1) l) ≡ e
-  unfolding up_to_colon
-  no-colon h s =
-      let z : i + suc (up_to_colon (drop (suc i) l)) ≡ e = rw (drop-cons l i 0 h, ne_eqb (get_or l i 0) 58 s) at inv in
-      rw (add-one i) (omega arith)
-
-  pub colon-over : length l ≤ i → i ≡ e
-  unfolding up_to_colon
-  colon-over h = rw add-zero at (rw (drop_of_length-le l h) at inv)
+  pub colon-within : unwrap_or o (length l) ≤ length l
+  colon-within = rw (first-or-all (λ x. eqb x 58) l o q) (first-within (λ x. eqb x 58) l)
 
 module _ (w : List ℕ) (e : ℕ) (p : e ≡ up_to_colon w) where
   pub named-is : (x : ℕ) → x ≡ number_in 10 (take e w) → x ≡ series_in w
@@ -156,34 +157,21 @@ module _ (w : List ℕ) (e : ℕ) (p : e ≡ up_to_colon w) where
       let g : length (drop (e + 1) w) ≤ length w - (e + 1) = rw length-drop (omega arith) in
       rw (← p, lt-ltb e (length w) h) (rw (take_all (length w - (e + 1)) (drop (e + 1) w) g) at q)
 
-  pub no-reserve-behind : length w ≤ e → Number 0 ≡ reserve_in w
+  pub no-reserve-behind : length w ≤ e → Some 0 ≡ reserve_in w
   unfolding reserve_in
   no-reserve-behind h = rw (← p, le-ltb e (length w) h)
 
-module _ (w : List ℕ) (x : ℕ) (p : x ≡ series_in w) where
-  pub not-share : 65535 < x → false ≡ says_share w
-  unfolding says_share
-  not-share h = rw (← p, lt-ltb 65535 x h)
-
-  pub share-is : x ≤ 65535 → (y : Wide) (b : Bool) → y ≡ reserve_in w → b ≡ is_number y → b ≡ says_share w
-  unfolding says_share
-  share-is h y b q f = rw (← p, le-ltb 65535 x h, ← q) f
-
 -- ─── Hexadecimal digits ───
 
-module _ (l : List ℕ) (i : ℕ) (t : Bool) (inv : all_hex (drop i l) ≡ t) where
-  module _ (h : i < length l) (d : ℕ) (q : d ≡ digit_value (get_or l i 0)) where
-    pub hex-wrong : d ≡ 16 → false ≡ t
-    unfolding all_hex
-    hex-wrong w = rw (drop-cons l i 0 h, ← q, w) at inv
-
-    pub hex-more : (d ≡ 16 → ⊥) → all_hex (drop (i + 1) l) ≡ t
-    unfolding all_hex
-    hex-more w = rw (add-one i) (rw (drop-cons l i 0 h, ← q, ne_eqb d 16 w) at inv)
-
-  pub hex-over : length l ≤ i → true ≡ t
-  unfolding all_hex
-  hex-over h = rw (drop_of_length-le l h) at inv
+pub hex-is : (l : List ℕ) (r : Bool)
+    → (r ≡ true → (i : ℕ) → i < length l → not (eqb (digit_value (get_or l i 0)) 16) ≡ true)
+    → (r ≡ false → (i : ℕ) × (i < length l) × (not (eqb (digit_value (get_or l i 0)) 16) ≡ false)) → r ≡ all_hex l
+unfolding all_hex
+hex-is l r = and_is all_hex (λ x. not (eqb (digit_value x) 16)) refl (λ x l. go (eqb (digit_value x) 16) (all_hex l)) l 0 r
+  where
+    go : (b t : Bool) → cond b false t ≡ (not b && t)
+    go true t = refl
+    go false t = refl
 
 -- ─── Bytes ───
 
@@ -228,30 +216,13 @@ bytes-over l out word at i inv h g =
 
 -- ─── Words that are the same ───
 
-module _ (l m : List ℕ) (i : ℕ) (t : Bool) (inv : same_word (drop i l) (drop i m) ≡ t) (e : length l ≡ length m) where
-  module _ (h : i < length l) where
-    same_step : cond (eqb (get_or l i 0) (get_or m i 0)) (same_word (drop (suc i) l) (drop (suc i) m)) false ≡ t
-    unfolding same_word
-    same_step = rw (drop-cons l i 0 h, drop-cons m i 0 (omega arith)) at inv
-
-    pub word-differs : (get_or l i 0 ≡ get_or m i 0 → ⊥) → false ≡ t
-    word-differs w = rw (ne_eqb (get_or l i 0) (get_or m i 0) w) at same_step
-
-    pub word_more : get_or l i 0 ≡ get_or m i 0 → same_word (drop (i + 1) l) (drop (i + 1) m) ≡ t
-    word_more w = rw (add-one i) (rw (eq-eqb (get_or l i 0) (get_or m i 0) w) at same_step)
-
-  pub word_over : length l ≤ i → true ≡ t
-  unfolding same_word
-  word_over h = rw (drop_of_length-le l h, drop_of_length-le m {i = i} (omega arith)) at inv
-
--- Words of other lengths differ.
-pub word-longer : (l m : List ℕ) → (length l ≡ length m → ⊥) → false ≡ same_word l m
+pub same-is : (l m : List ℕ) → pointwise eqb l m ≡ same_word l m
 unfolding same_word
-word-longer [] [] n = absurd (n refl)
-word-longer [] (y ∷ m) n = refl
-word-longer (x ∷ l) [] n = refl
-word-longer (x ∷ l) (y ∷ m) n = go (eqb x y) (word-longer l m (λ e. n (ap suc e)))
+same-is [] [] = refl
+same-is [] (y ∷ m) = refl
+same-is (x ∷ l) [] = refl
+same-is (x ∷ l) (y ∷ m) = go (eqb x y) (same-is l m)
   where
-    go : (b : Bool) → false ≡ same_word l m → false ≡ cond b (same_word l m) false
+    go : (b : Bool) → pointwise eqb l m ≡ same_word l m → (b && pointwise eqb l m) ≡ cond b (same_word l m) false
     go true ih = ih
     go false ih = refl

@@ -8,24 +8,13 @@ use lib.ListN.{length, get_or, set, replicate}
 use lib.Seq.{set-get_or, get_or-set_same}
 use lib.Dec.{ltb}
 use borrow.Author.Tests.{lt-ltb, le-ltb}
-use Rattle.flow.specs.declared.series.SeriesPlace.{SeriesPlace}
-use Rattle.flow.specs.declared.series.SeriesPlace.TheVariants.{Unknown, At}
+use Rattle.flow.specs.Types.{SeriesPlace}
 use Rattle.flow.specs.declared.sender.Place.{Place}
 use Rattle.flow.specs.declared.sender.Seat.{Seat}
 use Rattle.flow.specs.declared.sender.Sender.{Sender}
-use Rattle.flow.specs.declared.sender.LoggedIn.{LoggedIn}
-use Rattle.flow.specs.declared.sender.LoggedIn.TheVariants.{Wrote as Answered}
-use Rattle.flow.specs.declared.sender.LoggedIn.TheVariants.{Refused as NotIn}
+use Rattle.flow.specs.Types.{LoggedIn}
 use Rattle.flow.specs.declared.sender.LoginStep.{LoginStep}
-use Rattle.flow.specs.declared.sender.Sent.{Sent}
-use Rattle.flow.specs.declared.sender.Sent.TheVariants.{Drained}
-use Rattle.flow.specs.declared.sender.Sent.TheVariants.{Wrote as MessageSent}
-use Rattle.flow.specs.declared.sender.Sent.TheVariants.{Refused as NotSent}
 use Rattle.flow.specs.declared.sender.SendStep.{SendStep}
-use Rattle.flow.specs.declared.sender.SentPacket.{SentPacket}
-use Rattle.flow.specs.declared.sender.SentPacket.TheVariants.{Drained as NoPacket}
-use Rattle.flow.specs.declared.sender.SentPacket.TheVariants.{Wrote as PacketSent}
-use Rattle.flow.specs.declared.sender.SentPacket.TheVariants.{Refused as NotPacket}
 use Rattle.flow.specs.declared.sender.SendPacketStep.{SendPacketStep}
 use Rattle.ftd.specs.declared.refusal.Refusal.TheVariants.{NoSeat}
 use Rattle.flow.specs.Ends.{Wrote, no_place, fresh_sender, is_served, day_series, index_of, with_place}
@@ -48,24 +37,26 @@ use Rattle.relay.specs.Promises.{Whole, seat_written, login_numbers, sent_number
 use Rattle.relay.specs.Promises.{SendsPacketSeat}
 use Rattle.relay.proofs.places.Written.{seat-read, sixteen, seat-written}
 use Rattle.relay.specs.Helpers.{kept_at}
+use Rattle.std.specs.Prelude.{Some, None, Ok, Err, is_ok}
+use Rattle.flow.specs.Types.{SendAnswer, PacketSent}
 
 pub no-seat-is : record { places = replicate 8 no_place } ≡ no_seat
 unfolding fresh_sender
 no-seat-is = refl
 
-pub keep-none : (ns : List ℕ) (i s : ℕ) (e : Sender) (f : SeriesPlace) → Finds e s f → f ≡ Unknown → ns ≡ kept_at ns i s e
+pub keep-none : (ns : List ℕ) (i s : ℕ) (e : Sender) (f : SeriesPlace) → Finds e s f → f ≡ None → ns ≡ kept_at ns i s e
 keep-none ns i s e f h q =
     let z : is_served e s ≡ false = rw q at h in
     rw z refl
 
-pub keep_at : (ns : List ℕ) (i s : ℕ) (e : Sender) (f : SeriesPlace) (j : ℕ) → Finds e s f → f ≡ At j
+pub keep_at : (ns : List ℕ) (i s : ℕ) (e : Sender) (f : SeriesPlace) (j : ℕ) → Finds e s f → f ≡ Some j
     → place_written ns i j (get_or e.seat.places j no_place) ≡ kept_at ns i s e
 keep_at ns i s e f j h q =
-    let z : Finds e s (At j) = rw q at h in
+    let z : Finds e s (Some j) = rw q at h in
     rw (z.0, place_at e s j z.1, ← z.1) refl
 
 -- The place scaled by an element's size.
-pub served-scaled : (e : Sender) (s : ℕ) (f : SeriesPlace) (i size : ℕ) → Finds e s f → f ≡ At i
+pub served-scaled : (e : Sender) (s : ℕ) (f : SeriesPlace) (i size : ℕ) → Finds e s f → f ≡ Some i
     → 8 * size < 2 ^ 63 → Fits w64 (i * size)
 served-scaled e s f i size g u q = scaled_Fits i 8 size (found_inside e s f i g u) q
 
@@ -75,27 +66,23 @@ pub data SeatStep (e : Sender) (s : ℕ) : Sender → Bool → Type 0 where
   rests : SeatStep e s e false
   steps : (next piece : ℕ) → is_served e s ≡ true → SeatStep e s (with_place e s next piece) true
 
-abbrev pub login_wrote : LoggedIn → Bool
-login_wrote (Answered n) = true
-login_wrote (NotIn x) = false
+abbrev pub sent_wrote : SendAnswer → Bool
+sent_wrote (Ok None) = false
+sent_wrote (Ok (Some found)) = true
+sent_wrote (Err x) = false
 
-abbrev pub sent_wrote : Sent → Bool
-sent_wrote Drained = false
-sent_wrote (MessageSent number n) = true
-sent_wrote (NotSent x) = false
-
-abbrev pub packet_wrote : SentPacket → Bool
-packet_wrote NoPacket = false
-packet_wrote (PacketSent number n last) = true
-packet_wrote (NotPacket x) = false
+abbrev pub packet_wrote : PacketSent → Bool
+packet_wrote (Ok None) = false
+packet_wrote (Ok (Some found)) = true
+packet_wrote (Err x) = false
 
 module _ (e : Sender) (s : ℕ) where
   login-step : (p content out : List ℕ) →
       let r = login_of e s p content out in
-      SeatStep e s r.end (login_wrote r.answer)
+      SeatStep e s r.end (is_ok r.answer)
   login-step p content out = go (login_of e s p content out) (login-cases e s p content out)
     where
-      go : (r : Wrote Sender LoggedIn) → LoginDone e s p content out r → SeatStep e s r.end (login_wrote r.answer)
+      go : (r : Wrote Sender LoggedIn) → LoginDone e s p content out r → SeatStep e s r.end (is_ok r.answer)
       go r (login-refused x) = rests
       go r (login-taken h x c a b g t) = steps _ _ t.served
 
@@ -104,7 +91,7 @@ module _ (e : Sender) (s : ℕ) where
       SeatStep e s r.end (sent_wrote r.answer)
   send-step log out = go (send_of e s log out) (send-cases e s log out)
     where
-      go : (r : Wrote Sender Sent) → SendDone e s log out r → SeatStep e s r.end (sent_wrote r.answer)
+      go : (r : Wrote Sender SendAnswer) → SendDone e s log out r → SeatStep e s r.end (sent_wrote r.answer)
       go r (send-unknown a) = rests
       go r (send-outside a b) = rests
       go r (send-drained a b) = rests
@@ -122,7 +109,7 @@ module _ (e : Sender) (s : ℕ) where
       SeatStep e s r.end (packet_wrote r.answer)
   packet-step log out = go (send_packet_of e s log out) (packet-cases e s log out)
     where
-      go : (r : Wrote Sender SentPacket) → PacketDone e s log out r → SeatStep e s r.end (packet_wrote r.answer)
+      go : (r : Wrote Sender PacketSent) → PacketDone e s log out r → SeatStep e s r.end (packet_wrote r.answer)
       go r (packet-unknown a) = rests
       go r (packet-outside a b) = rests
       go r (packet-drained a b) = rests
@@ -212,22 +199,22 @@ module _ (b : Relay) (ns : List ℕ) (i s : ℕ) (q : i < 16) where
 
     -- ─── Login ───
 
-    login-cond : (x : Box) (a : LoggedIn) → login_numbers ns i s x a ≡ cond (login_wrote a) (seat_written ns i s x) ns
-    login-cond x (Answered n) = refl
-    login-cond x (NotIn r) = refl
+    login-cond : (x : Box) (a : LoggedIn) → login_numbers ns i s x a ≡ cond (is_ok a) (seat_written ns i s x) ns
+    login-cond x (Ok n) = refl
+    login-cond x (Err r) = refl
 
     pub logs-in : (p content out : List ℕ) (step : LoginStep) (after later : List ℕ) → LogsIn end s p content out step after
-        → later ≡ kept step.end (login_wrote step.answer)
+        → later ≡ kept step.end (is_ok step.answer)
         → LogsInSeat b ns i s p content out step.answer later after
     unfolding login_seat_of
     logs-in p content out step after later h n =
         let m = login_of end s p content out in
-        let k : later ≡ kept m.end (login_wrote m.answer) = rw (h.0, h.1.1) at n in
+        let k : later ≡ kept m.end (is_ok m.answer) = rw (h.0, h.1.1) at n in
         let g = login-step end s p content out in
         rw (lt-ltb i 16 q, server-at) (
-          λ w. ap (box_for b) k ∙ after-box m.end (login_wrote m.answer) g w,
+          λ w. ap (box_for b) k ∙ after-box m.end (is_ok m.answer) g w,
           h.1,
-          k ∙ after-numbers m.end (login_wrote m.answer) g
+          k ∙ after-numbers m.end (is_ok m.answer) g
               ∙ sym (ap (login_numbers ns i s (with_seat whole i m.end.seat)) h.1.1
               ∙ login-cond (with_seat whole i m.end.seat) m.answer),
           h.2,
@@ -235,10 +222,10 @@ module _ (b : Relay) (ns : List ℕ) (i s : ℕ) (q : i < 16) where
 
     -- ─── Send ───
 
-    sent-cond : (x : Box) (a : Sent) → sent_numbers ns i s x a ≡ cond (sent_wrote a) (seat_written ns i s x) ns
-    sent-cond x Drained = refl
-    sent-cond x (MessageSent number n) = refl
-    sent-cond x (NotSent r) = refl
+    sent-cond : (x : Box) (a : SendAnswer) → sent_numbers ns i s x a ≡ cond (sent_wrote a) (seat_written ns i s x) ns
+    sent-cond x (Ok None) = refl
+    sent-cond x (Ok (Some found)) = refl
+    sent-cond x (Err r) = refl
 
     pub sends-at : (log out : List ℕ) (step : SendStep) (after later : List ℕ) → Sends end s log out step after
         → later ≡ kept step.end (sent_wrote step.answer) → SendsSeat b ns i s log out step.answer later after
@@ -258,10 +245,10 @@ module _ (b : Relay) (ns : List ℕ) (i s : ℕ) (q : i < 16) where
 
     -- ─── Send of one packet ───
 
-    packet-cond : (x : Box) (a : SentPacket) → packet_numbers ns i s x a ≡ cond (packet_wrote a) (seat_written ns i s x) ns
-    packet-cond x NoPacket = refl
-    packet-cond x (PacketSent number n last) = refl
-    packet-cond x (NotPacket r) = refl
+    packet-cond : (x : Box) (a : PacketSent) → packet_numbers ns i s x a ≡ cond (packet_wrote a) (seat_written ns i s x) ns
+    packet-cond x (Ok None) = refl
+    packet-cond x (Ok (Some found)) = refl
+    packet-cond x (Err r) = refl
 
     pub sends-packet-at : (log out : List ℕ) (step : SendPacketStep) (after later : List ℕ)
         → SendsPacket end s log out step after → later ≡ kept step.end (packet_wrote step.answer)
@@ -287,23 +274,23 @@ module _ (b : Relay) (ns : List ℕ) (i s : ℕ) (q : i ≤ 15) (seat : Seat) (s
   is-end : server ≡ server_of b.day (seat_for ns (24 * i))
   is-end = v ∙ ap (server_of b.day) u
 
-  pub login-as : (p content out : List ℕ) (step : LoginStep) (after later : List ℕ) (a : LoggedIn) → LogsIn server s p content out step after
-      → step.answer ≡ a → later ≡ cond (login_wrote a) (kept_at ns i s step.end) ns
-      → LogsInSeat b ns i s p content out a later after
-  login-as p content out step after later a h g n =
-      rw (← g) (logs-in b ns i s (omega arith) (rw is-end at z) p content out step after later (rw is-end at h) (rw (← g) at n))
+  pub login-as : (p content out : List ℕ) (step : LoginStep) (after later : List ℕ) (w : Bool) → LogsIn server s p content out step after
+      → w ≡ is_ok step.answer → later ≡ cond w (kept_at ns i s step.end) ns
+      → LogsInSeat b ns i s p content out step.answer later after
+  login-as p content out step after later w h g n =
+      logs-in b ns i s (omega arith) (rw is-end at z) p content out step after later (rw is-end at h) (rw g at n)
 
-  pub send-as : (log out : List ℕ) (step : SendStep) (after later : List ℕ) (a : Sent) → Sends server s log out step after
-      → step.answer ≡ a → later ≡ cond (sent_wrote a) (kept_at ns i s step.end) ns
-      → SendsSeat b ns i s log out a later after
-  send-as log out step after later a h g n =
-      rw (← g) (sends-at b ns i s (omega arith) (rw is-end at z) log out step after later (rw is-end at h) (rw (← g) at n))
+  pub send-as : (log out : List ℕ) (step : SendStep) (after later : List ℕ) (w : Bool) → Sends server s log out step after
+      → w ≡ sent_wrote step.answer → later ≡ cond w (kept_at ns i s step.end) ns
+      → SendsSeat b ns i s log out step.answer later after
+  send-as log out step after later w h g n =
+      sends-at b ns i s (omega arith) (rw is-end at z) log out step after later (rw is-end at h) (rw g at n)
 
-  pub packet-as : (log out : List ℕ) (step : SendPacketStep) (after later : List ℕ) (a : SentPacket) → SendsPacket server s log out step after
-      → step.answer ≡ a → later ≡ cond (packet_wrote a) (kept_at ns i s step.end) ns
-      → SendsPacketSeat b ns i s log out a later after
-  packet-as log out step after later a h g n =
-      rw (← g) (sends-packet-at b ns i s (omega arith) (rw is-end at z) log out step after later (rw is-end at h) (rw (← g) at n))
+  pub packet-as : (log out : List ℕ) (step : SendPacketStep) (after later : List ℕ) (w : Bool) → SendsPacket server s log out step after
+      → w ≡ packet_wrote step.answer → later ≡ cond w (kept_at ns i s step.end) ns
+      → SendsPacketSeat b ns i s log out step.answer later after
+  packet-as log out step after later w h g n =
+      sends-packet-at b ns i s (omega arith) (rw is-end at z) log out step after later (rw is-end at h) (rw g at n)
 
 -- ─── 25 ───
 
@@ -311,14 +298,14 @@ module _ (b : Relay) (ns : List ℕ) (i s : ℕ) (q : 15 < i) where
   none-such : ltb i 16 ≡ false
   none-such = le-ltb i 16 (omega arith)
 
-  pub login-none : (p content out : List ℕ) → LogsInSeat b ns i s p content out (NotIn NoSeat) ns out
+  pub login-none : (p content out : List ℕ) → LogsInSeat b ns i s p content out (Err NoSeat) ns out
   unfolding login_seat_of
   login-none p content out = rw none-such (λ w. refl, (refl, refl), refl, refl)
 
-  pub send-none : (log out : List ℕ) → SendsSeat b ns i s log out (NotSent NoSeat) ns out
+  pub send-none : (log out : List ℕ) → SendsSeat b ns i s log out (Err NoSeat) ns out
   unfolding send_seat_of
   send-none log out = rw none-such (λ w. refl, (refl, refl), refl, refl)
 
-  pub packet-none : (log out : List ℕ) → SendsPacketSeat b ns i s log out (NotPacket NoSeat) ns out
+  pub packet-none : (log out : List ℕ) → SendsPacketSeat b ns i s log out (Err NoSeat) ns out
   unfolding send_packet_seat_of
   packet-none log out = rw none-such (λ w. refl, (refl, refl), refl, refl)

@@ -11,14 +11,12 @@ use Rattle.ftd.specs.Bytes.{part, put}
 use Rattle.ftd.specs.Packet.{dated_of}
 use Rattle.ftd.specs.declared.packet.Span.{Span}
 use Rattle.ftd.specs.declared.refusal.Refusal.{Refusal}
-use Rattle.ftd.specs.declared.tags.TradeDate.{TradeDate}
+use Rattle.ftd.specs.Types.{TradeDate}
 use Rattle.ftd.specs.declared.refusal.Refusal.TheVariants.{OtherDay}
 use Rattle.flow.specs.declared.sender.Day.{Day}
 use Rattle.flow.specs.declared.sender.Seat.{Seat}
 use Rattle.flow.specs.declared.sender.Sender.{Sender}
-use Rattle.flow.specs.declared.sender.Published.{Published}
-use Rattle.flow.specs.declared.sender.Published.TheVariants.{Number}
-use Rattle.flow.specs.declared.sender.Published.TheVariants.{Refused as NotPublished}
+use Rattle.flow.specs.Types.{Published}
 use Rattle.flow.specs.declared.sender.PublishStep.{PublishStep}
 use Rattle.flow.specs.declared.receiver.Receiver.{Receiver}
 use Rattle.flow.specs.declared.receiver.Origin.{Origin}
@@ -26,7 +24,6 @@ use Rattle.flow.specs.declared.receiver.Origin.TheVariants.{Packet as FromPacket
 use Rattle.flow.specs.declared.receiver.Received.{Received}
 use Rattle.flow.specs.declared.receiver.Received.TheVariants.{Idle, Duplicate, Partial, Complete}
 use Rattle.flow.specs.declared.receiver.Received.TheVariants.{Refused as NotTaken}
-use Rattle.flow.specs.declared.receiver.Target.TheVariants.{Nothing, At}
 use Rattle.flow.specs.declared.receiver.Decision.{Decision}
 use Rattle.flow.specs.Ends.{◌when◌else◌, Wrote, wrote, before, is_open, kept_of}
 use Rattle.flow.specs.Answers.{Message, received_said, message_in, content_in}
@@ -45,6 +42,7 @@ use Rattle.relay.specs.Box.{handed_way, receive_way, receive_by, receive_box_of}
 use Rattle.relay.specs.Promises.{ReceivesBox}
 use Rattle.relay.specs.Helpers.{KeepsBy, handed_content, Hands}
 use Rattle.relay.proofs.Effects.{EndEffect, end-effect}
+use Rattle.std.specs.Prelude.{Some, None, Ok, Err}
 
 -- ─── The box, by what the receiving end decided ───
 
@@ -56,8 +54,8 @@ module _ (b : Box) (p log buffer : List ℕ) where
   publishing m = publish_of (server_of b.day no_seat) s m.tid m.content log
 
   abbrev by_published : Wrote Receiver Received → Wrote Sender Published → Published → Relayed
-  by_published f q (Number k) = relayed (box f.end b.reserves q.end.day b.seats) f.answer q.bytes f.bytes
-  by_published f q (NotPublished x) = relayed (with_receiver b (dropped b.receiver s)) (NotTaken x) log buffer
+  by_published f q (Ok k) = relayed (box f.end b.reserves q.end.day b.seats) f.answer q.bytes f.bytes
+  by_published f q (Err x) = relayed (with_receiver b (dropped b.receiver s)) (NotTaken x) log buffer
 
   abbrev by_messages : Wrote Receiver Received → List Message → Relayed
   by_messages f [] = relayed (with_receiver b f.end) f.answer log f.bytes
@@ -65,8 +63,8 @@ module _ (b : Box) (p log buffer : List ℕ) where
 
   published-by : (f : Wrote Receiver Received) (m : Message) (q : Wrote Sender Published) (a : Published)
       → receive_by b s log buffer f (published_way m q a) ≡ by_published f q a
-  published-by f m q (Number k) = refl
-  published-by f m q (NotPublished x) = refl
+  published-by f m q (Ok k) = refl
+  published-by f m q (Err x) = refl
 
   handed-by : (f : Wrote Receiver Received) (ms : List Message)
       → receive_by b s log buffer f (handed_way b.day s log ms) ≡ by_messages f ms
@@ -115,10 +113,10 @@ module _ (e : Receiver) (p buffer : List ℕ) (n tid : ℕ) (o : Origin) (at : S
 -- ─── A refused publication leaves the log ───
 
 refused-log : (e : Sender) (s tid : ℕ) (content log : List ℕ) (x : Refusal)
-    → (publish_of e s tid content log).answer ≡ NotPublished x → (publish_of e s tid content log).bytes ≡ log
+    → (publish_of e s tid content log).answer ≡ Err x → (publish_of e s tid content log).bytes ≡ log
 refused-log e s tid content log x q = go (publish_of e s tid content log) (publish-cases e s tid content log) q
   where
-    go : (r : Wrote Sender Published) → PublishDone e s tid content log r → r.answer ≡ NotPublished x → r.bytes ≡ log
+    go : (r : Wrote Sender Published) → PublishDone e s tid content log r → r.answer ≡ Err x → r.bytes ≡ log
     go r (publish-refused y) q = refl
     go r (publish-taken t) q = let y : ◌≡◌ {A = ℕ} 0 1 = cc in absurd (omega arith)
 
@@ -139,7 +137,7 @@ module _ (b : Relay) (p log buffer : List ℕ) (d : Decision)
       ∙ ap (λ (g : Wrote Receiver Received). by_messages (box_for b ns) p log buffer g
       (message_in (received_said p g.bytes g.answer))) (sym h.0)
 
-  -- Nothing is handed on.
+  -- None is handed on.
   pub kept-is : message_in (received_said p copied d.answer) ≡ [] → (r : ReceiveStep) (after : List ℕ)
       → KeepsBy b b.day d p buffer r after → ReceivesBox b p log buffer r log after
   kept-is q r after k = rw (k.0, k.1) λ ns. rw (box-by ns, q) (refl, refl, refl, refl, refl)
@@ -171,20 +169,20 @@ module _ (b : Relay) (p log buffer : List ℕ) (d : Decision)
       k : Publishes (server_of b.day no_seat) (series_in (dated_of p).packet) tid (content_in p copied o all) log step later
       k = rw h.1 at g
 
-      pub handed-is : (n : ℕ) → step.answer ≡ Number n → (r : ReceiveStep) (after : List ℕ)
+      pub handed-is : (n : ℕ) → step.answer ≡ Ok n → (r : ReceiveStep) (after : List ℕ)
           → KeepsBy b step.end.day d p buffer r after → ReceivesBox b p log buffer r later after
       handed-is n a r after w =
-          let y : q.answer ≡ Number n = sym k.1.1 ∙ a in
+          let y : q.answer ≡ Ok n = sym k.1.1 ∙ a in
           rw (w.0, w.1, k.0, k.2)
           λ ns. rw (box-by ns, hands-at d.answer z, y) (refl, refl, refl, refl, refl)
 
-      pub refused-is : (x : Refusal) → step.answer ≡ NotPublished x → (end : Receiver)
+      pub refused-is : (x : Refusal) → step.answer ≡ Err x → (end : Receiver)
           → end ≡ dropped_of b.receiver d.series → (r : Relay)
           → r ≡ record { receiver = end; reserves = b.reserves; day = b.day }
           → ReceivesBox b p log buffer (record { end = r; answer = NotTaken x }) later buffer
       unfolding dropped_of
       refused-is x a end u r w =
-          let y : q.answer ≡ NotPublished x = sym k.1.1 ∙ a in
+          let y : q.answer ≡ Err x = sym k.1.1 ∙ a in
           let o = hands-open d.answer z refl in
           rw (w, u, h.1, o, k.2, refused-log _ _ _ _ log x y)
           λ ns. rw (box-by ns, hands-at d.answer z, y) (refl, refl, refl, refl, refl)
@@ -208,17 +206,17 @@ module _ (d : Decision) (p buffer : List ℕ) (all : Span) (o : Origin) (h : Lie
 
   pub in-packet : o ≡ FromPacket → piece ≡ handed_content d p buffer o all
   in-packet q =
-      let g : (all ≡ d.content) × (d.target ≡ Nothing) = rw q at h in
+      let g : (all ≡ d.content) × (d.target ≡ None) = rw q at h in
       piece_is ∙ ap (span_of p) (sym g.0) ∙ ap (λ (x : Origin). handed_content d p buffer x all) (sym q)
 
   module _ (q : o ≡ FromBuffer) where
     ends : EndsIn all d.content.len buffer d.target
     ends = rw q at h
 
-    pub never : d.target ≡ Nothing → ⊥
+    pub never : d.target ≡ None → ⊥
     never t = rw t at ends
 
-    module _ (n : ℕ) (t : d.target ≡ At n) where
+    module _ (n : ℕ) (t : d.target ≡ Some n) where
       at-end : (all.start ≤ n) × (n + d.content.len ≡ all.start + all.len) × (n + d.content.len ≤ length buffer)
       at-end = rw t at ends
 

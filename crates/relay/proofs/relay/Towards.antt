@@ -1,31 +1,25 @@
 -- The box's calls towards above: what each leaves meets its promise. Assumes nothing.
-use Prim.Native.Nat.{ℕ, zero, suc, ◌<◌, ◌≤◌}
+use Prim.Native.Nat.{ℕ, zero, suc, ◌≤◌, min}
 use native.Mathlib.Omega.{arith}
 use mathlib.Core.Path.{◌≡◌, refl, sym, ap, ◌∙◌}
 use mathlib.Core.List.{List, [], ◌∷◌, map}
 use mathlib.Core.Bool.{Bool, true, false, not, ◌||◌}
 use borrow.Author.Tests.{eq-eqb, ne_eqb, ltb-false}
-use lib.ListN.{length, length-map, take, replicate}
-use lib.Seq.{length-take-le, take_all}
+use lib.ListN.{length, length-map, length-take, take, replicate}
 use lib.Dec.{eqb, ltb}
 use Rattle.ftd.specs.Refusal.{number_of}
 use Rattle.ftd.specs.declared.refusal.Refusal.{Refusal}
 use Rattle.ftd.specs.declared.refusal.Refusal.TheVariants.{Opening, OtherDay}
 use Rattle.flow.specs.declared.sender.Sender.{Sender}
 use Rattle.flow.specs.declared.sender.OpenStep.{OpenStep as DayStep}
-use Rattle.flow.specs.declared.sender.Opened.{Opened}
-use Rattle.flow.specs.declared.sender.Opened.TheVariants.{Done}
-use Rattle.flow.specs.declared.sender.Opened.TheVariants.{Refused as NotOpened}
+use Rattle.flow.specs.Types.{Opened}
 use Rattle.flow.specs.declared.receiver.KeptSeries.{KeptSeries}
 use Rattle.flow.specs.declared.receiver.Receiver.{Receiver}
 use Rattle.flow.specs.declared.receiver.OpenStep.{OpenStep as EndStep}
-use Rattle.flow.specs.declared.receiver.Requested.{Requested}
-use Rattle.flow.specs.declared.receiver.Confirmed.{Confirmed}
-use Rattle.flow.specs.declared.receiver.Confirmed.TheVariants.{Last}
-use Rattle.flow.specs.declared.receiver.Confirmed.TheVariants.{Refused as NotConfirmed}
+use Rattle.flow.specs.Types.{Requested}
+use Rattle.flow.specs.Types.{Confirmed}
 use Rattle.flow.specs.declared.receiver.ConfirmStep.{ConfirmStep as EndConfirm}
-use Rattle.ftd.specs.declared.tags.TradeDate.{TradeDate}
-use Rattle.ftd.specs.declared.tags.TradeDate.TheVariants.{None, At}
+use Rattle.ftd.specs.Types.{TradeDate}
 use Rattle.ftd.specs.declared.packet.Dated.{Dated}
 use Rattle.ftd.specs.Packet.{dated_of}
 use Rattle.flow.proofs.ends.SenderOpened.{opened_sender}
@@ -35,14 +29,14 @@ use Rattle.flow.specs.Answers.{confirmed_said}
 use Rattle.flow.specs.Promises.{OpensEnd, Connects, Asks, OpensDay, Confirms}
 use Rattle.flow.specs.Receiving.{open_end_of, confirm_login_of}
 use Rattle.flow.specs.Serving.{open_day_of, wrong_reserves}
-use Rattle.flow.proofs.series.Filled.{filled-end}
 use Rattle.relay.specs.declared.relay.Relay.{Relay}
 use Rattle.relay.specs.declared.relay.ConfirmStep.{ConfirmStep}
 use Rattle.relay.specs.State.{no_numbers}
-use Rattle.relay.specs.Box.{fresh_box, open_box_of, connect_box_of, ask_of, no_seat, confirm_past, server_of, reserves_of, AnswerWay, taken_way, answer_of, answer_way}
+use Rattle.relay.specs.Box.{fresh_box, open_box_of, connect_box_of, ask_of, no_seat, confirm_past, server_of, reserves_of, taken_way, answer_of, answer_way}
 use Rattle.relay.specs.Promises.{IsFresh, OpensBox, ConnectsBox, AsksBox, ConfirmsBox}
 use Rattle.relay.specs.Helpers.{AnsweredBy, opening_by, late_answer}
 use Rattle.relay.proofs.places.Written.{no-seats}
+use Rattle.std.specs.Prelude.{Ok, Err}
 
 -- ─── Fresh, Connect, Ask ───
 
@@ -65,49 +59,37 @@ asks-is b s content out r after h = λ seats. h
 
 -- ─── Opening ───
 
--- The reserves as they are.
-abbrev pub same : ℕ → ℕ
-same n = n
-
-map_same : (l : List ℕ) → map same l ≡ l
-map_same [] = refl
-map_same (x ∷ l) = ap (λ (m : List ℕ). x ∷ m) (map_same l)
-
-pub reserves-end : (rs : List ℕ) (i : ℕ) (all : List ℕ) → all ≡ filled 0 (map same (take i rs)) → i ≤ length rs
-    → length rs ≤ i → all ≡ filled 0 rs
-reserves-end rs i all w p q = filled-end 0 same rs i all w p q ∙ ap (filled 0) (map_same rs)
-
-not-wrong : (w : Bool) (e : Receiver) (x : Left Receiver Opened) → (left e (NotOpened Opening) when w else x).answer ≡ Done
+not-wrong : (w : Bool) (e : Receiver) (x : Left Receiver Opened) → (left e (Err Opening) when w else x).answer ≡ (Ok (tt {0}))
     → w ≡ false
 not-wrong true e x q = let z : ◌≡◌ {A = ℕ} 0 1 = cc in absurd (omega arith)
 not-wrong false e x q = refl
 
 module _ (b : Relay) (ss rs : List ℕ) where
-  pub open-short : (length rs ≡ length ss → ⊥) → OpensBox b ss rs (record { end = b; answer = NotOpened Opening })
+  pub open-short : (length rs ≡ length ss → ⊥) → OpensBox b ss rs (record { end = b; answer = Err Opening })
   unfolding open_box_of
   open-short n = rw (ne_eqb (length rs) (length ss) n) λ seats. (refl, (refl, refl))
 
   module _ (e : length rs ≡ length ss) (step : EndStep) (h : OpensEnd b.receiver ss step) where
-    pub open-refused : (x : Refusal) → step.answer ≡ NotOpened x → (r : Relay) → r ≡ relay step.end b
-        → OpensBox b ss rs (record { end = r; answer = NotOpened x })
+    pub open-refused : (x : Refusal) → step.answer ≡ Err x → (r : Relay) → r ≡ relay step.end b
+        → OpensBox b ss rs (record { end = r; answer = Err x })
     unfolding open_box_of
     open-refused x a r q =
-        let z : (open_end_of b.receiver ss).answer ≡ NotOpened x = sym h.1.1 ∙ a in
+        let z : (open_end_of b.receiver ss).answer ≡ Err x = sym h.1.1 ∙ a in
         rw (q, eq-eqb (length rs) (length ss) e, z, ← h.0) λ seats. (refl, (refl, refl))
 
-    pub open-taken : step.answer ≡ Done → (all : List ℕ) → all ≡ filled 0 rs
+    pub open-taken : step.answer ≡ (Ok (tt {0})) → (all : List ℕ) → all ≡ filled 0 rs
         → OpensBox b ss rs
-        (record { end = record { receiver = step.end; reserves = all; day = b.day }; answer = Done })
+        (record { end = record { receiver = step.end; reserves = all; day = b.day }; answer = (Ok (tt {0})) })
     unfolding open_box_of
     open-taken a all q =
-        let z : (open_end_of b.receiver ss).answer ≡ Done = sym h.1.1 ∙ a in
+        let z : (open_end_of b.receiver ss).answer ≡ (Ok (tt {0})) = sym h.1.1 ∙ a in
         rw (q, eq-eqb (length rs) (length ss) e, z, ← h.0) λ seats. (refl, (refl, refl))
 
-  pub few-reserves : length rs ≡ length ss → (step : EndStep) → OpensEnd b.receiver ss step → step.answer ≡ Done
+  pub few-reserves : length rs ≡ length ss → (step : EndStep) → OpensEnd b.receiver ss step → step.answer ≡ (Ok (tt {0}))
       → length rs ≤ 8
   unfolding open_end_of wrong_series
   few-reserves e step h a =
-      let z : (open_end_of b.receiver ss).answer ≡ Done = sym h.1.1 ∙ a in
+      let z : (open_end_of b.receiver ss).answer ≡ (Ok (tt {0})) = sym h.1.1 ∙ a in
       let i = not (eqb b.receiver.kept.count 0) in
       let j = eqb (length ss) 0 in
       let k = ltb 8 (length ss) in
@@ -123,17 +105,11 @@ module _ (b : Relay) (ss rs : List ℕ) where
 -- ─── The open series ───
 
 module _ (e : Receiver) (h : length e.kept.series ≡ 8) where
-  pub count-few : e.kept.count < 8 → e.kept.count ≡ length (kept_series e)
+  pub open-count : min e.kept.count 8 ≡ length (kept_series e)
   unfolding kept_series
-  count-few q =
+  open-count =
       sym (length-map (take e.kept.count e.kept.series) (λ (x : KeptSeries). x.series)
-      ∙ length-take-le e.kept.count e.kept.series (omega arith))
-
-  pub count_most : 8 ≤ e.kept.count → 8 ≡ length (kept_series e)
-  unfolding kept_series
-  count_most q =
-      sym (length-map (take e.kept.count e.kept.series) (λ (x : KeptSeries). x.series)
-      ∙ ap length (take_all e.kept.count e.kept.series (omega arith)) ∙ h)
+      ∙ length-take e.kept.count e.kept.series ∙ ap (min e.kept.count) h)
 
 -- ─── Parts of an array ───
 
@@ -141,9 +117,6 @@ pub fits_in : (X : Type 0) (l : List X) (i n : ℕ) → length (map (λ (v : X).
 fits_in X l i n e q =
     let z = length-map l (λ (v : X). v) in
     omega arith
-
-pub part-long : (X : Type 0) (l : List X) (i n : ℕ) → length l ≡ n → i ≤ n → i ≡ length (take i l)
-part-long X l i n e q = sym (length-take-le i l (omega arith))
 
 abbrev name_of : KeptSeries → ℕ
 name_of x = x.series
@@ -155,22 +128,22 @@ take-named (suc n) (x ∷ l) = ap (λ (m : List ℕ). x.series ∷ m) (take-name
 
 -- ─── Answer ───
 
-pub past_is : (a : Confirmed) (x : Refusal) (n : ℕ) → a ≡ NotConfirmed x → n ≡ number_of x → ltb 15 n ≡ confirm_past a
+pub past_is : (a : Confirmed) (x : Refusal) (n : ℕ) → a ≡ Err x → n ≡ number_of x → ltb 15 n ≡ confirm_past a
 past_is a x n p q = rw (p, q) refl
 
 module _ (b : Relay) (ns : List ℕ) (end : Receiver) (last date : ℕ) (log : List ℕ) where
   abbrev opening : Left Sender Opened
   opening = open_day_of (server_of b.day no_seat) date (kept_series b.receiver) (reserves_of b.receiver b.reserves) log
 
-  opened_rows : (w : Bool) → (left (server_of b.day no_seat) (NotOpened Opening) when w else
-      left (opened_sender date (kept_series b.receiver) (reserves_of b.receiver b.reserves)) Done).answer ≡ Done →
-      (left (server_of b.day no_seat) (NotOpened Opening) when w else
-      left (opened_sender date (kept_series b.receiver) (reserves_of b.receiver b.reserves)) Done).end.seat ≡ no_seat
+  opened_rows : (w : Bool) → (left (server_of b.day no_seat) (Err Opening) when w else
+      left (opened_sender date (kept_series b.receiver) (reserves_of b.receiver b.reserves)) (Ok (tt {0}))).answer ≡ (Ok (tt {0})) →
+      (left (server_of b.day no_seat) (Err Opening) when w else
+      left (opened_sender date (kept_series b.receiver) (reserves_of b.receiver b.reserves)) (Ok (tt {0}))).end.seat ≡ no_seat
   unfolding fresh_sender
   opened_rows true q = refl
   opened_rows false q = refl
 
-  opened-seat : opening.answer ≡ Done → opening.end.seat ≡ no_seat
+  opened-seat : opening.answer ≡ (Ok (tt {0})) → opening.end.seat ≡ no_seat
   unfolding open_day_of
   opened-seat q =
       let ss = kept_series b.receiver in
@@ -189,46 +162,24 @@ module _ (b : Relay) (ns : List ℕ) (end : Receiver) (last date : ℕ) (log : L
     opens_as : OpensDay (server_of b.day no_seat) date (kept_series b.receiver) (reserves_of b.receiver b.reserves) log step
     opens_as = rw (v, names-are, m) at h
 
-    pub below-done : step.answer ≡ Done → (after : List ℕ) → after ≡ no_numbers
+    pub below-done : step.answer ≡ (Ok (tt {0})) → (after : List ℕ) → after ≡ no_numbers
         → AnsweredBy b ns end last (opening_by opening)
-        (record { end = record { receiver = end; reserves = b.reserves; day = step.end.day }; answer = Last last }) after
+        (record { end = record { receiver = end; reserves = b.reserves; day = step.end.day }; answer = Ok last }) after
     below-done a after z =
         let g = opens_as in
-        let q : opening.answer ≡ Done = sym g.1.1 ∙ a in
+        let q : opening.answer ≡ (Ok (tt {0})) = sym g.1.1 ∙ a in
         rw (z, q, g.0, no-seats, opened-seat q) (refl, refl, refl)
 
-    pub below-refused : (x : Refusal) → step.answer ≡ NotOpened x
-        → AnsweredBy b ns end last (opening_by opening) (record { end = b; answer = NotConfirmed x }) ns
+    pub below-refused : (x : Refusal) → step.answer ≡ Err x
+        → AnsweredBy b ns end last (opening_by opening) (record { end = b; answer = Err x }) ns
     below-refused x a =
         let g = opens_as in
-        let q : opening.answer ≡ NotOpened x = sym g.1.1 ∙ a in
+        let q : opening.answer ≡ Err x = sym g.1.1 ∙ a in
         rw q (refl, refl, refl)
-
-module _ (b : Relay) (ns : List ℕ) (end : Receiver) (last : ℕ) (log : List ℕ) where
-  abbrev taken : TradeDate → AnswerWay
-  taken date = taken_way b.receiver b.reserves b.day log date
-
-  pub through-none : (date : TradeDate) → date ≡ None → (r : Relay) → r ≡ relay end b
-      → AnsweredBy b ns end last (taken date) (record { end = r; answer = Last last }) ns
-  through-none date p r q = rw (p, q) (refl, refl, refl)
-
-  pub through-up : (date : TradeDate) (d : ℕ) → date ≡ At d → (t : Bool) → t ≡ up_to d b.day.date → t ≡ true
-      → (r : Relay) → r ≡ relay end b → AnsweredBy b ns end last (taken date) (record { end = r; answer = Last last }) ns
-  through-up date d p t u v r q = rw (p, ← u, v, q) (refl, refl, refl)
-
-  pub opens-below : (date : TradeDate) (d : ℕ) → date ≡ At d → (t : Bool) → t ≡ up_to d b.day.date → t ≡ false
-      → (r : ConfirmStep) (after : List ℕ) → AnsweredBy b ns end last (opening_by (open_day_of (server_of b.day no_seat) d
-      (kept_series b.receiver) (reserves_of b.receiver b.reserves) log)) r after
-      → AnsweredBy b ns end last (taken date) r after
-  opens-below date d p t u v r after h = rw (p, ← u, v) h
 
 pub late-past : (a : Confirmed) (date today : TradeDate) (past : Bool) → past ≡ confirm_past a → past ≡ true → (r : Bool)
     → r ≡ before date today → r ≡ late_answer a date today
 late-past a date today past p q r e = rw (e, ← p, q) refl
-
-pub late-not : (a : Confirmed) (date today : TradeDate) (past : Bool) → past ≡ confirm_past a → past ≡ false
-    → false ≡ late_answer a date today
-late-not a date today past p q = rw (← p, q) refl
 
 module _ (b : Relay) (ns : List ℕ) (s : ℕ) (p log : List ℕ) (step : EndConfirm)
     (h : Confirms b.receiver s p step) (d : Dated) (u : d ≡ dated_of p) (late : Bool)
@@ -239,25 +190,25 @@ module _ (b : Relay) (ns : List ℕ) (s : ℕ) (p log : List ℕ) (step : EndCon
   late_of : late_answer meant.answer (dated_of p).date b.day.date ≡ late
   late_of = sym (rw (h.1.1, u) at v)
 
-  pub confirm-late : late ≡ true → ConfirmsBox b ns s p log (record { end = b; answer = NotConfirmed OtherDay }) ns
+  pub confirm-late : late ≡ true → ConfirmsBox b ns s p log (record { end = b; answer = Err OtherDay }) ns
   unfolding answer_of answer_way
   confirm-late y = rw (late_of, y) (refl, (refl, refl), refl)
 
-  pub confirm-refused : late ≡ false → (x : Refusal) → step.answer ≡ NotConfirmed x → (r : Relay) → r ≡ relay step.end b
-      → ConfirmsBox b ns s p log (record { end = r; answer = NotConfirmed x }) ns
+  pub confirm-refused : late ≡ false → (x : Refusal) → step.answer ≡ Err x → (r : Relay) → r ≡ relay step.end b
+      → ConfirmsBox b ns s p log (record { end = r; answer = Err x }) ns
   unfolding answer_of answer_way
   confirm-refused y x a r q =
-      let z : meant.answer ≡ NotConfirmed x = sym h.1.1 ∙ a in
+      let z : meant.answer ≡ Err x = sym h.1.1 ∙ a in
       rw (late_of, y, q, ← h.0, z) (refl, (refl, refl), refl)
 
-  pub confirm-taken : late ≡ false → (n : ℕ) → step.answer ≡ Last n → (r : ConfirmStep) (after : List ℕ)
+  pub confirm-taken : late ≡ false → (n : ℕ) → step.answer ≡ Ok n → (r : ConfirmStep) (after : List ℕ)
       → AnsweredBy b ns step.end n (taken_way b.receiver b.reserves b.day log d.date) r after
       → ConfirmsBox b ns s p log r after
   unfolding answer_of answer_way
   confirm-taken y n a r after g =
-      let z : meant.answer ≡ Last n = sym h.1.1 ∙ a in
+      let z : meant.answer ≡ Ok n = sym h.1.1 ∙ a in
       let k = rw (h.0, u) at g in
       rw (late_of, y, z, meant_is z) (k.0, (ap confirmed_said k.1, k.1), k.2)
     where
-      meant_is : meant.answer ≡ Last n → meant ≡ left meant.end (Last n)
+      meant_is : meant.answer ≡ Ok n → meant ≡ left meant.end (Ok n)
       meant_is z = ap (left meant.end) z

@@ -9,8 +9,7 @@ use Rattle.ftd.specs.Chain.Laws.{packet_form}
 use Rattle.flow.specs.declared.receiver.Receiver.{Receiver}
 use Rattle.flow.specs.declared.receiver.Received.{Received}
 use Rattle.flow.specs.declared.several.ReceivedSeveral.{ReceivedSeveral}
-use Rattle.flow.specs.declared.several.ReceiveTurn.{ReceiveTurn}
-use Rattle.flow.specs.declared.several.ReceiveTurn.TheVariants.{On, Stop}
+use Rattle.flow.specs.Types.{ReceiveTurn}
 use Rattle.flow.specs.Ends.{Wrote, wrote}
 use Rattle.flow.specs.Promises.{LeavesSeveral}
 use Rattle.flow.specs.Receiving.{receive_of}
@@ -25,6 +24,7 @@ use Rattle.relay.specs.State.{Box, box_for}
 use Rattle.relay.specs.Box.{ReceiveWay, late, refuses, through, publishes, receive_by, receive_way, receive_box_of}
 use Rattle.relay.specs.Promises.{ReceivesBox}
 use Rattle.relay.specs.Bufferful.{Logged, logged, relay_one, relaying, receive_several_box_of, ReceivesSeveralBox}
+use Rattle.std.specs.Prelude.{Some, None}
 
 -- ─── The content that Receive tells lies in the packet ───
 
@@ -93,7 +93,7 @@ module _ (b₀ : Relay) (s log₀ l₀ : List ℕ) where
           rw g.2 (rw (input-length relaying some-packet s at n m (logged (box_for e []) log) l _ (inv [])) at h)
 
       module _ (t : ReceiveTurn) (k : turn_stop t ≡ received_stops at r.answer) where
-        pub stop-box : (a : ReceivedSeveral) → t ≡ Stop a
+        pub stop-box : (a : ReceivedSeveral) → t ≡ Some a
             → ReceivesSeveralBox b₀ s log₀ l₀ (record { end = r.end; answer = a; taken = at + n }) later after
         stop-box a q =
             λ seats.
@@ -101,7 +101,7 @@ module _ (b₀ : Relay) (s log₀ l₀ : List ℕ) where
             (turn-stop relaying some-packet s at n m (logged (box_for e seats) log) l _ (inv seats) z
             (wrote (logged (box_for r.end seats) later) r.answer after) (whole seats) a (sym k ∙ ap turn_stop q))
 
-        pub on-box : t ≡ On → Left r.end later after (at + n)
+        pub on-box : t ≡ None → Left r.end later after (at + n)
         on-box q =
             λ seats.
             turn_on relaying some-packet s at n m (logged (box_for e seats) log) l _ (inv seats) z

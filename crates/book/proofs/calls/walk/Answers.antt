@@ -14,14 +14,14 @@ returns-then-n-eq0 c = walk-over c.args.book.code c.args.tid c.args.content.now 
 pub apply-step-requires : goal.apply-step-requires
 apply-step-requires c = c.event_of.ensures.1
 
-pub returns-in-Refused : goal.returns-in-Refused
-returns-in-Refused c = walk_refused c.args.book.code c.args.tid c.args.content.now c.loop-code.at _ c.field_size-n.ensures.0 c.loop-code.current _ c.loop-code.invariant.2 c.if-n-eq0.false _
-    c.event_of.ensures.0 _ c.apply-step.ensures _ c.in-Refused.is
+pub returns-then-is_err : goal.returns-then-is_err
+returns-then-is_err c = walk_refused c.args.book.code c.args.tid c.args.content.now c.loop-code.at _ c.field_size-n.ensures.0 c.loop-code.current _ c.loop-code.invariant.2 c.if-n-eq0.false _
+    c.event_of.ensures.0 _ c.apply-step.ensures c.if-is_err.ensures.value
 
 pub loop-code-preserved : goal.loop-code-preserved
 loop-code-preserved c = (
   search rules,
   search rules,
   walk_turn c.args.book.code c.args.tid c.args.content.now c.loop-code.at _ c.field_size-n.ensures.0 c.loop-code.current _ c.loop-code.invariant.2 c.if-n-eq0.false _
-      c.event_of.ensures.0 _ c.apply-step.ensures c.in-Done.is,
+      c.event_of.ensures.0 _ c.apply-step.ensures c.if-is_err.ensures.value,
 )

@@ -1,22 +1,18 @@
 use borrow.Author.Rules.{rules}
-use Rattle.book.proofs.event.Reading.{price-none, price-small, price-fits, price-below, price-above}
-use borrow.Author.Rules.{rules}
+use Rattle.book.proofs.event.Reading.{price-none, cast-fits, price-fits, price-below, price-above}
 use Rattle.book.proofs.event.price_of.Goals as goal
 
-pub above-requires : goal.above-requires
-above-requires c = price-small _ c.requires _ c.read_float.ensures c.in-Value.negative c.in-Value.units c.in-Value.is
+pub returns-in_err-negative : goal.returns-in_err-negative
+returns-in_err-negative c = search (rules, price-none)
+
+pub overflow_cast-price : goal.overflow_cast-price
+overflow_cast-price c = cast-fits _ c.requires _ c.read_float.ensures c.in_ok-negative.field-0 c.in_ok-negative.was
 
 pub overflow_sub-result : goal.overflow_sub-result
-overflow_sub-result c = price-fits _ c.requires _ c.read_float.ensures c.in-Value.negative c.in-Value.units c.in-Value.is _ c.above.ensures
+overflow_sub-result c = price-fits _ c.requires _ c.read_float.ensures c.in_ok-negative.field-0 c.in_ok-negative.was
 
 pub returns-then-negative : goal.returns-then-negative
-returns-then-negative c = price-below _ c.requires _ c.read_float.ensures c.in-Value.negative c.in-Value.units c.in-Value.is _ c.above.ensures c.if-negative.true
-
-pub above-requires-in-Value : goal.above-requires-in-Value
-above-requires-in-Value c = price-small _ c.requires _ c.read_float.ensures c.in-Value.negative c.in-Value.units c.in-Value.is
-
-pub returns-in-NoValue : goal.returns-in-NoValue
-returns-in-NoValue c = (search (rules, price-none), tt)
+returns-then-negative c = price-below _ c.requires _ c.read_float.ensures c.in_ok-negative.field-0 c.in_ok-negative.was c.if-negative.true
 
 pub returns-else-negative : goal.returns-else-negative
-returns-else-negative c = price-above _ c.requires _ c.read_float.ensures c.in-Value.negative c.in-Value.units c.in-Value.is _ c.above-in-Value.ensures c.if-negative.false
+returns-else-negative c = price-above _ c.requires _ c.read_float.ensures c.in_ok-negative.field-0 c.in_ok-negative.was c.if-negative.false

@@ -1,23 +1,11 @@
-use Rattle.book.specs.Levels.{empty, side_with}
-use Rattle.book.proofs.levels.Shifts.{places}
-use borrow.Author.Rules.{rules}
 use native.Mathlib.Omega.{arith}
-use mathlib.Core.Path.{refl, ap, sym, ◌∙◌}
-use lib.ListN.{length-set}
-use Rattle.book.proofs.levels.Shifts.{push-turn, push-end}
+use Rattle.book.proofs.levels.Shifts.{push-in, push-end, places}
 use Rattle.book.proofs.levels.insert.Goals as goal
 
-pub loop-i-init : goal.loop-i-init
-loop-i-init c = (search rules, places c.args.side _ c.well_formed.0, refl)
+pub returns-then-at-lt64 : goal.returns-then-at-lt64
+returns-then-at-lt64 c =
+    push-in c.args.side.levels _ c.args.at c.args.new (places c.args.side _ c.well_formed.0) c.if-at-lt64.true c.copy_within.ensures.after
 
-pub loop-i-preserved : goal.loop-i-preserved
-loop-i-preserved c = (
-  search rules,
-  length-set c.loop-i.levels c.loop-i.i c.loop-i.held ∙ c.loop-i.invariant.1,
-  push-turn c.loop-i.levels c.loop-i.i c.loop-i.held empty (omega arith) ∙ c.loop-i.invariant.2,
-)
-
-pub returns : goal.returns
-returns c =
-    ap side_with
-    (sym (push-end c.loop-i.levels c.loop-i.i c.loop-i.held (omega arith)) ∙ c.loop-i.invariant.2)
+pub returns-else-at-lt64 : goal.returns-else-at-lt64
+returns-else-at-lt64 c =
+    push-end c.args.side.levels c.args.at c.args.new (places c.args.side _ c.well_formed.0) (omega (arith, c.if-at-lt64.false, c.requires))

@@ -1,26 +1,13 @@
-use Rattle.book.proofs.levels.Shifts.{places}
-use Rattle.book.proofs.levels.Search.{search-unused}
 use borrow.Author.Rules.{rules}
-use native.Mathlib.Omega.{arith}
-use mathlib.Core.Path.{◌≡◌}
-use lib.ListN.{length}
-use Rattle.book.proofs.levels.Search.{search-here, search-turn, search-end}
+use borrow.Author.Tests.{tests}
+use Rattle.std.proofs.lemmas.Iterator.{YieldsList-from_slice}
+use Rattle.std.proofs.lemmas.Iterator.Search.{position_from_yields_List}
+use Rattle.book.proofs.levels.Search.{ends, place-found}
+use Rattle.book.proofs.levels.Shifts.{places}
 use Rattle.book.proofs.levels.place_of.Goals as goal
-
-pub returns-then-one-eq0 : goal.returns-then-one-eq0
-returns-then-one-eq0 c =
-    let h : length c.args.side.levels ≡ 64 = places c.args.side _ c.well_formed.0 in
-    (search (rules, search-unused), search rules)
-
-pub loop-i-preserved : goal.loop-i-preserved
-loop-i-preserved c = let h : length c.args.side.levels ≡ 64 = places c.args.side _ c.well_formed.0 in
-    (search rules, search (rules, search-turn))
-
-pub returns-else-is_better : goal.returns-else-is_better
-returns-else-is_better c = let h : length c.args.side.levels ≡ 64 = places c.args.side _ c.well_formed.0 in
-    (search (rules, search-here), search rules)
 
 pub returns : goal.returns
 returns c =
-    let h : length c.args.side.levels ≡ 64 = places c.args.side _ c.well_formed.0 in
-    (search-end _ _ _ _ _ c.loop-i.invariant.1 (omega arith), search rules)
+    let levels = c.args.side.levels in
+    let found = position_from_yields_List (ends c.args.buying c.args.new.price) _ _ c.position.result c.position.ensures.ran (YieldsList-from_slice levels cc) (λ x b q k. search (rules, tests)) in
+    place-found c.args.buying c.args.new.price levels _ (places c.args.side _ c.well_formed.0) found _ c.unwrap_or.ensures

@@ -1,15 +1,12 @@
 use borrow.Author.Rules.{rules}
-use Rattle.calendar.proofs.holidays.Laws.{no-weekday, on-holiday, trades-then}
+use borrow.Author.Tests.{tests}
+use Rattle.calendar.specs.Calendar.{is_trading}
 use Rattle.calendar.proofs.holidays.trades.Goals as goal
 
-pub returns-then-is_holiday : goal.returns-then-is_holiday
-returns-then-is_holiday c =
-    on-holiday _ _ _ c.date_number.ensures _ c.is_holiday.ensures c.if-is_holiday.true
-
 pub returns-then-day-lt5 : goal.returns-then-day-lt5
-returns-then-day-lt5 c =
-    trades-then _ _ _ c.date_number.ensures _ c.is_holiday.ensures c.if-is_holiday.false
-    c.if-day-lt5.true
+unfolding is_trading
+returns-then-day-lt5 c = search (rules, tests)
 
-pub returns : goal.returns
-returns c = search (rules, no-weekday)
+pub returns-else-day-lt5 : goal.returns-else-day-lt5
+unfolding is_trading
+returns-else-day-lt5 c = search (rules, tests)

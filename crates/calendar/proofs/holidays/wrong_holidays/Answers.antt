@@ -1,30 +1,20 @@
+use mathlib.Core.Bool.{not}
 use mathlib.Core.Path.{refl, ◌∙◌}
 use lib.ListN.{length}
 use borrow.Author.Rules.{rules}
-use Rattle.calendar.specs.Calendar.{unreal}
-use Rattle.calendar.proofs.Some.{some-here, some_turn, some-none}
-use Rattle.calendar.proofs.holidays.Laws.{holiday-many, holiday-else, not-real, is-real-one}
+use borrow.Author.Tests.{tests}
+use Rattle.std.proofs.lemmas.Iterator.{YieldsList-from_slice}
+use Rattle.std.proofs.lemmas.Iterator.Search.{any_from_yields_List}
+use Rattle.calendar.specs.Calendar.{real_number, unreal}
+use Rattle.calendar.proofs.Some.{some-list}
+use Rattle.calendar.proofs.holidays.Laws.{holiday-many, holiday-else}
 use Rattle.calendar.proofs.holidays.wrong_holidays.Goals as goal
 
 pub returns-then-s-gt32 : goal.returns-then-s-gt32
-returns-then-s-gt32 c = search (rules, holiday-many)
+returns-then-s-gt32 c = search (rules, tests, holiday-many)
 
-pub loop-i-init : goal.loop-i-init
-loop-i-init c = (refl, search rules)
-
-pub loop-i-preserved : goal.loop-i-preserved
-loop-i-preserved c =
-    let p = unreal c.args.s.now in
-    (some_turn p c.loop-i.i _ c.loop-i.invariant.0 (is-real-one _ _ c.real_number.ensures c.if-real_number.true) refl, search rules)
-
-pub returns-else-real_number : goal.returns-else-real_number
-returns-else-real_number c =
-    let p = unreal c.args.s.now in
-    some-here p (length c.args.s.now) c.loop-i.i _ (search rules) (not-real _ _ c.real_number.ensures c.if-real_number.false) refl
-    ∙ holiday-else c.args.s.now (search rules)
-
-pub returns : goal.returns
-returns c =
-    let p = unreal c.args.s.now in
-    some-none p (length c.args.s.now) c.loop-i.i c.loop-i.invariant.0 c.loop-i.invariant.1 c.loop-i-test.false
-    ∙ holiday-else c.args.s.now (search rules)
+pub returns-else-s-gt32 : goal.returns-else-s-gt32
+returns-else-s-gt32 c =
+    let s = c.args.s.now in
+    any_from_yields_List (λ n. not (real_number n)) _ _ _ c.any.ensures.ran (YieldsList-from_slice s cc) (λ x b q k. search (rules, tests))
+    ∙ (some-list (unreal s) s (λ n. not (real_number n)) (length s) refl (λ i k. refl) ∙ holiday-else s (search rules))

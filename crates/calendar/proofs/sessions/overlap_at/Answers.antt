@@ -6,6 +6,6 @@ pub returns-then-s-i : goal.returns-then-s-i
 unfolding overlap
 returns-then-s-i c = search tests
 
-pub returns : goal.returns
+pub returns-else-s-i : goal.returns-else-s-i
 unfolding overlap
-returns c = search tests
+returns-else-s-i c = search tests

@@ -1,23 +1,15 @@
-use mathlib.Core.Path.{refl}
+use native.Mathlib.Omega.{arith}
+use mathlib.Core.Path.{refl, ◌∙◌}
 use borrow.Author.Rules.{rules}
-use Rattle.calendar.proofs.Some.{some-here, some_turn, some-none}
+use borrow.Author.Tests.{tests}
+use Rattle.std.proofs.lemmas.Iterator.{YieldsList-from_range}
+use Rattle.std.proofs.lemmas.Iterator.Search.{any_from_yields_List}
 use Rattle.calendar.specs.Calendar.{overlap}
+use Rattle.calendar.proofs.Some.{some-range}
 use Rattle.calendar.proofs.sessions.overlaps_before.Goals as goal
-
-pub loop-j-init : goal.loop-j-init
-loop-j-init c = (refl, search rules)
-
-pub returns-then-overlap_at : goal.returns-then-overlap_at
-returns-then-overlap_at c =
-    let p = overlap c.args.s.now c.args.i in
-    some-here p c.args.i c.loop-j.j _ (search rules) c.overlap_at.ensures c.if-overlap_at.true
-
-pub loop-j-preserved : goal.loop-j-preserved
-loop-j-preserved c =
-    let p = overlap c.args.s.now c.args.i in
-    (some_turn p c.loop-j.j _ c.loop-j.invariant.0 c.overlap_at.ensures c.if-overlap_at.false, search rules)
 
 pub returns : goal.returns
 returns c =
     let p = overlap c.args.s.now c.args.i in
-    some-none p c.args.i c.loop-j.j c.loop-j.invariant.0 c.loop-j.invariant.1 c.loop-j-test.false
+    any_from_yields_List p _ _ _ c.any.ensures.ran (YieldsList-from_range 0 c.args.i c.args.i refl (omega arith)) (λ x b q k. search (rules, tests))
+    ∙ some-range p c.args.i

@@ -1,15 +1,12 @@
-use borrow.Author.Rules.{rules}
-use Rattle.calendar.proofs.sessions.Laws.{broken, ninth, wrong-one, wrong-two}
+use Rattle.std.proofs.Common.{arith}
+use Rattle.std.proofs.lemmas.Grind.{common_steps}
+use Rattle.calendar.specs.Calendar.{wrong_sessions}
 use Rattle.calendar.proofs.sessions.wrong_sessions.Goals as goal
 
-pub returns-then-s-ne0 : goal.returns-then-s-ne0
-returns-then-s-ne0 c = search (rules, broken)
-
-pub returns-then-n-gt8 : goal.returns-then-n-gt8
-returns-then-n-gt8 c = search (rules, ninth)
-
 pub returns-then-any_wrong : goal.returns-then-any_wrong
-returns-then-any_wrong c = search (rules, wrong-one)
+unfolding wrong_sessions
+returns-then-any_wrong c = grind (arith, common_steps)
 
-pub returns : goal.returns
-returns c = search (rules, wrong-two)
+pub returns-else-any_wrong : goal.returns-else-any_wrong
+unfolding wrong_sessions
+returns-else-any_wrong c = grind (arith, common_steps)

@@ -1,4 +1,4 @@
 use Rattle.exports.proofs.boxes.box_handed.Goals as goal
 
 pub returns : goal.returns
-returns c = rw (c.span.ensures, c.origin_number.ensures)
+returns c = rw (c.into.ensures, c.origin_number.ensures)

@@ -1,23 +1,18 @@
-use mathlib.Core.Path.{refl}
 use borrow.Author.Rules.{rules}
+use native.Mathlib.Omega.{arith}
+use mathlib.Core.Path.{◌≡◌, sym, ◌∙◌}
+use lib.ListN.{length}
 use Rattle.flow.proofs.series.Places.{unmapped}
-use Rattle.flow.proofs.common.Filled.{mapped-turn, mapped_end}
 use Rattle.exports.specs.Boxes.{day_series_for, day_for}
+use Rattle.exports.proofs.Filled.{mapped}
 use Rattle.exports.proofs.boxes.day_for.Goals as goal
-
-pub loop-i-init : goal.loop-i-init
-loop-i-init c = (search rules, (refl, refl))
-
-pub loop-i-preserved : goal.loop-i-preserved
-loop-i-preserved c = (
-  search rules,
-  mapped-turn 8 day_series_for c.args.s.series (search (rules, unmapped)) c.loop-i.series c.loop-i.i _ c.loop-i.invariant.1 (search rules),
-)
 
 pub returns : goal.returns
 unfolding day_for
 returns c =
-    rw (
-      c.date_for.ensures,
-      mapped_end 8 day_series_for c.args.s.series (search (rules, unmapped)) c.loop-i.series c.loop-i.i c.loop-i.invariant.1 (search rules),
-    )
+    let eight : length c.args.s.series ≡ 8 = search (rules, unmapped) in
+    let long : length c.map.result ≡ 8 = c.map.ensures.items.long in
+    let each =
+    mapped day_series_for c.args.s.series c.map.result (eight ∙ sym long)
+    (λ i d e h. let k = c.map.ensures.items.at i d e (omega arith) in search rules) in
+    rw (c.date_for.ensures, each)

@@ -1,10 +1,16 @@
 use Rattle.exports.proofs.boxes.seat_packet.Goals as goal
+use Rattle.std.proofs.Common.{rules, ◌≡◌, None, Ok}
+use Rattle.flow.specs.Types.{packet_sent}
 
-pub returns-in-Drained : goal.returns-in-Drained
-returns-in-Drained c = rw c.in-Drained.is
+pub returns-in-Ok-None : goal.returns-in-Ok-None
+returns-in-Ok-None c =
+    let q : c.args.a ≡ Ok None = search rules in
+    rw q
 
-pub returns-in-Wrote : goal.returns-in-Wrote
-returns-in-Wrote c = rw (c.in-Wrote.is, c.flag_of.ensures)
+pub returns-in-Ok-Some : goal.returns-in-Ok-Some
+returns-in-Ok-Some c =
+    let q : c.args.a ≡ packet_sent c.in-Ok-Some.number c.in-Ok-Some.len c.in-Ok-Some.last = search rules in
+    rw q (search rules)
 
-pub returns-in-Refused : goal.returns-in-Refused
-returns-in-Refused c = rw (c.in-Refused.is, c.number.ensures)
+pub returns-in-Err : goal.returns-in-Err
+returns-in-Err c = rw (c.in-Err.is, c.number.ensures)

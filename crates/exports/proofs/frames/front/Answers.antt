@@ -1,7 +1,7 @@
 use Rattle.exports.proofs.frames.front.Goals as goal
 
-pub returns-in-NoField : goal.returns-in-NoField
-returns-in-NoField c = rw c.in-NoField.is
+pub returns-in-None : goal.returns-in-None
+returns-in-None c = rw c.in-None.is
 
-pub returns-in-Field : goal.returns-in-Field
-returns-in-Field c = rw c.in-Field.is
+pub returns-in-Some : goal.returns-in-Some
+returns-in-Some c = rw c.in-Some.is

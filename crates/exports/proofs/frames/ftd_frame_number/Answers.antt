@@ -1,7 +1,7 @@
 use Rattle.exports.proofs.frames.ftd_frame_number.Goals as goal
 
-pub returns-in-NoNumber : goal.returns-in-NoNumber
-returns-in-NoNumber c = rw (← c.number_in.ensures.0, c.in-NoNumber.is)
+pub returns-in-None : goal.returns-in-None
+returns-in-None c = rw (← c.number_in.ensures.0, c.in-None.is)
 
-pub returns-in-Is : goal.returns-in-Is
-returns-in-Is c = rw (← c.number_in.ensures.0, c.in-Is.is)
+pub returns-in-Some : goal.returns-in-Some
+returns-in-Some c = rw (← c.number_in.ensures.0, c.in-Some.is)

@@ -1,4 +1,4 @@
 use Rattle.exports.proofs.quotes.ftd_book_fresh.Goals as goal
 
 pub returns : goal.returns
-returns c = rw c.fresh.ensures at c.book_numbers.ensures
+returns c = rw c.fresh.ensures at c.into.ensures

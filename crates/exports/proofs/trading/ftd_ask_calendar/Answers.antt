@@ -1,17 +1,17 @@
 use Rattle.exports.proofs.trading.ftd_ask_calendar.Goals as goal
 
-pub returns-in-Outside : goal.returns-in-Outside
-returns-in-Outside c =
+pub returns-in-None : goal.returns-in-None
+returns-in-None c =
     rw (
-      ← c.calendar_for.ensures,
+      ← c.from.ensures,
       ← c.ask.ensures,
-      c.in-Outside.is,
+      c.in-None.is,
     )
 
-pub returns-in-Inside : goal.returns-in-Inside
-returns-in-Inside c =
+pub returns-in-Some : goal.returns-in-Some
+returns-in-Some c =
     rw (
-      ← c.calendar_for.ensures,
+      ← c.from.ensures,
       ← c.ask.ensures,
-      c.in-Inside.is,
+      c.in-Some.is,
     )

@@ -1,9 +1,9 @@
-use borrow.Author.Rules.{rules}
+use mathlib.Core.Path.{sym, ◌∙◌}
 use Rattle.flow.proofs.login.Answer.{size-undated, size-dated}
 use Rattle.flow.proofs.login.answer_size.Goals as goal
 
-pub returns-in-None : goal.returns-in-None
-returns-in-None c = search (rules, size-undated)
+pub returns-then-is_some : goal.returns-then-is_some
+returns-then-is_some c = size-dated c.args.date c.args.content.now (sym c.is_some.ensures ∙ c.if-is_some.true)
 
-pub returns-in-At : goal.returns-in-At
-returns-in-At c = search (rules, size-dated)
+pub returns-else-is_some : goal.returns-else-is_some
+returns-else-is_some c = size-undated c.args.date c.args.content.now (sym c.is_some.ensures ∙ c.if-is_some.false)

@@ -5,8 +5,8 @@ use Rattle.flow.proofs.order.finds_last.Goals as goal
 pub returns-then-published-eq0 : goal.returns-then-published-eq0
 returns-then-published-eq0 c = search (rules, last_none)
 
-pub returns-in-Damaged : goal.returns-in-Damaged
-returns-in-Damaged c = search (rules, last-damaged)
+pub returns-in_default : goal.returns-in_default
+returns-in_default c = search (rules, last-damaged)
 
-pub returns-in-At : goal.returns-in-At
-returns-in-At c = search (rules, last-there)
+pub returns-in-Some : goal.returns-in-Some
+returns-in-Some c = search (rules, last-there)

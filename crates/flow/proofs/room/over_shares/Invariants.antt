@@ -1,4 +1,4 @@
-use Prim.Native.Nat.{◌-◌, ◌≤◌}
+use Prim.Native.Nat.{◌≤◌}
 use mathlib.Core.Path.{◌≡◌}
 use lib.ListN.{drop}
 use lib.Dec.{ltb}
@@ -9,7 +9,4 @@ use Rattle.flow.proofs.room.over_shares.Given as goal
 
 abbrev pub invariant-loop-i : goal.invariant-loop-i
 invariant-loop-i l =
-    (l.i ≤ 8) × (l.left ≤ l.room) × (ltb l.left (sum_of (drop l.i (shares l.day l.at l.more))) ≡ ltb l.room (shares_in l.day l.at l.more))
-
-abbrev pub decreases-loop-i : goal.decreases-loop-i
-decreases-loop-i l = 8 - l.i
+    (l.left ≤ l.room) × (ltb l.left (sum_of (drop l.i (shares l.fn.day l.at l.more))) ≡ ltb l.room (shares_in l.fn.day l.at l.more))

@@ -1,12 +1,8 @@
-use Prim.Native.Nat.{◌-◌, ◌≤◌}
 use mathlib.Core.Path.{◌≡◌}
-use lib.ListN.{length, take}
+use lib.ListN.{take}
 use Rattle.flow.specs.Ends.{filled, no_series, opened_series}
 use Rattle.flow.proofs.sender.new_places.Given as goal
 
 abbrev pub invariant-loop-i : goal.invariant-loop-i
 invariant-loop-i l =
-    (l.i ≤ length l.series) × (l.all ≡ filled no_series (opened_series (take l.i l.series) l.reserves))
-
-abbrev pub decreases-loop-i : goal.decreases-loop-i
-decreases-loop-i l = length l.series - l.i
+    l.all ≡ filled no_series (opened_series (take l.i l.series) l.reserves)

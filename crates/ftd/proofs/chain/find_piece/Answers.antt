@@ -11,15 +11,15 @@ loop-left-init c = (search rules, search rules, search rules, rw sub_self, searc
 pub returns-then-left-eq0 : goal.returns-then-left-eq0
 returns-then-left-eq0 c = (search rules, search rules, search (rules, piece-here), search rules)
 
-pub returns-then-end-content : goal.returns-then-end-content
-returns-then-end-content c = search (rules, piece-none)
+pub returns-then-c-content : goal.returns-then-c-content
+returns-then-c-content c = search (rules, piece-none)
 
 pub loop-left-smaller : goal.loop-left-smaller
 loop-left-smaller c =
     omega (
       arith,
       piece-moves _ _ _ c.next_piece-c.ensures c.loop-left.invariant.2
-          c.if-end-content.false,
+          c.if-c-content.false,
     )
 
 pub loop-left-preserved : goal.loop-left-preserved
@@ -32,7 +32,7 @@ loop-left-preserved c = (
   omega (
     arith,
     piece-moves _ _ _ c.next_piece-c.ensures c.loop-left.invariant.2
-        c.if-end-content.false,
+        c.if-c-content.false,
     c.loop-left.invariant.4,
   ),
 )

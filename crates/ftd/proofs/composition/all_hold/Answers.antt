@@ -1,16 +1,15 @@
+use Prim.Native.Nat.{ℕ}
+use mathlib.Core.Path.{refl, ◌∙◌}
 use borrow.Author.Rules.{rules}
-use mathlib.Core.Path.{refl}
-use Rattle.ftd.proofs.composition.Lines.{lines_end, lines-wrong, lines-turn}
+use borrow.Author.Tests.{tests}
+use Rattle.std.proofs.lemmas.Iterator.{YieldsList-from_range}
+use Rattle.std.proofs.lemmas.Iterator.Search.{all_from_yields_List}
+use Rattle.ftd.specs.Composition.{line_at, line_holds}
+use Rattle.ftd.proofs.composition.Lines.{lines-all}
 use Rattle.ftd.proofs.composition.all_hold.Goals as goal
 
-pub loop-i-init : goal.loop-i-init
-loop-i-init c = (search rules, refl)
-
-pub loop-i-preserved : goal.loop-i-preserved
-loop-i-preserved c = (search rules, search (rules, lines-turn))
-
-pub returns-else-line_holds : goal.returns-else-line_holds
-returns-else-line_holds c = search (rules, lines-wrong)
-
 pub returns : goal.returns
-returns c = search (rules, lines_end)
+returns g c content counts =
+    all_from_yields_List (λ (i : ℕ). line_holds (line_at i) c.args.tid c.args.direction content) _ _ _
+    c.all.ensures.ran (YieldsList-from_range 0 82 82 refl refl) (λ x b q k. search (rules, tests, counts))
+    ∙ lines-all c.args.tid c.args.direction content

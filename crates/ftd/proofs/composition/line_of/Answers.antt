@@ -9,6 +9,6 @@ returns-then-number16-tid c =
     same-tid (line_at c.args.i) c.args.tid c.args.direction c.number16.result
     c.number16.ensures.0 c.if-number16-tid.true
 
-pub returns : goal.returns
+pub returns-else-number16-tid : goal.returns-else-number16-tid
 unfolding line_at line_tids directions fids leasts mosts appendix_e
-returns c = search (rules, other-tid)
+returns-else-number16-tid c = search (rules, other-tid)

@@ -1,37 +1,18 @@
-use Prim.Native.Nat.{◌≤◌}
-use mathlib.Core.Path.{refl}
-use native.Mathlib.Omega.{arith}
+use mathlib.Core.Path.{◌≡◌, sym, ◌∙◌}
 use borrow.Author.Rules.{rules}
-use Rattle.ftd.specs.Fields.{field_place_of}
-use Rattle.ftd.proofs.fields.Turns.{field-head, place-over, place_here, place-turn}
+use Rattle.std.proofs.lemmas.Iterator.Adapters.{option_map_id}
+use Rattle.std.proofs.lemmas.Iterator.Consumers.{YieldsList-from_first, nth_from_yields_List}
+use Rattle.std.specs.List.{slice_get}
+use Rattle.ftd.specs.Fields.Helpers.{fields_from}
+use Rattle.ftd.proofs.fields.Listed.{nth-inside, walk-inside, walk-nth}
 use Rattle.ftd.proofs.fields.field_place.Goals as goal
 
-pub loop-i-init : goal.loop-i-init
-unfolding field_place_of
-loop-i-init c = (search rules, refl)
-
-pub returns-then-n-eq0 : goal.returns-then-n-eq0
-returns-then-n-eq0 c = (search (rules, place-over), tt)
-
-pub be32-requires : goal.be32-requires
-be32-requires c =
-    let h : 6 ≤ c.field_size-n.result = search (rules, field-head) in
-    omega arith
-
-pub overflow_add-result : goal.overflow_add-result
-overflow_add-result c =
-    let h : 6 ≤ c.field_size-n.result = search (rules, field-head) in
-    omega arith
-
-pub overflow_sub-result : goal.overflow_sub-result
-overflow_sub-result c =
-    let h : 6 ≤ c.field_size-n.result = search (rules, field-head) in
-    omega arith
-
-pub returns-then-left-eq0 : goal.returns-then-left-eq0
-returns-then-left-eq0 c =
-    let h : 6 ≤ c.field_size-n.result = search (rules, field-head) in
-    (rw c.be32.ensures (search (rules, place_here)), omega arith)
-
-pub loop-i-preserved : goal.loop-i-preserved
-loop-i-preserved c = (search rules, search (rules, place-turn))
+pub returns : goal.returns
+returns c =
+    let found : c.nth.result ≡ slice_get (fields_from c.args.content.now 0) c.args.i =
+    sym (option_map_id c.nth.result)
+    ∙ nth_from_yields_List c.nth.result c.nth.new.self c.args.i c.nth.ensures.ran
+    (YieldsList-from_first (λ p. p) (λ s. fields_from s.content.now s.at) (fields_from c.args.content.now 0) (search rules)) in (
+      found ∙ walk-nth c.args.content.now c.args.i,
+      rw found (nth-inside c.args.content.now _ c.args.i (walk-inside c.args.content.now)),
+    )

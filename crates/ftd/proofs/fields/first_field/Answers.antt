@@ -1,37 +1,21 @@
+use mathlib.Core.Path.{◌≡◌, sym, ◌∙◌}
 use borrow.Author.Rules.{rules}
-use Prim.Native.Nat.{◌≤◌}
-use mathlib.Core.Path.{refl}
-use native.Mathlib.Omega.{arith}
-use Rattle.ftd.specs.Fields.{first_of}
-use Rattle.ftd.proofs.fields.Turns.{field-head, first-over, first-here, first-turn}
+use borrow.Author.Tests.{tests}
+use Rattle.std.proofs.lemmas.Iterator.Adapters.{option_map_id}
+use Rattle.std.proofs.lemmas.Iterator.Consumers.{YieldsList-from_first}
+use Rattle.std.proofs.lemmas.Iterator.Search.{find_from_yields_List}
+use Rattle.std.specs.List.{find}
+use Rattle.ftd.specs.Fields.Helpers.{fields_from}
+use Rattle.ftd.proofs.fields.Listed.{has_fid, find-inside, walk-inside, walk-first}
 use Rattle.ftd.proofs.fields.first_field.Goals as goal
 
-pub loop-fid-init : goal.loop-fid-init
-unfolding first_of
-loop-fid-init c = (search rules, refl)
-
-pub returns-then-n-eq0 : goal.returns-then-n-eq0
-returns-then-n-eq0 c = (search (rules, first-over), tt)
-
-pub be32-found-requires : goal.be32-found-requires
-be32-found-requires c =
-    let h : 6 ≤ c.field_size-n.result = search (rules, field-head) in
-    omega arith
-
-pub overflow_add-result : goal.overflow_add-result
-overflow_add-result c =
-    let h : 6 ≤ c.field_size-n.result = search (rules, field-head) in
-    omega arith
-
-pub overflow_sub-result : goal.overflow_sub-result
-overflow_sub-result c =
-    let h : 6 ≤ c.field_size-n.result = search (rules, field-head) in
-    omega arith
-
-pub returns-then-found-fid : goal.returns-then-found-fid
-returns-then-found-fid c =
-    let h : 6 ≤ c.field_size-n.result = search (rules, field-head) in
-    (search (rules, first-here), omega arith)
-
-pub loop-fid-preserved : goal.loop-fid-preserved
-loop-fid-preserved c = (search rules, search (rules, first-turn))
+pub returns : goal.returns
+returns c =
+    let found : c.find.result ≡ find (has_fid c.args.fid) (fields_from c.args.content.now 0) =
+    sym (option_map_id c.find.result)
+    ∙ find_from_yields_List (has_fid c.args.fid) c.find.new.self _ _ c.find.ensures.ran
+    (YieldsList-from_first (λ p. p) (λ s. fields_from s.content.now s.at) (fields_from c.args.content.now 0) (search rules))
+    (λ x b q k. search (rules, tests)) in (
+      found ∙ walk-first c.args.fid c.args.content.now,
+      rw found (find-inside c.args.content.now (has_fid c.args.fid) _ (walk-inside c.args.content.now)),
+    )

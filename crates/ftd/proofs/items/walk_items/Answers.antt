@@ -3,8 +3,6 @@ use mathlib.Core.Path.{refl}
 use native.Mathlib.Omega.{arith}
 use borrow.Author.Rules.{rules}
 use Rattle.ftd.specs.Items.{walk_of}
-use Rattle.ftd.specs.Table.{table}
-use Rattle.ftd.specs.Table.Helpers.{kind_column, width_column, scale_column}
 use Rattle.ftd.proofs.items.Walk.{items-end, items-wrong, items-turn, walk-over, walk-unknown, walk-items}
 use Rattle.ftd.proofs.fields.Turns.{field-head}
 use Rattle.ftd.proofs.items.walk_items.Goals as goal
@@ -30,20 +28,12 @@ items-init c =
     (rules, field-head) in
     (omega arith, search rules, search rules, search (rules, walk-items))
 
-pub item_good-requires : goal.item_good-requires
-unfolding kind_column width_column scale_column table
-item_good-requires c = (refl, refl, refl, search rules, search rules, search rules)
-
-pub width_at-pos-requires : goal.width_at-pos-requires
-unfolding width_column table
-width_at-pos-requires c = (search rules, refl)
-
-pub overflow_add-pos-then-item_good : goal.overflow_add-pos-then-item_good
-overflow_add-pos-then-item_good c = omega (arith, c.item_good.ensures.1 c.if-item_good.true)
+pub overflow_add-pos-in-items : goal.overflow_add-pos-in-items
+overflow_add-pos-in-items c = omega (arith, c.item_good.ensures.1 c.if-not-item_good.false)
 
 pub items-preserved : goal.items-preserved
 items-preserved c = (
-  omega (arith, c.item_good.ensures.1 c.if-item_good.true),
+  omega (arith, c.item_good.ensures.1 c.if-not-item_good.false),
   search rules,
   search rules,
   search (rules, items-turn),
@@ -55,5 +45,5 @@ walk-preserved c = (search rules, search (rules, items-end))
 pub returns-then-n-eq0 : goal.returns-then-n-eq0
 returns-then-n-eq0 c = search (rules, walk-over)
 
-pub returns-else-item_good : goal.returns-else-item_good
-returns-else-item_good c = search (rules, items-wrong)
+pub returns-then-not-item_good : goal.returns-then-not-item_good
+returns-then-not-item_good c = search (rules, items-wrong)

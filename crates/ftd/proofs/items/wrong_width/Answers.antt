@@ -1,29 +1,15 @@
-use Prim.Native.Nat.{◌≤◌}
-use mathlib.Core.Path.{refl}
-use native.Mathlib.Omega.{arith}
+use mathlib.Core.Path.{◌∙◌}
 use borrow.Author.Rules.{rules}
-use Rattle.ftd.specs.Items.{wrong_width}
-use Rattle.ftd.proofs.items.Walk.{widths-over, widths-here, widths-turn}
-use Rattle.ftd.proofs.fields.Turns.{field-head}
+use borrow.Author.Tests.{tests}
+use Rattle.std.proofs.lemmas.Iterator.Consumers.{YieldsList-from_first}
+use Rattle.std.proofs.lemmas.Iterator.Search.{any_from_yields_List}
+use Rattle.ftd.specs.Fields.Helpers.{fields_from}
+use Rattle.ftd.proofs.items.Walk.{wide_otherwise, walk-widths}
 use Rattle.ftd.proofs.items.wrong_width.Goals as goal
 
-pub loop-at-init : goal.loop-at-init
-unfolding wrong_width
-loop-at-init c = (search rules, refl)
-
-pub returns-then-n-eq0 : goal.returns-then-n-eq0
-returns-then-n-eq0 c = search (rules, widths-over)
-
-pub be32-requires : goal.be32-requires
-be32-requires c = let h : 6 ≤ c.field_size-n.result = search (rules, field-head) in
-    omega arith
-
-pub overflow_sub-n : goal.overflow_sub-n
-overflow_sub-n c = let h : 6 ≤ c.field_size-n.result = search (rules, field-head) in
-    omega arith
-
-pub returns-then-other_width : goal.returns-then-other_width
-returns-then-other_width c = search (rules, widths-here)
-
-pub loop-at-preserved : goal.loop-at-preserved
-loop-at-preserved c = (search rules, search (rules, widths-turn))
+pub returns : goal.returns
+returns c =
+    any_from_yields_List wide_otherwise c.any.new.self _ _ c.any.ensures.ran
+    (YieldsList-from_first (λ p. p) (λ s. fields_from s.content.now s.at) (fields_from c.args.content.now 0) (search rules))
+    (λ x b q k. search (rules, tests))
+    ∙ walk-widths c.args.content.now

@@ -1,9 +1,9 @@
-use native.Mathlib.Omega.{arith}
-use Rattle.ftd.proofs.login.Writes.{no_fields, one_field}
+use borrow.Author.Rules.{rules}
+use Rattle.ftd.proofs.login.Writes.{fields_of_ending}
 use Rattle.ftd.proofs.login.ending_fields.Goals as goal
 
-pub returns-in-Nothing : goal.returns-in-Nothing
-returns-in-Nothing c = rw c.in-Nothing.is (no_fields, omega arith)
+pub returns-then-is_some : goal.returns-then-is_some
+returns-then-is_some c = search (rules, fields_of_ending)
 
-pub returns-in-Resume : goal.returns-in-Resume
-returns-in-Resume c = rw c.in-Resume.is (one_field _ _, omega arith)
+pub returns-else-is_some : goal.returns-else-is_some
+returns-else-is_some c = search (rules, fields_of_ending)

@@ -1,5 +1,6 @@
+use borrow.Author.Rules.{rules}
 use native.Mathlib.Omega.{arith}
-use Rattle.ftd.proofs.write.Puts.{by-refusal, by-room, by-writing}
+use Rattle.ftd.proofs.write.Puts.{by-refusal, by-short, by-fitting, fits-told}
 use Rattle.ftd.proofs.login.Writes.{login-size, login-long, login-broken, login-right, login-fields}
 use Rattle.ftd.proofs.login.write_login.Goals as goal
 
@@ -10,35 +11,36 @@ returns-then-tail-content c =
     (omega (arith, c.if-tail-content.true))) in
     record { answer = said.0; output = said.1 }
 
-pub returns-then-end-content : goal.returns-then-end-content
-returns-then-end-content c =
-    let said = by-refusal _ _ _ _ (login-broken _ _ _ c.ending_len-tail.ensures.0 _ c.next_piece-c.ensures c.if-end-content.true) in
+pub returns-then-c-content : goal.returns-then-c-content
+returns-then-c-content c =
+    let said = by-refusal _ _ _ _ (login-broken _ _ _ c.ending_len-tail.ensures.0 _ c.next_piece-c.ensures c.if-c-content.true) in
     record { answer = said.0; output = said.1 }
 
-pub returns-then-out-n : goal.returns-then-out-n
-returns-then-out-n c =
-    let said = by-room _ _ _
+pub returns-in_err-room : goal.returns-in_err-room
+returns-in_err-room c =
+    let said = by-short _ _ _
     (login-right c.args.content.now c.args.ending c.ending_len-tail.result c.ending_len-tail.ensures.0 _
-    c.next_piece-c.ensures (omega (arith, c.if-tail-content.false)) c.if-end-content.false)
+    c.next_piece-c.ensures (omega (arith, c.if-tail-content.false)) c.if-c-content.false)
     _ (login-size c.args.date c.args.content.now c.args.ending _ _ c.tags_len.ensures.0 c.ending_len-tail.ensures.0)
-    c.if-out-n.true in
+    _ c.room.ensures _ c.in_err-room.was _ (search rules) in
     record { answer = said.0; output = said.1 }
 
 pub put_login-requires : goal.put_login-requires
 put_login-requires c = (
-  rw (← c.tags_len.ensures.0, ← c.ending_len-tail.ensures.0) (omega arith),
+  rw (← c.tags_len.ensures.0, ← c.ending_len-tail.ensures.0)
+      (omega (arith, fits-told _ _ _ c.room.ensures c.in_ok-room.was)),
   omega (arith, c.if-tail-content.false),
   login-fields c.args.content.now c.args.ending c.ending_len-tail.result c.ending_len-tail.ensures.0 _
-      c.next_piece-c.ensures (omega (arith, c.if-tail-content.false)) c.if-end-content.false _
+      c.next_piece-c.ensures (omega (arith, c.if-tail-content.false)) c.if-c-content.false _
       c.ending_fields.ensures.0,
   omega (arith, c.next_piece-c.ensures.few, c.next_piece-c.ensures.small, c.ending_fields.ensures.1),
 )
 
 pub returns : goal.returns
 returns c =
-    let said = by-writing _ _ _
+    let said = by-fitting _ _ _
     (login-right c.args.content.now c.args.ending c.ending_len-tail.result c.ending_len-tail.ensures.0 _
-    c.next_piece-c.ensures (omega (arith, c.if-tail-content.false)) c.if-end-content.false)
-    _ (login-size c.args.date c.args.content.now c.args.ending _ _ c.tags_len.ensures.0 c.ending_len-tail.ensures.0) _
-    c.if-out-n.false c.put_login.ensures in
+    c.next_piece-c.ensures (omega (arith, c.if-tail-content.false)) c.if-c-content.false)
+    _ (login-size c.args.date c.args.content.now c.args.ending _ _ c.tags_len.ensures.0 c.ending_len-tail.ensures.0) _ c.room.ensures
+    c.in_ok-room.was _ c.put_login.ensures in
     record { answer = said.0; output = said.1 }

@@ -12,8 +12,8 @@ returns-then-body-eq0 c = search (rules, judged-link)
 pub judge_message-requires : goal.judge_message-requires
 judge_message-requires c = search (rules, body-least)
 
-pub returns-in-Broken : goal.returns-in-Broken
-returns-in-Broken c = search (rules, judged-broken)
+pub returns-in_default : goal.returns-in_default
+returns-in_default c = search (rules, judged-broken)
 
-pub returns-else-body-eq0 : goal.returns-else-body-eq0
-returns-else-body-eq0 c = search (rules, judged-message)
+pub returns : goal.returns
+returns c = search (rules, judged-message)

@@ -3,7 +3,7 @@ use Rattle.ftd.proofs.packet.Laws.{judged-verdict, parts-read}
 use Rattle.ftd.proofs.packet.read.Goals as goal
 
 pub parts-requires : goal.parts-requires
-parts-requires c = judged-verdict _ _ c.judge-j.ensures
+parts-requires c = judged-verdict _ _ c.judge.ensures
 
 pub returns : goal.returns
-returns c = rw (judged-verdict _ _ c.judge-j.ensures) at c.parts.ensures ∙ parts-read _
+returns c = rw (judged-verdict _ _ c.judge.ensures) at c.parts.ensures ∙ parts-read _

@@ -1,4 +1,5 @@
 use Prim.Native.Nat.{◌-◌, ◌<◌, ◌≤◌}
+use mathlib.Core.Logic.{inl, inr}
 use native.Mathlib.Omega.{arith}
 use lib.ListN.{length}
 use Rattle.ftd.proofs.parts.Across.{past-start, across-none, across-long, across-whole, rest-length, across-same}
@@ -7,10 +8,8 @@ use borrow.Author.Rules.{rules}
 use Rattle.ftd.proofs.parts.check_across.Goals as goal
 
 pub returns-then-n-eq0 : goal.returns-then-n-eq0
-returns-then-n-eq0 c = search (rules, across-none)
-
-pub returns-then-n-gt-PACKET_CONTENT : goal.returns-then-n-gt-PACKET_CONTENT
-returns-then-n-gt-PACKET_CONTENT c = search (rules, across-long)
+returns-then-n-eq0 c =
+    elim c.then-n-eq0.either [ inl z ↦ search (rules, across-none) | inr (z, k) ↦ search (rules, across-long) ]
 
 pub overflow_sub-more : goal.overflow_sub-more
 overflow_sub-more c =

@@ -5,12 +5,14 @@ use Rattle.ftd.proofs.parts.Laws.{none-whole}
 use Rattle.ftd.proofs.parts.Across.{head-long, both_long, whole-all, parts-ready, parts_same}
 use borrow.Author.Rules.{rules}
 use Rattle.ftd.proofs.parts.check_parts.Goals as goal
+use Rattle.ftd.proofs.parts.check_parts.Goals.{then-limit-head-via-then-limit-head, then-limit-head-via-else-limit-head+then-limit-head-2}
 
 pub returns-then-limit-head : goal.returns-then-limit-head
-returns-then-limit-head c = search (rules, head-long)
-
-pub returns-then-limit-head-2 : goal.returns-then-limit-head-2
-returns-then-limit-head-2 c = search (rules, both_long)
+returns-then-limit-head c =
+    elim c.then-limit-head.branch [
+      | then-limit-head-via-then-limit-head w ↦ search (rules, head-long)
+      | then-limit-head-via-else-limit-head+then-limit-head-2 w ↦ search (rules, both_long)
+    ]
 
 pub check_three-requires : goal.check_three-requires
 check_three-requires c =

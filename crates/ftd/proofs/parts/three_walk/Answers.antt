@@ -1,12 +1,12 @@
-use Rattle.ftd.proofs.parts.Three.{walk_first, walk-across, walk-last}
+use Rattle.ftd.proofs.parts.Three.{three-walks}
 use borrow.Author.Rules.{rules}
 use Rattle.ftd.proofs.parts.three_walk.Goals as goal
 
-pub returns-in-Refused : goal.returns-in-Refused
-returns-in-Refused c = search (rules, walk_first)
+pub returns-in_err-walk_items : goal.returns-in_err-walk_items
+returns-in_err-walk_items c = search (rules, three-walks)
 
-pub returns-in-Refused-walk_items : goal.returns-in-Refused-walk_items
-returns-in-Refused-walk_items c = search (rules, walk-across)
+pub returns-in_err-walk_items-2 : goal.returns-in_err-walk_items-2
+returns-in_err-walk_items-2 c = search (rules, three-walks)
 
-pub returns-in-Passed-walk_items : goal.returns-in-Passed-walk_items
-returns-in-Passed-walk_items c = search (rules, walk-last)
+pub returns : goal.returns
+returns c = search (rules, three-walks)

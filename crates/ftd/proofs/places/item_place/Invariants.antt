@@ -7,7 +7,4 @@ use Rattle.ftd.proofs.places.item_place.Given as goal
 
 abbrev pub invariant-loop-row : goal.invariant-loop-row
 invariant-loop-row l =
-    (l.last ≤ 379) × (l.at ≤ l.row * 65536) × (item_in l.at (take (l.last - l.row) (drop l.row table)) l.left ≡ item_of l.fid l.i)
-
-abbrev pub decreases-loop-row : goal.decreases-loop-row
-decreases-loop-row l = l.last - l.row
+    (l.row-end ≤ 379) × (l.at ≤ l.row * 65536) × (item_in l.at (take (l.row-end - l.row) (drop l.row table)) l.left ≡ item_of l.fid l.i)

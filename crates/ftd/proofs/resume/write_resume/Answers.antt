@@ -1,14 +1,14 @@
 use mathlib.Core.Path.{refl}
-use Rattle.ftd.proofs.write.Puts.{by-room, by-writing}
+use borrow.Author.Rules.{rules}
+use Rattle.ftd.proofs.write.Puts.{by-short, by-fitting}
 use Rattle.ftd.proofs.resume.write_resume.Goals as goal
 
-pub returns-then-out-lt12 : goal.returns-then-out-lt12
-returns-then-out-lt12 c =
-    let said = by-room _ _ _ refl 12 refl c.if-out-lt12.true in
+pub returns-in_err-room : goal.returns-in_err-room
+returns-in_err-room c =
+    let said = by-short _ _ _ refl 12 refl _ c.room.ensures _ c.in_err-room.was _ (search rules) in
     record { answer = said.0; output = said.1 }
 
 pub returns : goal.returns
 returns c =
-    let said = by-writing _ _ _ refl 12 refl _ c.if-out-lt12.false
-    c.put_resume.ensures in
+    let said = by-fitting _ _ _ refl 12 refl _ c.room.ensures c.in_ok-room.was _ c.put_resume.ensures in
     record { answer = said.0; output = said.1 }

@@ -1,13 +1,10 @@
 use Prim.Native.Nat.{◌+◌, ◌-◌, ◌*◌, ◌≤◌}
 use mathlib.Core.Path.{◌≡◌}
-use lib.ListN.{take, drop}
+use lib.ListN.{length, drop}
 use Rattle.ftd.specs.Signed.{pow10, digits_of}
 use Rattle.ftd.proofs.signed.digits.Given as goal
 
-abbrev pub invariant-loop-i : goal.invariant-loop-i
-invariant-loop-i l =
-    (l.from ≤ l.i) × ((l.n + 1) * pow10 (l.to - l.i) ≤ (l.start + 1) * pow10 (l.to - l.from))
-    × (digits_of l.n (drop l.i (take l.to l.s)) ≡ digits_of l.start (drop l.from (take l.to l.s)))
-
-abbrev pub decreases-loop-i : goal.decreases-loop-i
-decreases-loop-i l = l.to - l.i
+abbrev pub invariant-loop-b : goal.invariant-loop-b
+invariant-loop-b l =
+    ((l.n + 1) * pow10 (length l.b-items - l.b-index) ≤ (l.start + 1) * pow10 (length l.b-items))
+    × (digits_of l.n (drop l.b-index l.b-items) ≡ digits_of l.start l.b-items)

@@ -7,8 +7,5 @@ use Rattle.ftd.proofs.signed.put_digits.Given as goal
 
 abbrev pub invariant-loop-i : goal.invariant-loop-i
 invariant-loop-i l =
-    (l.at + l.i ≤ length l.out) × (length l.out ≡ length l.initial.out)
+    (l.at + l.i ≤ length l.out)
     × (put l.out l.at (digits_in l.i l.left) ≡ put l.initial.out l.at (digits_in l.width l.units))
-
-abbrev pub decreases-loop-i : goal.decreases-loop-i
-decreases-loop-i l = l.i

@@ -1,5 +1,7 @@
-use Rattle.ftd.proofs.table.Rule.{kind-col}
+use Rattle.ftd.specs.Table.{table}
+use Rattle.ftd.proofs.table.Rule.{kind-col, kind_column}
 use Rattle.ftd.proofs.table.kind_at.Goals as goal
 
 pub returns : goal.returns
-returns c = rw c.requires.1 (kind-col c.args.row)
+unfolding kind_column table
+returns c = kind-col c.args.row

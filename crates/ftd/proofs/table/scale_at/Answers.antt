@@ -1,5 +1,7 @@
-use Rattle.ftd.proofs.table.Rule.{scale-col}
+use Rattle.ftd.specs.Table.{table}
+use Rattle.ftd.proofs.table.Rule.{scale-col, scale_column}
 use Rattle.ftd.proofs.table.scale_at.Goals as goal
 
 pub returns : goal.returns
-returns c = rw c.requires.1 (scale-col c.args.row)
+unfolding scale_column table
+returns c = scale-col c.args.row

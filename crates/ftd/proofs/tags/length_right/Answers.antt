@@ -6,6 +6,6 @@ use Rattle.ftd.proofs.tags.length_right.Goals as goal
 pub returns-then-row-eq8 : goal.returns-then-row-eq8
 returns-then-row-eq8 c = search (rules, right-over)
 
-pub returns : goal.returns
+pub returns-else-row-eq8 : goal.returns-else-row-eq8
 unfolding lengths known_tags
-returns c = search (rules, right-row)
+returns-else-row-eq8 c = search (rules, right-row)

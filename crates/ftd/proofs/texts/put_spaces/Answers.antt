@@ -1,13 +1,9 @@
-use mathlib.Core.Path.{refl}
-use borrow.Author.Rules.{rules}
-use Rattle.ftd.proofs.texts.Laws.{spaces-turn, spaces-done}
+use Rattle.std.proofs.lemmas.List.Edits.{length-between}
+use lib.ListN.{length-replicate}
+use Rattle.ftd.proofs.bytes.Put.{mid-put}
 use Rattle.ftd.proofs.texts.put_spaces.Goals as goal
 
-pub loop-i-init : goal.loop-i-init
-loop-i-init c = (search rules, refl, refl)
-
-pub loop-i-preserved : goal.loop-i-preserved
-loop-i-preserved c = (search rules, search rules, search (rules, spaces-turn))
-
 pub returns : goal.returns
-returns c = search (rules, spaces-done)
+returns c =
+    let n = length-between c.args.out.now c.args.from c.args.to c.requires.1 in
+    mid-put _ _ _ _ _ (rw n at (c.fill.ensures.after (λ y e. e))) (length-replicate _ _)

@@ -1,12 +1,14 @@
 use borrow.Author.Rules.{rules}
-use Rattle.ftd.proofs.texts.Laws.{text-wide, text-other, text-ends}
+use borrow.Author.Tests.{tests}
+use lib.Seq.{take-length}
+use Rattle.ftd.specs.Texts.{text_fits}
 use Rattle.ftd.proofs.texts.text_fits.Goals as goal
-
-pub returns-then-width-value : goal.returns-then-width-value
-returns-then-width-value c = search (rules, text-wide)
+use Rattle.ftd.proofs.texts.text_fits.Goals.{then-value-width, else-value-width}
 
 pub returns-then-all_in : goal.returns-then-all_in
-returns-then-all_in c = search (rules, text-ends)
+unfolding text_fits
+returns-then-all_in c = search (rules, tests, take-length)
 
-pub returns : goal.returns
-returns c = search (rules, text-other)
+pub returns-else-all_in : goal.returns-else-all_in
+unfolding text_fits
+returns-else-all_in c = search (rules, tests, take-length)

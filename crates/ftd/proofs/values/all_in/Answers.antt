@@ -1,17 +1,23 @@
-use mathlib.Core.Path.{refl}
+use Prim.Native.Nat.{ℕ, ◌-◌}
+use mathlib.Core.Bool.{Bool, true, ◌&&◌}
+use mathlib.Core.Path.{◌≡◌}
+use mathlib.Core.List.{List}
+use lib.ListN.{take, drop}
 use borrow.Author.Rules.{rules}
-use Rattle.ftd.proofs.values.Checks.{all_end, all-turn}
+use borrow.Author.Tests.{tests}
+use Rattle.std.specs.List.{fold}
+use Rattle.std.proofs.lemmas.Iterator.{YieldsList-from_slice}
+use Rattle.std.proofs.lemmas.Iterator.Consumers.{fold_from_yields_List}
+use Rattle.std.proofs.lemmas.Slice.{between_is}
+use Rattle.ftd.specs.Values.Helpers.{in_class}
+use Rattle.ftd.proofs.values.Checks.{fold-every}
 use Rattle.ftd.proofs.values.all_in.Goals as goal
 
-pub loop-i-init : goal.loop-i-init
-loop-i-init c = (search rules, refl)
-
-pub loop-i-preserved : goal.loop-i-preserved
-loop-i-preserved c = (
-  search rules,
-  all-turn c.args.class c.args.s.now c.loop-i.i c.args.to c.requires.1 _ c.loop-i.good c.loop-i.invariant.1
-      c.loop-i-test.true _ c.in_class.ensures _ c.both-good.ensures,
-)
-
 pub returns : goal.returns
-returns c = search (rules, all_end)
+returns c =
+    let part : List ℕ = take (c.args.to - c.args.from) (drop c.args.from c.args.s.now) in
+    let folded : c.fold.result ≡ fold (λ (good : Bool) (b : ℕ). good && in_class c.args.class b) true part =
+    fold_from_yields_List _ (λ (good : Bool) (b : ℕ). good && in_class c.args.class b) true _ c.fold.ensures.ran
+    (YieldsList-from_slice part cc) (λ a x b q k. search (rules, tests))
+    in
+    rw (folded, fold-every (in_class c.args.class) true part, between_is c.args.s.now c.args.from c.args.to)

@@ -8,5 +8,5 @@ returns-then-s-decimals c = search (rules, float-short)
 pub returns-then-s-point-eq46 : goal.returns-then-s-point-eq46
 returns-then-s-point-eq46 c = search (rules, float-right)
 
-pub returns : goal.returns
-returns c = search (rules, float-wrong)
+pub returns-else-s-point-eq46 : goal.returns-else-s-point-eq46
+returns-else-s-point-eq46 c = search (rules, float-wrong)

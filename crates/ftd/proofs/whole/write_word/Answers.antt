@@ -1,15 +1,14 @@
-use mathlib.Core.Bool.{true}
 use mathlib.Core.Path.{refl}
-use Rattle.ftd.proofs.signed.Stores.{no_room, stored}
+use borrow.Author.Rules.{rules}
+use Rattle.ftd.proofs.write.Puts.{by-short, by-fitting}
 use Rattle.ftd.proofs.whole.write_word.Goals as goal
 
-pub returns-then-out-lt2 : goal.returns-then-out-lt2
-returns-then-out-lt2 c =
-    let said = no_room true _ _ true refl refl 2 refl c.if-out-lt2.true in
+pub returns-in_err-room : goal.returns-in_err-room
+returns-in_err-room c =
+    let said = by-short _ _ _ refl 2 refl _ c.room.ensures _ c.in_err-room.was _ (search rules) in
     record { answer = said.0; output = said.1 }
 
 pub returns : goal.returns
 returns c =
-    let said = stored true _ _ true refl refl 2 refl c.if-out-lt2.false _
-    c.put16.ensures in
+    let said = by-fitting _ _ _ refl 2 refl _ c.room.ensures c.in_ok-room.was _ c.put16.ensures in
     record { answer = said.0; output = said.1 }

@@ -1,16 +1,18 @@
 use Rattle.ftd.proofs.Tests.{tests}
 use Rattle.play.specs.Calls.{answer_with}
 use Rattle.play.proofs.calls.Rows.{holds, fails}
+use Rattle.play.proofs.calls.answer_with.Goals.{else-right-via-then-right+else-series-le65535}
+use Rattle.play.proofs.calls.answer_with.Goals.{else-right-via-else-right}
 use Rattle.play.proofs.calls.answer_with.Goals as goal
 
-pub returns-then-series-gt65535 : goal.returns-then-series-gt65535
+pub returns-then-series-le65535 : goal.returns-then-series-le65535
 unfolding answer_with
-returns-then-series-gt65535 c = search (tests, holds, fails)
-
-pub returns-then-right : goal.returns-then-right
-unfolding answer_with
-returns-then-right c = search (tests, holds, fails)
+returns-then-series-le65535 c = search (tests, holds, fails)
 
 pub returns : goal.returns
 unfolding answer_with
-returns c = search (tests, holds, fails)
+returns c =
+    elim c.else-right.branch [
+      | else-right-via-then-right+else-series-le65535 w ↦ search (tests, holds, fails)
+      | else-right-via-else-right w ↦ search (tests, holds, fails)
+    ]

@@ -1,32 +1,22 @@
 use borrow.Author.Rules.{rules}
-use Rattle.play.specs.Calls.{verb_of}
-use Rattle.play.proofs.calls.Rows.{found, passed}
+use mathlib.Core.Path.{refl, ◌∙◌}
+use Rattle.std.proofs.Common.{[]}
+use Rattle.play.specs.declared.calls.Verb.TheVariants.{Unknown}
+use Rattle.play.specs.Calls.{verb_of, end_verb_of, trading_verb_of, several_verb_of, book_verb_of}
+use Rattle.play.proofs.calls.Verbs.{named, named-here, named-behind, named-nowhere}
 use Rattle.play.proofs.calls.verb_of.Goals as goal
 
+pub loop-name-init : goal.loop-name-init
+unfolding named verb_of end_verb_of trading_verb_of several_verb_of book_verb_of
+loop-name-init c = refl
+
 pub returns-then-is_word : goal.returns-then-is_word
-unfolding verb_of
-returns-then-is_word c = search (rules, found, passed) depth 9 fits 12000
+returns-then-is_word c =
+    named-here _ c.loop-name.name-index _ c.args.word.now (search rules) (search rules) ∙ c.loop-name.invariant
 
-pub returns-then-is_word-2 : goal.returns-then-is_word-2
-unfolding verb_of
-returns-then-is_word-2 c = search (rules, found, passed) depth 9 fits 12000
-
-pub returns-then-is_word-3 : goal.returns-then-is_word-3
-unfolding verb_of
-returns-then-is_word-3 c = search (rules, found, passed) depth 9 fits 12000
-
-pub returns-then-is_word-4 : goal.returns-then-is_word-4
-unfolding verb_of
-returns-then-is_word-4 c = search (rules, found, passed) depth 9 fits 12000
-
-pub returns-then-is_word-5 : goal.returns-then-is_word-5
-unfolding verb_of
-returns-then-is_word-5 c = search (rules, found, passed) depth 9 fits 12000
-
-pub returns-then-is_word-6 : goal.returns-then-is_word-6
-unfolding verb_of
-returns-then-is_word-6 c = search (rules, found, passed) depth 9 fits 12000
+pub loop-name-preserved : goal.loop-name-preserved
+loop-name-preserved c =
+    named-behind _ c.loop-name.name-index (record { ref_ptr = (0, 0); now = [] }, Unknown) c.args.word.now (search rules) (search rules) ∙ c.loop-name.invariant
 
 pub returns : goal.returns
-unfolding verb_of
-returns c = search (rules, found, passed) depth 9 fits 12000
+returns c = named-nowhere _ c.loop-name.name-index c.args.word.now (search rules) ∙ c.loop-name.invariant

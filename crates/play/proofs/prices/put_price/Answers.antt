@@ -8,7 +8,7 @@ use Rattle.play.proofs.prices.put_price.Goals as goal
 pub returns-then-price-lt0 : goal.returns-then-price-lt0
 returns-then-price-lt0 c = (
   price-below (omega arith) c.args.price _ _ c.put_byte-n.ensures c.put_units.ensures.0
-      c.size_of-units.ensures.0 c.if-price-lt0.true (to_z-of_z w64 _ c.ranges.price),
+      c.unsigned_abs-units.ensures.value c.if-price-lt0.true (to_z-of_z w64 _ c.ranges.price),
   search rules,
 )
 

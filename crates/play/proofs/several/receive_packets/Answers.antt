@@ -32,8 +32,8 @@ received_at-to-requires c = (search (rules, packet-fits), search rules)
 pub receive_turn-turn-requires : goal.receive_turn-turn-requires
 receive_turn-turn-requires c = (search (rules, answer-in), search rules)
 
-pub returns-in-Stop : goal.returns-in-Stop
-returns-in-Stop c = (search (rules, stop-turn), search (rules, stop-lines), search rules, search rules)
+pub returns-in-Some : goal.returns-in-Some
+returns-in-Some c = (search (rules, stop-turn), search (rules, stop-lines), search rules, search rules)
 
 pub loop-end-preserved : goal.loop-end-preserved
 loop-end-preserved c = (

@@ -1,22 +1,24 @@
 use borrow.Author.Rules.{rules}
 use native.Mathlib.Omega.{arith}
-use mathlib.Core.Path.{refl}
-use Rattle.play.specs.State.{all_checkpoints}
-use Rattle.play.proofs.state.Turns.{lines-first, lines-turn, lines-over}
+use Rattle.flow.proofs.series.Places.{unmapped}
+use Rattle.play.specs.State.{all_checkpoints, checkpoint_lines, no_checkpoint}
+use Rattle.play.proofs.state.Turns.{lines-first, front-turn, front-over}
 use Rattle.play.proofs.state.put_checkpoints.Goals as goal
 
-pub loop-i-init : goal.loop-i-init
-loop-i-init c = (search rules, search rules, refl, search (rules, lines-first))
+pub loop-one-init : goal.loop-one-init
+loop-one-init c = (search rules, search (rules, lines-first))
 
-pub loop-i-preserved : goal.loop-i-preserved
-loop-i-preserved c = (
+pub loop-one-preserved : goal.loop-one-preserved
+loop-one-preserved c = (
   search rules,
-  search rules,
-  search rules,
-  lines-turn _ c.loop-i.i (omega arith) c.loop-i.invariant.3
-      c.put_checkpoint-to.ensures.0,
+  front-turn c.names_used.result c.args.checkpoints.places (search (rules, unmapped)) checkpoint_lines (no_checkpoint) c.loop-one.one-index
+      c.loop-one-test.true (omega arith) c.loop-one.invariant.1 c.put_checkpoint-to.ensures.0,
 )
 
 pub returns : goal.returns
 unfolding all_checkpoints
-returns c = (search (rules, lines-over), search rules)
+returns c = (
+  front-over c.names_used.result c.args.checkpoints.places (search (rules, unmapped)) checkpoint_lines (no_checkpoint) c.loop-one.one-index _
+      c.names_used.ensures.0 (search rules) c.loop-one-test.false c.loop-one.invariant.1,
+  search rules,
+)

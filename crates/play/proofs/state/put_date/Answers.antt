@@ -5,5 +5,5 @@ use Rattle.play.proofs.state.put_date.Goals as goal
 pub returns-in-None : goal.returns-in-None
 returns-in-None c = (search (rules, date-none), search rules)
 
-pub returns-in-At : goal.returns-in-At
-returns-in-At c = (search (rules, date-at), search rules)
+pub returns-in-Some : goal.returns-in-Some
+returns-in-Some c = (search (rules, date-at), search rules)

@@ -1,23 +1,19 @@
-use mathlib.Core.Path.{refl}
-use native.Mathlib.Omega.{arith}
 use borrow.Author.Rules.{rules}
+use native.Mathlib.Omega.{arith}
 use Rattle.listing.proofs.Texts.{put-none}
 use Rattle.play.specs.Lines.{hex_bytes}
 use Rattle.play.proofs.text.Turns.{pairs-turn, pairs-over}
 use Rattle.play.proofs.text.put_pairs.Goals as goal
 
-pub loop-i-init : goal.loop-i-init
+pub loop-x-init : goal.loop-x-init
 unfolding hex_bytes
-loop-i-init c = (search rules, search rules, refl, record { bytes = put-none _ _; place = omega arith })
+loop-x-init c = (search rules, record { bytes = put-none _ _; place = omega arith })
 
-pub loop-i-preserved : goal.loop-i-preserved
-loop-i-preserved c = (
+pub loop-x-preserved : goal.loop-x-preserved
+loop-x-preserved c = (
   search rules,
-  search rules,
-  search rules,
-  pairs-turn c.args.bytes.now c.loop-i.i _ (omega arith)
-      c.loop-i-test.true c.loop-i.invariant.3
-      c.wide32.ensures.0 c.put_hex-to.ensures.0,
+  pairs-turn c.args.bytes.now c.loop-x.x-index _ (omega arith) c.loop-x-test.true c.loop-x.invariant.1 c.wide32.ensures.0
+      c.put_hex-to.ensures.0,
 )
 
 pub returns : goal.returns

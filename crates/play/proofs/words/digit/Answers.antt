@@ -3,30 +3,30 @@ use Rattle.ftd.proofs.Tests.{tests}
 use Rattle.play.specs.Words.{digit_value}
 use Rattle.play.proofs.words.digit.Goals as goal
 
-pub returns-then-x-lt48 : goal.returns-then-x-lt48
+pub returns-in-48-to-57 : goal.returns-in-48-to-57
 unfolding digit_value
-returns-then-x-lt48 c = (search tests, search rules)
+returns-in-48-to-57 c = (search tests, search rules)
 
-pub returns-then-x-le57 : goal.returns-then-x-le57
+pub returns-in-65-to-70 : goal.returns-in-65-to-70
 unfolding digit_value
-returns-then-x-le57 c = (search tests, search rules)
+returns-in-65-to-70 c = (search tests, search rules)
 
-pub returns-then-x-lt65 : goal.returns-then-x-lt65
+pub returns-in-97-to-102 : goal.returns-in-97-to-102
 unfolding digit_value
-returns-then-x-lt65 c = (search tests, search rules)
+returns-in-97-to-102 c = (search tests, search rules)
 
-pub returns-then-x-le70 : goal.returns-then-x-le70
+pub returns-in_default : goal.returns-in_default
 unfolding digit_value
-returns-then-x-le70 c = (search tests, search rules)
+returns-in_default c = (search tests, search rules)
 
-pub returns-then-x-lt97 : goal.returns-then-x-lt97
+pub returns-in_default-2 : goal.returns-in_default-2
 unfolding digit_value
-returns-then-x-lt97 c = (search tests, search rules)
+returns-in_default-2 c = (search tests, search rules)
 
-pub returns-then-x-le102 : goal.returns-then-x-le102
+pub returns-in_default-3 : goal.returns-in_default-3
 unfolding digit_value
-returns-then-x-le102 c = (search tests, search rules)
+returns-in_default-3 c = (search tests, search rules)
 
-pub returns : goal.returns
+pub returns-in_default-4 : goal.returns-in_default-4
 unfolding digit_value
-returns c = (search tests, search rules)
+returns-in_default-4 c = (search tests, search rules)

@@ -7,6 +7,6 @@ pub returns-then-has_arguments : goal.returns-then-has_arguments
 unfolding has_form
 returns-then-has_arguments c = search (rules, found, passed)
 
-pub returns : goal.returns
+pub returns-else-has_arguments : goal.returns-else-has_arguments
 unfolding has_form
-returns c = search (rules, found, passed)
+returns-else-has_arguments c = search (rules, found, passed)

@@ -1,11 +1,7 @@
-use Prim.Native.Nat.{◌+◌, ◌-◌, ◌≤◌}
+use Prim.Native.Nat.{◌-◌, ◌+◌}
 use mathlib.Core.Path.{◌≡◌}
 use Rattle.play.specs.Words.{numbers_behind, number_count}
 use Rattle.play.proofs.words.number_count.Given as goal
 
 abbrev pub invariant-loop-n : goal.invariant-loop-n
-invariant-loop-n l =
-    (l.n ≤ l.most + 1) × (numbers_behind l.top l.most l.line l.i l.n ((l.most + 1) - l.n) ≡ number_count l.top l.most l.line l.i)
-
-abbrev pub decreases-loop-n : goal.decreases-loop-n
-decreases-loop-n l = (l.most + 1) - l.n
+invariant-loop-n l = numbers_behind l.top l.most l.line l.i l.n ((l.most + 1) - l.n) ≡ number_count l.top l.most l.line l.i

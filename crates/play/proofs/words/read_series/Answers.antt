@@ -1,21 +1,15 @@
 use borrow.Author.Rules.{rules}
 use native.Mathlib.Omega.{arith}
-use mathlib.Core.Path.{refl}
-use lib.ListN.{length-set}
 use Rattle.play.specs.Words.{series_at}
-use Rattle.play.proofs.words.Arguments.{list-first, list-turn, list_over}
+use Rattle.play.proofs.words.Arguments.{list-first, list-turn, list-whole}
 use Rattle.play.proofs.words.read_series.Goals as goal
 
 pub loop-k-init : goal.loop-k-init
-loop-k-init c = (search rules, refl, search (rules, list-first))
+loop-k-init c = search (rules, list-first)
 
 pub loop-k-preserved : goal.loop-k-preserved
-loop-k-preserved c = (
-  search rules,
-  search (rules, length-set),
-  list-turn (series_at c.args.line.now) c.args.list.now c.args.i c.loop-k.list c.loop-k.k c.loop-k.invariant.2 _ c.loop-k.invariant.1 (omega arith)
-      c.series_at.ensures.0,
-)
+loop-k-preserved c =
+    list-turn (series_at c.args.line.now) _ c.args.i c.loop-k.x-items c.loop-k.k c.loop-k.invariant _ c.loop-k.auto.x-items (omega arith) c.series_at.ensures.0
 
 pub returns : goal.returns
-returns c = search (rules, list_over)
+returns c = list-whole (series_at c.args.line.now) c.args.list.now c.args.i c.loop-k.x-items c.loop-k.k c.args.n c.loop-k.invariant (search rules) (search rules) (search rules)

@@ -3,5 +3,5 @@ use borrow.Author.Rules.{rules}
 use Rattle.relay.proofs.relay.confirm_past.Goals as goal
 
 -- src/relay.rt:88:1
-pub returns-in-Refused : goal.returns-in-Refused
-returns-in-Refused c = search (rules, past_is)
+pub returns-in-Err : goal.returns-in-Err
+returns-in-Err c = search (rules, past_is)

@@ -5,6 +5,6 @@ pub returns-then-buying : goal.returns-then-buying
 unfolding level_of
 returns-then-buying c = rw c.if-buying.true c.level_in.ensures
 
-pub returns : goal.returns
+pub returns-else-buying : goal.returns-else-buying
 unfolding level_of
-returns c = rw c.if-buying.false c.level_in-2.ensures
+returns-else-buying c = rw c.if-buying.false c.level_in-else-buying.ensures

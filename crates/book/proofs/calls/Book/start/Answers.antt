@@ -1,14 +1,17 @@
-use Rattle.book.proofs.calls.Steps.{start-long, start-wrong, start_right, ten-put}
+use Rattle.book.proofs.calls.Steps.{start-long, start-wrong, start_right}
 use Rattle.book.proofs.calls.Book.start.Goals as goal
+use Rattle.book.proofs.calls.Book.start.Goals.{then-code-ne10-via-then-code-ne10}
+use Rattle.book.proofs.calls.Book.start.Goals.{then-code-ne10-via-else-code-ne10+then-not-is_value}
 
-pub returns-then-is_value : goal.returns-then-is_value
-returns-then-is_value c = let t = ten-put _ c.args.code.now c.copy_at.ensures c.if-code-eq10.true in
-    simp (c.no_sums.ensures, c.no_levels-then-is_value.ensures, c.no_levels.ensures, t)
-    (start_right c.args.self c.args.code.now c.if-code-eq10.true _ c.is_value.ensures c.if-is_value.true)
-
-pub returns-then-code-eq10 : goal.returns-then-code-eq10
-returns-then-code-eq10 c = start-wrong c.args.self c.args.code.now c.if-code-eq10.true _ c.is_value.ensures c.if-is_value.false _
-    c.refused.ensures
+pub returns-then-code-ne10 : goal.returns-then-code-ne10
+returns-then-code-ne10 c =
+    elim c.then-code-ne10.branch [
+      | then-code-ne10-via-then-code-ne10 w ↦ start-long c.args.self c.args.code.now w.if-code-ne10.true _ c.refused.ensures
+      | then-code-ne10-via-else-code-ne10+then-not-is_value w ↦
+          start-wrong c.args.self c.args.code.now w.if-code-ne10.false _ w.is_value.ensures w.if-not-is_value.true _ c.refused.ensures
+    ]
 
 pub returns : goal.returns
-returns c = start-long c.args.self c.args.code.now c.if-code-eq10.false _ c.refused-2.ensures
+returns c =
+    simp (c.copy_from_slice.ensures.after, c.fresh-book.ensures)
+    (start_right c.args.self c.args.code.now c.if-code-ne10.false _ c.is_value.ensures c.if-not-is_value.false)

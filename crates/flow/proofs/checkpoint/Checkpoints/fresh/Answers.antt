@@ -5,4 +5,4 @@ use Rattle.flow.proofs.checkpoint.Checkpoints.fresh.Goals as goal
 
 pub returns : goal.returns
 unfolding fresh_checkpoints fresh_receiver
-returns c = refl
+returns c = rw c.fresh.ensures refl

@@ -1,5 +1,4 @@
 use borrow.Author.Rules.{rules}
-use Rattle.flow.proofs.series.Places.{unmapped}
 use Rattle.flow.proofs.checkpoint.Letters.{right-few}
 use Rattle.flow.proofs.checkpoint.Places.{name-inside, keep-wrong, keep-unused, keep-used}
 use Rattle.flow.proofs.checkpoint.Checkpoints.keep.Goals as goal
@@ -13,8 +12,8 @@ name_code-code-requires c = search (rules, right-few)
 pub with_at-requires : goal.with_at-requires
 with_at-requires c = search (rules, name-inside)
 
-pub returns-in-Unused : goal.returns-in-Unused
-returns-in-Unused c = search (rules, keep-unused, unmapped)
+pub returns-in_default : goal.returns-in_default
+returns-in_default c = search (rules, keep-unused)
 
-pub returns-in-At : goal.returns-in-At
-returns-in-At c = search (rules, keep-used)
+pub returns : goal.returns
+returns c = search (rules, keep-used)

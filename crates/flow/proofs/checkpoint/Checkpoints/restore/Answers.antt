@@ -17,12 +17,12 @@ offset_bounds-self-i c = search (rules, name-scaled)
 pub bounds-self-i : goal.bounds-self-i
 bounds-self-i c = search (rules, name-inside)
 
-pub returns-in-Unused : goal.returns-in-Unused
-returns-in-Unused c = search (rules, restore-unused)
+pub returns-in_default : goal.returns-in_default
+returns-in_default c = search (rules, restore-unused)
 
-pub returns-in-At : goal.returns-in-At
-returns-in-At c =
+pub returns : goal.returns
+returns c =
     let four : length c.args.self.places ≡ 4 = search rules in
     restore-used c.args.self c.args.end c.args.name.now _ c.wrong_name.ensures
     c.if-wrong_name.false _ c.name_code.ensures _ c.find.ensures _
-    c.in-At.is four _ _ c.bring_back.ensures
+    c.in-Some.is four _ _ c.bring_back.ensures

@@ -1,19 +1,9 @@
 use borrow.Author.Rules.{rules}
-use Rattle.flow.proofs.receiver.Lookups.{found_inside, found-scaled}
 use Rattle.flow.proofs.receive.Back.{drop-unknown, drop-found}
 use Rattle.flow.proofs.receiver.Receiver.drop_chain.Goals as goal
 
-pub offset_bounds-all-i : goal.offset_bounds-all-i
-offset_bounds-all-i c = search (rules, found-scaled)
+pub returns-in_default : goal.returns-in_default
+returns-in_default c = search (rules, drop-unknown)
 
-pub bounds-all-i : goal.bounds-all-i
-bounds-all-i c = search (rules, found_inside)
-
-pub with_at-requires : goal.with_at-requires
-with_at-requires c = search (rules, found_inside)
-
-pub returns-in-Unknown : goal.returns-in-Unknown
-returns-in-Unknown c = search (rules, drop-unknown)
-
-pub returns-in-At : goal.returns-in-At
-returns-in-At c = search (rules, drop-found)
+pub returns : goal.returns
+returns c = search (rules, drop-found)

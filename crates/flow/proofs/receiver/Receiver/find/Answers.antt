@@ -1,35 +1,24 @@
+use Prim.Native.Nat.{ℕ}
 use mathlib.Core.Path.{◌≡◌, refl}
-use borrow.Author.Rules.{rules}
 use native.Mathlib.Omega.{arith}
-use lib.ListN.{length}
-use Rattle.flow.specs.Ends.{new_kept, is_open, kept_series}
-use Rattle.flow.proofs.series.Places.{place_here, place-turn, place_none, place_end}
+use lib.ListN.{length, take, length-take}
+use Rattle.std.specs.Prelude.{Some, None}
+use Rattle.std.specs.List.{position}
+use Rattle.flow.specs.declared.receiver.Receiver.{Receiver}
+use Rattle.flow.specs.Ends.{is_open, kept_series}
+use Rattle.flow.specs.Helpers.{FindsKept}
+use Rattle.flow.specs.Types.{SeriesPlace}
+use Rattle.flow.proofs.series.Positions.{has, absent, found}
 use Rattle.flow.proofs.receiver.Lookups.{kept_number, eight}
 use Rattle.flow.proofs.receiver.Receiver.find.Goals as goal
 
-pub loop-i-init : goal.loop-i-init
-loop-i-init c = (search rules, refl)
-
-pub returns-then-i-kept : goal.returns-then-i-kept
+finds : (e : Receiver) (s : ℕ) (r : SeriesPlace) → length e.kept.series ≡ 8
+    → r ≡ position (has kept_number s) (take e.kept.count e.kept.series) → FindsKept e s r
 unfolding is_open kept_series
-returns-then-i-kept c = search (rules, place_none)
-
-pub returns-then-one-series : goal.returns-then-one-series
-unfolding is_open kept_series
-returns-then-one-series c =
-    let h : length c.args.self.kept.series ≡ 8 = (eight c.args.self _ c.well_formed.0).kept in
-    let here = place_here kept_number c.args.series c.args.self.kept.series c.args.self.kept.count c.loop-i.i (new_kept 0) in
-    let both = here (search rules) (omega arith) c.loop-i.invariant.1 (search rules) in
-    (both.0, both.1, search rules)
-
-pub loop-i-preserved : goal.loop-i-preserved
-loop-i-preserved c =
-    let h : length c.args.self.kept.series ≡ 8 = (eight c.args.self _ c.well_formed.0).kept in
-    let turn = place-turn kept_number c.args.series c.args.self.kept.series c.loop-i.i (new_kept 0) (omega arith) c.loop-i.invariant.1 in
-    (search rules, turn (search rules))
+finds e s None h p = absent kept_number s (take e.kept.count e.kept.series) None p refl
+finds e s (Some i) h p =
+    let two = found kept_number s (take e.kept.count e.kept.series) (Some i) p i refl in
+    (two.0, two.1, omega (arith, simp length-take at two.2))
 
 pub returns : goal.returns
-unfolding is_open kept_series
-returns c =
-    let h : length c.args.self.kept.series ≡ 8 = (eight c.args.self _ c.well_formed.0).kept in
-    place_end kept_number c.args.series c.args.self.kept.series c.args.self.kept.count c.loop-i.i c.loop-i.invariant.1 (omega arith)
+returns c = finds c.args.self c.args.series c.place.result (eight c.args.self _ c.well_formed.0).kept c.place.ensures

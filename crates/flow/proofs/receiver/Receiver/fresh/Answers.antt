@@ -3,4 +3,4 @@ use Rattle.flow.proofs.receiver.Receiver.fresh.Goals as goal
 
 pub returns : goal.returns
 unfolding fresh_receiver
-returns c = rw c.no_line.ensures
+returns c = rw (c.new.ensures, c.no_line.ensures)

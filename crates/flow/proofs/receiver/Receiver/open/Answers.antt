@@ -1,13 +1,14 @@
 use borrow.Author.Rules.{rules}
+use Rattle.std.proofs.Common.{arith}
+use Rattle.std.proofs.lemmas.Grind.{common_steps}
+use Rattle.flow.specs.Receiving.{open_end_of}
 use Rattle.flow.proofs.series.Rule.{right-few}
-use Rattle.flow.proofs.receiver.Opening.{opening-again, opening-wrong, opening-done}
+use Rattle.flow.proofs.receiver.Opening.{opening-done}
 use Rattle.flow.proofs.receiver.Receiver.open.Goals as goal
 
-pub returns-then-kept-gt0 : goal.returns-then-kept-gt0
-returns-then-kept-gt0 c = search (rules, opening-again)
-
-pub returns-then-wrong_series : goal.returns-then-wrong_series
-returns-then-wrong_series c = search (rules, opening-wrong)
+pub returns-then-self-gt0 : goal.returns-then-self-gt0
+unfolding open_end_of
+returns-then-self-gt0 c = grind (arith, common_steps)
 
 pub new_kept-requires : goal.new_kept-requires
 new_kept-requires c = search (rules, right-few)

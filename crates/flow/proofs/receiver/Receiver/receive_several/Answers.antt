@@ -10,11 +10,11 @@ loop-end-init c = (search rules, search rules, search (rules, start-turn receivi
 pub returns-then-n-eq0 : goal.returns-then-n-eq0
 returns-then-n-eq0 c = search (rules, rest-turn receiving some-packet)
 
-pub receive_turn-turn-requires : goal.receive_turn-turn-requires
-receive_turn-turn-requires c = (search (rules, answer-in), search rules)
+pub receive_turn-requires : goal.receive_turn-requires
+receive_turn-requires c = (search (rules, answer-in), search rules)
 
-pub returns-in-Stop : goal.returns-in-Stop
-returns-in-Stop c = search (rules, stop-turn)
+pub returns-in-Some : goal.returns-in-Some
+returns-in-Some c = search (rules, stop-turn)
 
 pub loop-end-preserved : goal.loop-end-preserved
 loop-end-preserved c = (search rules, search rules, search (rules, on-turn))

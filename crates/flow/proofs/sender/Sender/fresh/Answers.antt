@@ -4,4 +4,4 @@ use Rattle.flow.proofs.sender.Sender.fresh.Goals as goal
 
 pub returns : goal.returns
 unfolding fresh_sender
-returns c = refl
+returns c = rw c.new.ensures refl

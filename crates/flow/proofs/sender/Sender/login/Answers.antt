@@ -6,13 +6,13 @@ use Rattle.flow.proofs.sender.Sender.login.Goals as goal
 pub returns-then-not_one_message : goal.returns-then-not_one_message
 returns-then-not_one_message c = search (rules, not-message)
 
-pub overflow_add-at : goal.overflow_add-at
-overflow_add-at c =
+pub overflow_add-asked : goal.overflow_add-asked
+overflow_add-asked c =
     let h = read-inside c.args.packet.now c.read_dated-d.result c.read_dated-d.ensures c.in-Message.header c.in-Message.extension c.in-Message.asked c.in-Message.is in
     omega (arith, h, c.well_formed.1.1.0)
 
-pub slice_bounds-log_in-end : goal.slice_bounds-log_in-end
-slice_bounds-log_in-end c =
+pub slice_bounds-asked-end : goal.slice_bounds-asked-end
+slice_bounds-asked-end c =
     let h = read-inside c.args.packet.now c.read_dated-d.result c.read_dated-d.ensures c.in-Message.header c.in-Message.extension c.in-Message.asked c.in-Message.is in
     omega (arith, h)
 

@@ -5,7 +5,7 @@ use Rattle.flow.proofs.sender.Sender.publish.Goals as goal
 
 pub publish_passed-requires : goal.publish_passed-requires
 publish_passed-requires c =
-    sym c.check_content.ensures ∙ c.in-Passed.is
+    sym c.check_content.ensures ∙ c.in_default.is
 
-pub returns-in-Refused : goal.returns-in-Refused
-returns-in-Refused c = search (rules, publish-content)
+pub returns-in-Err : goal.returns-in-Err
+returns-in-Err c = search (rules, publish-content)

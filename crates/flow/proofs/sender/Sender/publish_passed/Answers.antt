@@ -5,7 +5,7 @@ use Rattle.flow.proofs.sender.Sender.publish_passed.Goals as goal
 
 pub publish_at-requires : goal.publish_at-requires
 publish_at-requires c =
-    (c.requires, found_at _ _ _ _ c.find.ensures c.in-At.is)
+    (c.requires, found_at _ _ _ _ c.find.ensures c.in-Some.is)
 
-pub returns-in-Unknown : goal.returns-in-Unknown
-returns-in-Unknown c = search (rules, publish-unknown)
+pub returns-in_default : goal.returns-in_default
+returns-in_default c = search (rules, publish-unknown)

@@ -16,8 +16,8 @@ returns-then-n-eq0 c = search (rules, rest-turn publishing some-record)
 pub publish_record-step-requires : goal.publish_record-step-requires
 publish_record-step-requires c = search (rules, ten-here)
 
-pub returns-in-Refused : goal.returns-in-Refused
-returns-in-Refused c = search (rules, stop-turn)
+pub returns-in-Err : goal.returns-in-Err
+returns-in-Err c = search (rules, stop-turn)
 
 pub loop-end-preserved : goal.loop-end-preserved
 loop-end-preserved c = (search rules, search rules, search (rules, on-turn))

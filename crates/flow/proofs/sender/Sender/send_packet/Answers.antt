@@ -5,10 +5,10 @@ use Rattle.flow.proofs.sender.Sends.{found_none, found-refused, entry-inside, en
 use borrow.Author.Rules.{rules}
 use Rattle.flow.proofs.sender.Sender.send_packet.Goals as goal
 
-pub overflow_add-start : goal.overflow_add-start
-overflow_add-start c =
+pub overflow_add-end : goal.overflow_add-end
+overflow_add-end c =
     let h =
-    entry-inside _ _ _ _ c.find_next.ensures _ _ _ _ c.in-Entry.is in
+    entry-inside _ _ _ _ c.find_next.ensures c.in-Ok-Some.next.place c.in-Ok-Some.next.number c.in-Ok-Some.next.start c.in-Ok-Some.next.size (search rules) in
     omega (arith, c)
 
 pub slice_bounds-send_piece-end : goal.slice_bounds-send_piece-end
@@ -17,19 +17,19 @@ slice_bounds-send_piece-end c = search (rules, entry-inside)
 pub send_piece-requires : goal.send_piece-requires
 send_piece-requires c = search (rules, entry-lent)
 
-pub returns-in-Drained : goal.returns-in-Drained
-returns-in-Drained c =
-    let h = found_none _ _ _ _ c.find_next.ensures c.in-Drained.is in
+pub returns-in-Ok-None : goal.returns-in-Ok-None
+returns-in-Ok-None c =
+    let h = found_none _ _ _ _ c.find_next.ensures (search rules) in
     comes-to sent_packet_said _ _ _ _ _ (h _).1 (refl, refl, refl)
 
-pub returns-in-Refused : goal.returns-in-Refused
-returns-in-Refused c =
-    let h = found-refused _ _ _ _ c.find_next.ensures _ c.in-Refused.is in
+pub returns-in-Err : goal.returns-in-Err
+returns-in-Err c =
+    let h = found-refused _ _ _ _ c.find_next.ensures _ c.in-Err.is in
     comes-to sent_packet_said _ _ _ _ _ (h _).1 (refl, refl, refl)
 
-pub returns-in-Entry : goal.returns-in-Entry
-returns-in-Entry c =
+pub returns-in-Ok-Some : goal.returns-in-Ok-Some
+returns-in-Ok-Some c =
     let h =
-    entry-comes _ _ _ _ c.find_next.ensures _ _ _ _
-    c.in-Entry.is in
+    entry-comes _ _ _ _ c.find_next.ensures c.in-Ok-Some.next.place c.in-Ok-Some.next.number c.in-Ok-Some.next.start c.in-Ok-Some.next.size
+    (rw c.in-Ok-Some.field-0-is at c.in-Ok-Some.is) in
     comes-to sent_packet_said _ _ _ _ _ (h _).1 c.send_piece.ensures

@@ -5,19 +5,19 @@ use Rattle.relay.proofs.relay.Relay.confirm_login.Goals as goal
 pub returns-then-is_late : goal.returns-then-is_late
 returns-then-is_late c =
     confirm-late c.args.self c.args.places.now c.args.series c.args.packet.now c.args.log.now c.confirm_login-step.result
-    c.confirm_login-step.ensures c.read_dated-d.result c.read_dated-d.ensures c.is_late.result
+    c.confirm_login-step.ensures c.read_dated-date.result c.read_dated-date.ensures c.is_late.result
     c.is_late.ensures c.if-is_late.true
 
 -- src/relay.rt:310:5
-pub returns-in-Last : goal.returns-in-Last
-returns-in-Last c =
+pub returns-in-Ok : goal.returns-in-Ok
+returns-in-Ok c =
     confirm-taken c.args.self c.args.places.now c.args.series c.args.packet.now c.args.log.now c.confirm_login-step.result
-    c.confirm_login-step.ensures c.read_dated-d.result c.read_dated-d.ensures c.is_late.result
-    c.is_late.ensures c.if-is_late.false _ c.in-Last.is _ _ c.confirmed.ensures
+    c.confirm_login-step.ensures c.read_dated-date.result c.read_dated-date.ensures c.is_late.result
+    c.is_late.ensures c.if-is_late.false _ c.in-Ok.is _ _ c.confirmed.ensures
 
 -- src/relay.rt:310:5
-pub returns-in-Refused : goal.returns-in-Refused
-returns-in-Refused c =
+pub returns-in-Err : goal.returns-in-Err
+returns-in-Err c =
     confirm-refused c.args.self c.args.places.now c.args.series c.args.packet.now c.args.log.now c.confirm_login-step.result
-    c.confirm_login-step.ensures c.read_dated-d.result c.read_dated-d.ensures c.is_late.result
-    c.is_late.ensures c.if-is_late.false _ c.in-Refused.is _ c.with_receiver.ensures
+    c.confirm_login-step.ensures c.read_dated-date.result c.read_dated-date.ensures c.is_late.result
+    c.is_late.ensures c.if-is_late.false _ c.in-Err.is _ c.with_receiver.ensures

@@ -10,16 +10,16 @@ publish_below-step-requires c = (
 )
 
 -- src/relay.rt:421:5
-pub returns-in-Number : goal.returns-in-Number
-returns-in-Number c =
+pub returns : goal.returns
+returns c =
     handed-is c.args.self c.args.packet.now c.args.log.now c.args.buffer.now c.args.d c.requires.0
     c.args.tid c.args.origin c.args.all c.requires.1 c.publish_below-step.result _
-    c.publish_below-step.ensures _ c.in-Number.is _ _ c.keep.ensures
+    c.publish_below-step.ensures _ c.in_default.is _ _ c.keep.ensures
 
 -- src/relay.rt:421:5
-pub returns-in-Refused : goal.returns-in-Refused
-returns-in-Refused c =
+pub returns-in-Err : goal.returns-in-Err
+returns-in-Err c =
     refused-is c.args.self c.args.packet.now c.args.log.now c.args.buffer.now c.args.d c.requires.0
     c.args.tid c.args.origin c.args.all c.requires.1 c.publish_below-step.result _
-    c.publish_below-step.ensures _ c.in-Refused.is _ c.drop_chain-end.ensures _
+    c.publish_below-step.ensures _ c.in-Err.is _ c.drop_chain.ensures _
     c.with_receiver.ensures

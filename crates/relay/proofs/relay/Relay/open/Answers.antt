@@ -11,9 +11,9 @@ pub all_reserves-requires : goal.all_reserves-requires
 all_reserves-requires c = search (rules, few-reserves)
 
 -- src/relay.rt:180:5
-pub returns-in-Done : goal.returns-in-Done
-returns-in-Done c = search (rules, open-taken)
+pub returns : goal.returns
+returns c = search (rules, open-taken)
 
 -- src/relay.rt:180:5
-pub returns-in-Refused : goal.returns-in-Refused
-returns-in-Refused c = search (rules, open-refused)
+pub returns-in-Err : goal.returns-in-Err
+returns-in-Err c = search (rules, open-refused)

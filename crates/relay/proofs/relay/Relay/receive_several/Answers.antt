@@ -11,12 +11,12 @@ pub returns-then-n-eq0 : goal.returns-then-n-eq0
 returns-then-n-eq0 c = search (rules, rest-box)
 
 -- src/several.rt:44:17
-pub receive_turn-turn-requires : goal.receive_turn-turn-requires
-receive_turn-turn-requires c = (search (rules, answer-in), search rules)
+pub receive_turn-requires : goal.receive_turn-requires
+receive_turn-requires c = (search (rules, answer-in), search rules)
 
 -- src/several.rt:47:21
-pub returns-in-Stop : goal.returns-in-Stop
-returns-in-Stop c = search (rules, stop-box)
+pub returns-in-Some : goal.returns-in-Some
+returns-in-Some c = search (rules, stop-box)
 
 -- src/several.rt:30:9
 pub loop-end-preserved : goal.loop-end-preserved

@@ -1,2 +1,0 @@
--- The laws of kinds.
-pub mod Numbers

@@ -1,7 +1,0 @@
-use native.Mathlib.Omega.{arith}
-use Rattle.fix.proofs.text.Turns.{then-put}
-use Rattle.fix.proofs.text.put_two.Goals as goal
-
-pub returns : goal.returns
-returns c =
-    then-put _ _ _ _ _ _ (omega arith) c.put_one.ensures c.put_one-2.ensures
