@@ -99,7 +99,7 @@ pub record Shows (b : Book) (es : List Event) : Type 0 where
   -- and of the selling side one with a lower price.
   pub from_lowest : (i j : ℕ) (p : ℤ) (n : ℕ) → i < j → level_of b false j ≡ some_level p n
       → (r : ℤ) × (m : ℕ) × (level_of b false i ≡ some_level r m) × (lt_z r p ≡ true)
-  -- some_level most 64.
+  -- At most 64.
   pub few : (buying : Bool) (i : ℕ) → 64 ≤ i → level_of b buying i ≡ None
   -- The mean is that of the two sums.
   pub mean : book_mean b ≡ mean_of (turnover_of es) (volume_of es)

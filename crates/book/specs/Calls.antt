@@ -99,7 +99,7 @@ match_check b o =
     (cond (lacks (quantity_at false o.price b.selling) o.quantity) (Err Quantity)
     (cond (ltb 1000000 o.quantity) (Err Volume) (Ok tt)))
 
--- Some sides are lowered, and the sums go on.
+-- Both sides are lowered, and the sums go on.
 abbrev pub matched_with : Book → Level → Sums → Book
 matched_with b o sums = record {
   code = b.code;

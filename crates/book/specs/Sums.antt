@@ -25,7 +25,7 @@ both_of None t = None
 both_of (Some turnover) None = None
 both_of (Some turnover) (Some volume) = Some (record { turnover = turnover; volume = volume })
 
--- Some sums with a match: price times volume, with its sign, and volume.
+-- Both sums with a match: price times volume, with its sign, and volume.
 unfoldable pub summed_with : Sums → Level → Totals
 summed_with s o = both_of (added_to s.turnover (o.price *ℤ pos o.quantity)) (added_to s.volume (pos o.quantity))
 

@@ -205,7 +205,6 @@ fn apply(book: Book, event: Event) -> Step
 fn walk(book: Book, tid: u32, content: &[u8]) -> Step
     ensures { result ≡ walked book (events_of book.code tid content.now) }
 {
-    let code = book.code;
     let mut current = book;
     let mut at: usize = 0;
     loop {
@@ -217,7 +216,7 @@ fn walk(book: Book, tid: u32, content: &[u8]) -> Step
             };
         }
         let end = at + n;
-        let step = apply(current, event_of(&code, tid, &content[at..end]));
+        let step = apply(current, event_of(&book.code, tid, &content[at..end]));
         if step.answer.is_err() {
             return step;
         }

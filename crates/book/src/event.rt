@@ -9,9 +9,11 @@ use crate::levels::Level;
 use ftd::bytes::be32;
 use ftd::signed::{Signed, read_float};
 
-// Stays: `buying` and `absolute` are bools, as items of Bool_Flag; the definitions of specs/Event.antt take them so.
+// Stays: `buying` and `absolute` are bools, as items of kind `BOOL_FLAG`; the definitions of specs/Event.antt take
+// them so.
 // A quotation of a side, absolute or an increment; a match; or nothing. Price and volume stand as a level, an increment
 // as the unsigned number in its four bytes.
+// Stays: three outcomes, as specs/Event.antt names them; an Option round the other two would nest them.
 #[derive(Clone, Copy)]
 pub enum Event {
     Nothing,

@@ -48,8 +48,7 @@ fn is_better(buying: bool, a: Level, b: Level) -> bool
 pub(crate) fn place_of(side: Side, buying: bool, new: Level) -> usize
     ensures { (result ≡ place_in buying new.price side.levels) × (result ≤ 64) }
 {
-    let levels = side.levels;
-    levels
+    side.levels
         .iter()
         .position(|&one| one.quantity == 0 || !is_better(buying, one, new))
         .unwrap_or(64)

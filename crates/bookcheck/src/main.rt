@@ -68,15 +68,14 @@ fn print_outcome(rt: &impl Print, answer: Result<(), Refusal>) -> io::Result<()>
 
 // An answer, and what the book shows.
 fn print_step(rt: &impl Print, step: Step) -> io::Result<Book> {
-    let book = step.book;
     print_outcome(rt, step.answer)?;
-    print_side(rt, book, true)?;
+    print_side(rt, step.book, true)?;
     print(rt, b"|")?;
-    print_side(rt, book, false)?;
+    print_side(rt, step.book, false)?;
     print(rt, b"|")?;
-    print_mean(rt, book)?;
+    print_mean(rt, step.book)?;
     print(rt, b"\n")?;
-    Ok(book)
+    Ok(step.book)
 }
 
 // A call on the book.

@@ -124,7 +124,7 @@ pub(crate) fn receiver_numbers(e: Receiver) -> FtdReceiver
         login: 0,
         chain: 0,
     }; 8];
-    // Stays a loop: `array::from_fn` was tried, and of a call at a place its contract leaves open what the closure
+    // Stays: a loop; `array::from_fn` was tried, and of a call at a place its contract leaves open what the closure
     // holds then.
     for (i, one) in all.iter_mut().enumerate() {
         *one = numbers(e.kept.series[i], e.live.series[i]);
@@ -200,8 +200,8 @@ pub extern "C" fn ftd_confirm_login(end: FtdReceiver, series: u16, packet: &[u8]
     confirmed(receiver_numbers(step.end), step.answer)
 }
 
-// Stays: a match, here and of `Kind` and `Mode`, since the enums are those of other crates, and the numbers the C
-// interface's.
+// Stays: a match, here and of `Kind` and `Mode`: the numbers are those of the C interface (include/ftd.h), not the
+// enums'.
 // Where the content lies: 0 in the packet, 1 in the reassembly buffer.
 pub(crate) fn origin_number(o: Origin) -> u8
     ensures { result ≡ origin_number o }

@@ -87,7 +87,8 @@ pub struct FtdSentPacket {
 }
 
 // Stays: no `From` for the conversions here, as a part, a message, a calendar, a book and named places have it:
-// tests/copies.py (Request No. 6) follows calls out of Send by their names, and `into` has none that it knows.
+// tests/copies.py (Request No. 6) follows calls out of Send by their names, and `into` has none that it knows; the
+// other direction keeps its name beside it.
 // The end that the numbers say.
 pub(crate) fn sender_for(s: FtdSender) -> Sender
     ensures { result ≡ sender_for s }
@@ -142,7 +143,8 @@ pub(crate) fn sender_numbers(e: Sender) -> FtdSender
         series: 0,
         login: 0,
     }; 8];
-    // Stays filled by place: it takes of two arrays at once, and tests/copies.py (Request No. 6) follows no `iter_mut`
+    // Stays: filled by place, since it takes of two arrays at once, and tests/copies.py (Request No. 6) follows no
+    // `iter_mut`
     // out of Send; of `array::from_fn`, see `receiver_numbers`.
     for i in 0..8 {
         all[i] = served(e.day.series[i], e.seat.places[i]);

@@ -14,25 +14,18 @@ pub struct FtdDate {
     pub dated: u8,
 }
 
-// Stays: a match here and in `date`; tests/copies.py (Request No. 6) follows no `is_some` or `unwrap_or` out of Send.
 // 1 where there is a trade date.
 pub(crate) fn dated(d: Option<u32>) -> u8
     ensures { result ≡ dated_flag d }
 {
-    match d {
-        None => 0,
-        Some(_) => 1,
-    }
+    flag_of(d.is_some())
 }
 
 // The trade date; 0 where there is none.
 pub(crate) fn date(d: Option<u32>) -> u32
     ensures { result ≡ date_of d }
 {
-    match d {
-        None => 0,
-        Some(x) => x,
-    }
+    d.unwrap_or(0)
 }
 
 // The trade date that a number says there is, or none.

@@ -94,7 +94,7 @@ fields_of run = (cut_of run).fields
 unfoldable pub is_whole : List ℕ → Bool
 is_whole run = ended (cut_of run)
 
--- ─── some_front i, and the first field with a tag, in a list of fields that starts at `at` ───
+-- ─── Field i, and the first field with a tag, in a list of fields that starts at `at` ───
 
 -- `some_front tag start len`: the place of the text.
 abbrev pub place_in : ℕ → List Given → ℕ → MaybeFront

@@ -29,7 +29,8 @@ pub struct Front {
 }
 
 // The length tag of a data tag; 0 for every other tag.
-// Stays: 0 for none is what `length_tag` of specs/Fields.antt says, and `no_last` for a field that none stands before.
+// Stays: 0 for none is what `length_tag` of specs/Fields.antt says, and `no_last` for a field that none stands
+// before.
 #[tactic(auto, unfolding(crate::specs::Fields::length_tag))]
 fn length_tag(tag: u32) -> u32
     ensures { result ≡ length_tag tag }
@@ -158,8 +159,7 @@ pub fn first_field(run: &[u8], tag: u32) -> Option<Front>
 pub fn number_at(run: &[u8], tag: u32) -> u32
     ensures { (result ≡ number_at tag (fields_of run.now)) × (result ≤ 999999999) }
 {
-    match first_field(run, tag) {
-        None => 0,
-        Some(Front { start, len, .. }) => number_in(&run[start..start + len]).unwrap_or(0),
-    }
+    first_field(run, tag)
+        .and_then(|one| number_in(&run[one.start..one.start + one.len]))
+        .unwrap_or(0)
 }

@@ -29,6 +29,8 @@ pub struct Message {
 }
 
 // How a frame is judged.
+// Stays: five outcomes that callers tell apart in one match, as specs/Read.antt names them; a Result round them
+// would nest it.
 #[derive(Clone, Copy)]
 pub enum Judged {
     Refused(Refusal),
@@ -75,15 +77,13 @@ fn message_of(b: &[u8], name: Span, fields: Span, kind: Kind, fill: bool) -> Mes
     requires { fields.start + fields.len ≤ length b.now }
     ensures { (result ≡ message_with b.now name fields kind fill) × (result.number ≤ 999999999) }
 {
-    let start = fields.start;
-    let end = start + fields.len;
-    let run = &b[start..end];
+    let run = &b[fields.start..fields.start + fields.len];
     let one = first_tag(kind);
     let two = second_tag(kind);
     let number = number_at(run, MSG_SEQ_NUM);
     let first = number_at(run, one);
     let second = number_at(run, two);
-    let text = moved(start, first_field(run, one));
+    let text = moved(fields.start, first_field(run, one));
     Message {
         kind,
         name,
@@ -140,12 +140,8 @@ fn read_framed(b: &[u8], name: Span, fields: Span, expected: u32) -> Reading
     requires { (name.start + name.len ≤ length b.now) × (fields.start + fields.len ≤ length b.now) }
     ensures { result ≡ framed_of b.now expected (if_whole b.now (some_frame name fields)) }
 {
-    let from = name.start;
-    let past = from + name.len;
-    let kind = kind_of(&b[from..past]);
-    let start = fields.start;
-    let end = start + fields.len;
-    let w = walk(&b[start..end], kind);
+    let kind = kind_of(&b[name.start..name.start + name.len]);
+    let w = walk(&b[fields.start..fields.start + fields.len], kind);
     if !w.whole || numbers_wrong(kind, w.tally) {
         return refused(expected, Refusal::NotOneFrame);
     }

@@ -176,13 +176,12 @@ fn is_own_wrong(tag: u32, n: u8) -> bool
 fn session_wrong(kind: Kind, t: Tally) -> bool
     ensures { result ≡ session_wrong kind t }
 {
-    if is_other(kind) {
-        return false;
-    }
-    if t.sender != 1 || t.target != 1 || t.time != 1 {
-        return true;
-    }
-    is_own_wrong(first_tag(kind), t.one) || is_own_wrong(second_tag(kind), t.two)
+    !is_other(kind)
+        && (t.sender != 1
+            || t.target != 1
+            || t.time != 1
+            || is_own_wrong(first_tag(kind), t.one)
+            || is_own_wrong(second_tag(kind), t.two))
 }
 
 // 29: a required tag missing, it or the flag twice.

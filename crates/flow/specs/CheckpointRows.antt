@@ -29,7 +29,7 @@ saving c name = saved_said (keep_of c (at_last 7) name).answer
 abbrev pub returning : Checkpoints → List ℕ → Said
 returning c name = restored_said (restore_of c (at_last 7) name).answer
 
--- Some last 7, within a chain: 4,070 bytes in one piece.
+-- At last 7, within a chain: 4,070 bytes in one piece.
 abbrev pub chained : Receiver
 chained = with_series (at_last 7) 1 (Some 7) 7 (holding tid 4070 1)
 

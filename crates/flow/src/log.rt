@@ -20,6 +20,7 @@ pub(crate) struct EntryPlace {
 
 // What the walk does with an entry: it is wrong; it is the one wanted; or it is passed, with its series' place and its
 // number.
+// Stays: three outcomes, as `checked` of specs/Helpers.antt names them; an Option round two of them would nest.
 #[derive(Clone, Copy)]
 pub(crate) enum EntryStep {
     Wrong,

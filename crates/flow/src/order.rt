@@ -9,6 +9,8 @@ use ftd::bytes::{be16, be32};
 use ftd::refusal::Refusal;
 
 // The same; the first, or the second, is a start of the other; or the first number with another TID or content.
+// Stays: five outcomes that callers tell apart in one match, as specs/Order.antt names them; a Result round them
+// would nest it.
 #[derive(Clone, Copy)]
 pub enum Order {
     Same,
@@ -18,7 +20,7 @@ pub enum Order {
     Refused(Refusal),
 }
 
-// The next entry of a series: none is left, or where it lies.
+// Where the next entry of a series lies.
 #[derive(Clone, Copy)]
 pub(crate) struct NextEntry {
     pub(crate) start: usize,
@@ -98,10 +100,7 @@ fn side_by_side(l: &[u8], first: u32, m: &[u8], second: u32, series: u16) -> Ord
 fn finds_last(e: Sender, log: &[u8], series: u16, published: u32) -> bool
     ensures { result ≡ last_found e log.now series published }
 {
-    if published == 0 {
-        return true;
-    }
-    matches!(find_entry(e, log, series, published), Some(_))
+    published == 0 || find_entry(e, log, series, published).is_some()
 }
 
 // How many bytes of the used part are there.

@@ -114,9 +114,8 @@ fn complete(
     ensures { result ≡ one_completing kept h origin content target }
 {
     let now = KeptSeries {
-        series: kept.series,
-        date: kept.date,
         last: h.number,
+        ..kept
     };
     let answer = Received::Complete {
         last: h.number,
@@ -197,14 +196,12 @@ fn take_piece(
     if wrong_piece(live, h, place) {
         return drop_chain(kept, Received::Refused(Refusal::BrokenChain));
     }
-    let held = live.held;
-    let pieces = live.pieces;
-    let more = at.len;
+    let LiveSeries { held, pieces, .. } = live;
     match h.chain {
         Chain::Single => complete(kept, h, Origin::Packet, at, None),
-        Chain::First => hold(kept, i, count, h, 0, 0, false, more, size),
-        Chain::Middle => hold(kept, i, count, h, held, pieces, false, more, size),
-        Chain::Last => hold(kept, i, count, h, held, pieces, true, more, size),
+        Chain::First => hold(kept, i, count, h, 0, 0, false, at.len, size),
+        Chain::Middle => hold(kept, i, count, h, held, pieces, false, at.len, size),
+        Chain::Last => hold(kept, i, count, h, held, pieces, true, at.len, size),
     }
 }
 

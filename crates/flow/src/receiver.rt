@@ -109,6 +109,8 @@ pub enum Origin {
 
 // What Receive answers: nothing of a message; again; a fragment is held; handed on. Each but the first with the series'
 // last number.
+// Stays: five outcomes that callers tell apart in one match, as specs/Receiving.antt names them; a Result round
+// them would nest it.
 #[derive(Clone, Copy)]
 pub enum Received {
     Idle,
@@ -218,6 +220,8 @@ pub fn copy_piece(target: Option<usize>, content: &[u8], buffer: &mut [u8])
 
 impl Kept {
     // The first place of a series among the open ones.
+    // Stays: like `place` of `Day` and `Checkpoints` but for the field compared; one function for all would take the
+    // array, the count and a closure, and be no plainer than the chain.
     fn place(&self, series: u16) -> Option<usize>
         ensures { result ≡ position (λ (x : KeptSeries). x.series == series)
             (take self.now.count self.now.series) }

@@ -10,6 +10,7 @@ use crate::sender::{Day, DaySeries};
 pub(crate) fn wrong_reserves(series: &[u16], reserves: &[usize], log: &[u8]) -> bool
     ensures { result ≡ wrong_reserves series.now reserves.now log.now }
 {
+    // Stays: a return of its own, since the loop below is no operand of `||`.
     if reserves.len() != series.len() {
         return true;
     }

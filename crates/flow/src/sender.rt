@@ -198,6 +198,7 @@ impl Sender {
         + ftd::chain::MOST_PACKETS * ftd::chain::OVERHEAD;
 
     // The limits, as a promise.
+    // Stays: apart from `Receiver::limits`, since each end gives its own constants; there is nothing else to share.
     pub fn limits() -> Limits
         ensures { result ≡ sender_limits }
     {

@@ -32,7 +32,7 @@ pub enum ReceivedSeveral {
 
 // What a bufferful of records comes to: all are in; so many bytes are missing of the rest; or a record is refused, and
 // those before it are in.
-// Stays: as above.
+// Stays: three outcomes; in a Result<Option<usize>, Refusal> the end would be a None, and missing bytes a success.
 #[derive(Clone, Copy)]
 pub enum PublishedSeveral {
     End,
@@ -70,6 +70,8 @@ pub fn packet_size(s: &[u8], at: usize) -> usize
 }
 
 // No packet stands whole there: end where nothing is left, else short.
+// Stays: like `records_rest` but for the answer's type and the bytes missing; one function for both would take both
+// answers and the count as arguments, and be no shorter.
 pub fn packets_rest(p: &[u8]) -> ReceivedSeveral
     ensures { result ≡ rest_of receiving p.now }
 {

@@ -2,3 +2,4 @@
 pub mod KnownTags
 pub mod Walk
 pub mod Turns
+pub mod Listed

@@ -46,7 +46,7 @@ exactly r count = ended r && eqb (length r.entries) count
 unfoldable pub exact_run : List ℕ → ℕ → Bool
 exact_run content count = exactly (run_of field content) count
 
--- ─── some_field i, counted from 0 ───
+-- ─── Field i, counted from 0 ───
 
 -- In a list of fields that starts at `at`: FID, and place and length of the bytes without FID and length.
 abbrev pub field_in : ℕ → List (List ℕ) → ℕ → MaybeField

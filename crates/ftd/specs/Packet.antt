@@ -269,7 +269,7 @@ is_short (Skipped kind extension body) = false
 is_short (Message h extension content) = false
 is_short (Refused r) = false
 
--- ─── some_field i of a packet ───
+-- ─── Field i of a packet ───
 
 -- The fields of a message packet, each with FID and length; bytes that are no message packet have none.
 abbrev pub fields_within : List ℕ → Packet → List (List ℕ)
@@ -287,7 +287,7 @@ abbrev pub moved_by : ℕ → MaybeField → MaybeField
 moved_by base None = None
 moved_by base (Some found) = some_field found.fid (base + found.start) found.len
 
--- some_field i, counted from 0: FID, place in the packet and length of its bytes without FID and length; else no field.
+-- Field i, counted from 0: FID, place in the packet and length of its bytes without FID and length; else no field.
 abbrev pub field_within : List ℕ → Packet → ℕ → MaybeField
 field_within p (Short n) i = None
 field_within p (Link kind extension) i = None

@@ -44,7 +44,8 @@ pub fn size32(x: u32) -> usize
     x as usize
 }
 
-// Stays: tests/copies.py reads each function of a Send, and takes no from_be_bytes or to_be_bytes; so do the next four.
+// Stays: tests/copies.py reads each function of a Send, and takes no from_be_bytes or to_be_bytes; of be32,
+// put16 and put32 too.
 // The number in the two bytes from a place on.
 pub fn be16(s: &[u8], at: usize) -> u16
     requires { at + 2 ≤ length s.now }
@@ -92,7 +93,8 @@ pub fn put32(out: &mut [u8], at: usize, x: u32)
     out[at + 3] = (x % 256) as u8;
 }
 
-// Stays: tests/copies.py reads each function of a Send, and takes no copy_from_slice.
+// Stays: tests/copies.py reads each function of a Send, and takes no copy_from_slice; an enumerate would be no
+// plainer.
 // Bytes are copied to a place.
 pub fn copy_at(out: &mut [u8], at: usize, src: &[u8])
     requires { at + length src.now ≤ length out.old }

@@ -16,6 +16,8 @@ use crate::write::WriteError;
 
 // The value of an item; or its bytes are none; or there is no such item, or it is not there whole. Of a text, trailing
 // spaces aside, the place within the field's bytes.
+// Stays: nine outcomes that callers tell apart in one match, as specs/Item.antt names them; a Result round them
+// would nest it.
 #[derive(Clone, Copy)]
 pub enum FieldItem {
     NoItem,

@@ -2,7 +2,8 @@
 ghost use Rattle.std.specs.Prelude.{◌≡◌};
 ghost use Rattle.ftd.specs.Table.{kinds};
 
-// Stays: numbers, not an enum: is_value, char_fits, read_char and write_char take any u8 and say what each answers, and
+// Stays: numbers, not an enum: is_value, char_fits, read_char and write_char take any u8 and say what each answers,
+// and
 // `all` gives the numbers as `kinds` of specs/Table.antt has them.
 // Table 6: Char without an enumeration, Word, Int, String, Number, Float; and Date, which is FTDDate of Appendix B
 // alone.

@@ -50,6 +50,8 @@ pub struct Header {
 }
 
 // What the bytes from the front of a slice are.
+// Stays: five outcomes that callers tell apart in one match, as specs/Packet.antt names them; a Result round them
+// would nest it.
 #[derive(Clone, Copy)]
 pub enum Packet {
     // Bytes are missing: so many for certain.
@@ -80,6 +82,8 @@ pub struct Dated {
 }
 
 // What they are, without values and places.
+// Stays: five outcomes that callers tell apart in one match, as specs/Packet.antt names them; a Result round them
+// would nest it.
 #[derive(Clone, Copy)]
 pub enum Verdict {
     TooFew,

@@ -12,6 +12,8 @@ use crate::write::{WriteError, room};
 pub const FID: u32 = 0x0004;
 
 // The start field of a content.
+// Stays: four outcomes that callers tell apart in one match, as specs/Resume.antt names them; a Result round them
+// would nest it.
 #[derive(Clone, Copy)]
 pub enum Resume {
     // It has none.

@@ -3,7 +3,8 @@ ghost use Rattle.std.specs.Prelude.{◌≡◌, ◌+◌, ◌-◌, ◌≤◌, leng
 ghost use Rattle.ftd.specs.Runs.{front};
 ghost use Rattle.ftd.specs.Tags.{tag, length_right, count_kind, good_tags, tag_run_of, tag_place, TagInside};
 ghost use Rattle.ftd.specs.Tags.{trade_date_of, packet_place_of, keep_alive_of, tags_for, place_tag, tag_bytes, extension_bytes};
-ghost use Rattle.ftd.specs.Tags.Helpers.{KnownRow, data_place, SeenTag};
+ghost use Rattle.ftd.specs.Tags.Helpers.{KnownRow, data_place, SeenTag, tags_from};
+ghost use Rattle.std.specs.Iterator.{YieldsFirst, item_count};
 ghost use Rattle.ftd.specs.Bytes.{put};
 
 use crate::bytes::{be16, be32, put8, put16, put32, size8};
@@ -17,6 +18,14 @@ static LENGTH: [u8; 8] = [0, 4, 1, 1, 0, 4, 2, 2];
 pub struct TagRun {
     pub date: Option<u32>,
     pub place: Option<u16>,
+}
+
+// A tag of an extension: its kind, and where its data lies.
+#[derive(Clone, Copy)]
+struct TagPlace {
+    kind: u8,
+    start: usize,
+    len: usize,
 }
 
 // How many bytes the tag at a place takes; 0 where none stands there whole.
@@ -35,6 +44,42 @@ pub fn tag_size(extension: &[u8], at: usize) -> usize
         return 0;
     }
     n
+}
+
+// The tags of an extension, in order, up to the first place where none stands whole.
+#[derive(Drop)]
+struct Tags<'a> {
+    extension: &'a [u8],
+    at: usize,
+}
+
+impl<'a> Iterator for Tags<'a> {
+    type Item = TagPlace;
+
+    ghost next_gives = { YieldsFirst (λ s. tags_from s.extension.now s.at) };
+
+    ghost remaining = { item_count (λ s. tags_from s.extension.now s.at) };
+
+    fn next(&mut self) -> Option<TagPlace> {
+        let n = tag_size(self.extension, self.at);
+        if n == 0 {
+            return None;
+        }
+        let found = TagPlace {
+            kind: self.extension[self.at],
+            start: self.at + 2,
+            len: n - 2,
+        };
+        self.at += n;
+        Some(found)
+    }
+}
+
+// Those of the whole extension.
+fn each_tag(extension: &[u8]) -> Tags<'_>
+    ensures { (result.extension.now ≡ extension.now) × (result.at ≡ 0) }
+{
+    Tags { extension, at: 0 }
 }
 
 // The row of a kind in the table: the first seven kinds are their rows, the last is 0x70; 8 where it has none.
@@ -103,6 +148,7 @@ fn seen_place(extension: &[u8], places: usize, place: usize) -> Option<u16>
     Some(be16(extension, place))
 }
 
+// Stays: it asks where the tags end too, which `Tags` does not yield.
 // The extension check, the trade date and the packet's place, in one walk: tags end with the extension, known ones have
 // their lengths, 0x05 and 0x70 stand once at most.
 pub fn read_tags(extension: &[u8]) -> Option<TagRun>
@@ -148,20 +194,10 @@ pub fn good_tags(extension: &[u8]) -> bool
 pub fn find_tag(extension: &[u8], kind: u8) -> Option<Span>
     ensures { (result ≡ tag_place extension.now kind) × TagInside extension.now result }
 {
-    let mut at: usize = 0;
-    loop {
-        let n = tag_size(extension, at);
-        if n == 0 {
-            return None;
-        }
-        if extension[at] == kind {
-            return Some(Span {
-                start: at + 2,
-                len: n - 2,
-            });
-        }
-        at += n;
-    }
+    each_tag(extension).find(|t| t.kind == kind).map(|t| Span {
+        start: t.start,
+        len: t.len,
+    })
 }
 
 // The trade date that the extension bears: the first tag 0x05, if it has its four bytes.

@@ -14,7 +14,8 @@ use ftd::packet::{Packet, letter, read, said_length};
 use ftd::refusal::number;
 use ftd::tags::keep_alive;
 
-// Stays: three outcomes that callers tell apart, with other values each, as `answer_of` of specs/Lines.antt names them.
+// Stays: three outcomes that callers tell apart, with other values each, as `answer_of` of specs/Lines.antt names
+// them.
 // What became of a line: too little room for it, the last one with its length, or its length and where the next packet
 // starts.
 #[derive(Clone, Copy)]

@@ -18,7 +18,8 @@ pub fn take_line(input: &[u8], at: usize, line: &mut [u8], have: usize) -> Taken
         × (line_taken result.at result.have result.whole line.new
         ≡ take_line_of input.now at line.old have) }
 {
-    // Stays: a `for` over `at..input.len()` would have to answer `at.max(input.len())`, since a place behind the input
+    // Stays: a `for` over `at..input.len()` would have to answer `at.max(input.len())`, since a place behind the
+    // input
     // is answered as it came; that is no plainer.
     let mut i = at;
     let mut n = have;

@@ -9,7 +9,8 @@ ghost use Rattle.play.specs.Words.{wide_in, up_to_colon, series_in, reserve_in, 
 ghost use Rattle.play.specs.Words.{share_count, series_at, reserve_at, reserves_from, name_in, has_name};
 
 // A number above all that four bytes hold stands for a word that says none.
-// Stays: no `Option<u32>`, since the definitions (`number_in`, `no_number`, `tid_in`, `series_in`) give a number above
+// Stays: no `Option<u32>`, since the definitions (`number_in`, `no_number`, `tid_in`, `series_in`) give a number
+// above
 // every limit, so that a call's one comparison with its limit refuses a word that says none too.
 pub const NO_NUMBER: u64 = 4294967296;
 

@@ -117,7 +117,7 @@ module _ (d s : ℕ) (m : Message) (P : List (Dated Message)) where
       let a = or-neither (eqb x.series s) (member s (map number_in xs)) q in
       (h.0, h.1 ∙ sym (there x.series (eqb-false x.series s a.0)), others xs rs a.1 h.2)
 
-  -- Some the place of series s, with its bytes and those of the entry.
+  -- At the place of series s, with its bytes and those of the entry.
   entry-books : (n : ℕ) (l : List DaySeries) (rs : List ℕ) (y : DaySeries)
       → differing (map number_in (take n l)) ≡ true → member s (map number_in (take n l)) ≡ true
       → y.series ≡ s → y.reserve ≡ (get_or l (index_of s (map number_in (take n l))) no_series).reserve

@@ -55,7 +55,7 @@ set_own (a ∷ l) (suc i) d = ap (λ (k : List _). a ∷ k) (set_own l i d)
 abbrev names : List KeptSeries → List ℕ
 names l = map (λ (x : KeptSeries). x.series) l
 
--- Some a series' place stands that series.
+-- At a series' place stands that series.
 name-at : (n : ℕ) (l : List KeptSeries) (s : ℕ) (d : KeptSeries) → member s (names (take n l)) ≡ true
     → (get_or l (index_of s (names (take n l))) d).series ≡ s
 name-at zero l s d h = clash false h refl

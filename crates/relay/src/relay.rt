@@ -64,10 +64,7 @@ fn all_reserves(reserves: &[usize]) -> [usize; 8]
 fn confirm_past(answer: Result<u32, Refusal>) -> bool
     ensures { result ≡ confirm_past answer }
 {
-    match answer {
-        Ok(_) => true,
-        Err(r) => 15 < number(r),
-    }
+    answer.err().is_none_or(|r| 15 < number(r))
 }
 
 // Answer: 15 for a trade date before the day open below.

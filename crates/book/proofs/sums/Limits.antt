@@ -30,7 +30,7 @@ abs-product : (p : ℤ) (v : ℕ) → nat_abs (p *ℤ pos v) ≡ nat_abs p * v
 abs-product (pos a) v = refl
 abs-product (negsuc a) v = abs_neg (suc a * v)
 
--- Some times volume stays far below 64 bits.
+-- Price times volume stays far below 64 bits.
 pub product_small : (p : ℤ) (v : ℕ) → nat_abs p ≤ 99999999999 → v ≤ 1000000 → nat_abs (p *ℤ pos v) ≤ 99999999999000000
 product_small p v h k = rw (abs-product p v) (mul-le-mul h k)
 

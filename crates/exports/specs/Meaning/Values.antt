@@ -220,7 +220,7 @@ pub record ValueLaws : Type 0 where
   pub keep-alive : (b : Bool) → bool_for (flag b) ≡ b
   -- Fields, the content check, a message's size and every writer.
   pub field : (x : MaybeField) → field_by (field_numbers x) ≡ x
-  -- (Some a place that the caller knows: FID, length and that many bytes, or not all of them.)
+  -- (At a place that the caller knows: FID, length and that many bytes, or not all of them.)
   pub step : (content : List ℕ) (at : ℕ) → 6 + be16_of content (at + 4) ≤ length content - at
       → step_of content at ≡ record { len = be16_of content (at + 4); fid = be32_of content at; found = 1 }
   pub no_step : (content : List ℕ) (at : ℕ) → length content - at < 6 + be16_of content (at + 4)

@@ -20,9 +20,10 @@ use Rattle.fix.proofs.fields.Fronts.{front-inside}
 use Rattle.fix.proofs.fields.Cuts.{cut-over, text-length, cut-next}
 use Rattle.std.specs.Prelude.{Some, None}
 use Rattle.std.specs.Option.{unwrap_or}
+use Rattle.fix.specs.declared.fields.Front.{Front}
 use Rattle.fix.specs.Types.{MaybeFront, some_front}
 
--- ─── some_front i ───
+-- ─── Field i ───
 
 pub place-start : (run : List ℕ) (i : ℕ) (last : Last) → last ≡ no_last
     → place_in 0 (cut_from last (drop 0 run)).fields i ≡ place_of run i
@@ -183,10 +184,10 @@ module _ (run : List ℕ) (tag : ℕ) (f : MaybeFront) (e : f ≡ first_of run t
       number-text tag (fields_of run)
       ∙ rw e (number-lies run (first_text tag (fields_of run)) (first_of run tag) (text-lies run tag))
 
-  pub number-none : f ≡ None → 0 ≡ number_at tag (fields_of run)
+  number-none : f ≡ None → 0 ≡ number_at tag (fields_of run)
   number-none q = sym (rw q at first-number)
 
-  pub number-some : (found start len : ℕ) → f ≡ some_front found start len → (x : Number) (n : ℕ)
+  number-some : (found start len : ℕ) → f ≡ some_front found start len → (x : Number) (n : ℕ)
       → x ≡ number_in (take (start + len - start) (drop start run)) → or_else 0 x ≤ 999999999 → n ≡ unwrap_or x 0
       → (n ≡ number_at tag (fields_of run)) × (n ≤ 999999999)
   number-some found start len q x n u h v =
@@ -197,3 +198,15 @@ module _ (run : List ℕ) (tag : ℕ) (f : MaybeFront) (e : f ≡ first_of run t
       or_zero : (y : Number) → unwrap_or y 0 ≡ or_else 0 y
       or_zero None = refl
       or_zero (Some m) = refl
+
+  pub number-chained : (x : Number) → (f ≡ None → x ≡ None)
+      → ((found : Front) → f ≡ Some found
+      → (x ≡ number_in (take (found.start + found.len - found.start) (drop found.start run))) × (or_else 0 x ≤ 999999999))
+      → (n : ℕ) → n ≡ unwrap_or x 0 → (n ≡ number_at tag (fields_of run)) × (n ≤ 999999999)
+  number-chained x none-is some-is n v = go f refl
+    where
+      go : (o : MaybeFront) → f ≡ o → (n ≡ number_at tag (fields_of run)) × (n ≤ 999999999)
+      go None q = (rw (v, none-is q) (number-none q), rw (v, none-is q) (omega arith))
+      go (Some found) q =
+          let k = some-is found q in
+          number-some found.tag found.start found.len q x n k.0 k.1 v

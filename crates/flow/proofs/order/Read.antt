@@ -28,7 +28,8 @@ use Rattle.flow.proofs.order.Logged.{some_is, suc-not, ahead-some, logged-damage
 use Rattle.flow.proofs.order.Walked.{none_left}
 use Rattle.flow.proofs.sender.Lookups.{published-at}
 use Rattle.std.specs.Prelude.{Some, None}
-use Rattle.flow.specs.Types.{MaybePlace, some_place}
+use Rattle.std.specs.Option.{is_some}
+use Rattle.flow.specs.Types.{MaybePlace}
 use Rattle.flow.specs.declared.log.EntryPlace.{EntryPlace}
 
 -- ─── The last entry ───
@@ -39,15 +40,22 @@ module _ (e : Sender) (log : List ℕ) (s n : ℕ) where
   last_none z = rw (eq-eqb n 0 z)
 
   module _ (z : n ≡ 0 → ⊥) (r : MaybePlace) (f : EntryIn (entry_of e log s n) log r) where
-    pub last-damaged : r ≡ None → false ≡ last_found e log s n
+    last-damaged : r ≡ None → false ≡ last_found e log s n
     unfolding last_found
     last-damaged q = let g : entry_of e log s n ≡ none = rw q at f in rw (ne_eqb n 0 z, g)
 
-    pub last-there : (found : EntryPlace) → r ≡ Some found → true ≡ last_found e log s n
+    last-there : (found : EntryPlace) → r ≡ Some found → true ≡ last_found e log s n
     unfolding last_found
     last-there found q =
         let g : EntryIn (entry_of e log s n) log ((Some found)) = rw q at f in
         rw (ne_eqb n 0 z, g.0)
+
+    pub last-either : is_some r ≡ last_found e log s n
+    last-either = go r refl
+      where
+        go : (o : MaybePlace) → r ≡ o → is_some o ≡ last_found e log s n
+        go None q = last-damaged q
+        go (Some found) q = last-there found q
 
 -- ─── The messages read off are the first of the series ───
 

@@ -80,7 +80,7 @@ abbrev pub GoingIn : Sender → TradeDate → List (Dated Message) → List Tran
 GoingIn e day P ts s = Going s (place_of e s) (published_of e s) day P (so_far s ts)
 
 pub record Unfinished (v : SenderSide) : Type 0 where
-  -- Some most one of a series is unfinished.
+  -- At most one of a series is unfinished.
   pub alone : (s : ℕ) → goings s v.transmissions ≤ 1
   pub going : (s : ℕ) → Seated v.end s → GoingIn v.end v.day v.published v.transmissions s
 

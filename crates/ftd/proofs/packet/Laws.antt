@@ -707,7 +707,7 @@ module _ (p : List ℕ) (h : Header) (x y : Span) (e : read_of p ≡ Message h x
   unfolding header_of
   count = rw (fields-are, (accepted p h x y e).header) (eqb-true _ _ run_is.1)
 
--- some_field i of a list of fields that starts at a place.
+-- Field i of a list of fields that starts at a place.
 place-some : (base : ℕ) (fs : List (List ℕ)) (i : ℕ) → i < length fs
     → field_in base fs i ≡ some_field (fid_of (get_or fs i [])) (base + length (joined (take i fs)) + 6)
     (length (get_or fs i []) - 6)

@@ -46,7 +46,7 @@ pub digits-length : (n x : ℕ) → length (digits_in n x) ≡ n
 digits-length zero x = refl
 digits-length (suc n) x = rw (length-append, digits-length n (x / 10)) (omega arith)
 
--- Ok put right before what has been put.
+-- Bytes put right before what has been put.
 put_front : (l : List ℕ) (at : ℕ) (a vs : List ℕ) → at + length a ≤ length l
     → put (put l (at + length a) vs) at a ≡ put l at (a ++ vs)
 unfolding put

@@ -48,7 +48,7 @@ module _ (l : List ℕ) (at n : ℕ) (e : n ≡ front tag (drop at l)) where
   unfolding tag
   tag-head z = entry-head tag some-tag l at n e z
 
-  kind_at : (n ≡ 0 → ⊥) → get_or (take n (drop at l)) 0 0 ≡ get_or l at 0
+  pub kind_at : (n ≡ 0 → ⊥) → get_or (take n (drop at l)) 0 0 ≡ get_or l at 0
   kind_at z = entry-byte l at n 0 (omega (arith, tag-head z)) ∙ rw add-zero
 
   length-at : (n ≡ 0 → ⊥) → get_or (take n (drop at l)) 1 0 ≡ get_or l (at + 1) 0

@@ -25,7 +25,7 @@ pub record Seen (l : List ℕ) (kind size at k place : ℕ) : Type 0 where
   pub none : k ≡ 0 → tag_in at (run_of tag (drop at l)).entries kind ≡ tag_place l kind
   pub one : k ≡ 1 → (tag_place l kind ≡ some_data place size) × (place + size ≤ length l)
 
--- some_data of a kind that has the right length has this size.
+-- Data of a kind that has the right length has this size.
 abbrev Sized : ℕ → ℕ → Type 0
 Sized kind size = (k len : ℕ) → k ≡ kind → length_right k len ≡ true → size ≡ len
 

@@ -139,7 +139,7 @@ pub record ReadLaws : Type 0 where
   pub whole : (p : List ℕ) (h : Header) (e c : Span) → read_of p ≡ Message h e c
       → joined (message_fields p) ≡ part p c.start c.len
   pub count : (p : List ℕ) (h : Header) (e c : Span) → read_of p ≡ Message h e c → length (message_fields p) ≡ h.fields
-  -- some_field i is field i of these: its FID, and its bytes without FID and length; from their count on there is none.
+  -- Field i is field i of these: its FID, and its bytes without FID and length; from their count on there is none.
   pub some : (p : List ℕ) (i : ℕ) → i < length (message_fields p) →
       (start : ℕ)
       × (field_of p i ≡ some_field (fid_of (get_or (message_fields p) i [])) start (length (get_or (message_fields p) i []) - 6))

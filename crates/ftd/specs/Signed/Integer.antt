@@ -1,4 +1,4 @@
--- The value of a Some or a Float as a plain signed number of units (01, "Typed items").
+-- The value of a Number or a Float as a plain signed number of units (01, "Typed items").
 use Rattle.std.specs.Prelude.{ℕ, suc, Bool, true, false, cond, ℤ, pos, negsuc, neg_ℤ, leb}
 use Rattle.ftd.specs.Types.{Integer}
 use Rattle.std.specs.Prelude.{Some, None}

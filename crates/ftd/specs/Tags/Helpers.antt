@@ -1,6 +1,8 @@
 -- What the private functions of the tags promise; only their contracts use it.
-use Rattle.std.specs.Prelude.{ℕ, ◌+◌, ◌<◌, ◌≤◌, List, map, ◌≡◌, cond, length, get_or, drop, eqb}
-use Rattle.ftd.specs.Tags.{KnownTag, known_tags, right_in, length_right, tag_place}
+use Rattle.std.specs.Prelude.{ℕ, ◌+◌, ◌-◌, ◌<◌, ◌≤◌, List, [], ◌∷◌, map, ◌≡◌, cond, length, get_or, drop, eqb}
+use Rattle.ftd.specs.Runs.{run_of}
+use Rattle.ftd.specs.Tags.{tag, tag_kind, KnownTag, known_tags, right_in, length_right, tag_place}
+use Rattle.ftd.specs.declared.tags.TagPlace.{TagPlace}
 use Rattle.std.specs.Prelude.{None}
 use Rattle.ftd.specs.Types.{some_data}
 
@@ -19,3 +21,12 @@ data_place counted kind place at = cond (eqb kind counted) (at + 2) place
 pub record SeenTag (l : List ℕ) (kind size k place : ℕ) : Type 0 where
   pub none : k ≡ 0 → tag_place l kind ≡ None
   pub one : k ≡ 1 → (tag_place l kind ≡ some_data place size) × (place + size ≤ length l)
+
+-- A list of tags that starts at `at`: of each its kind, and place and length of its data.
+abbrev pub places : ℕ → List (List ℕ) → List TagPlace
+places at [] = []
+places at (t ∷ ts) = record { kind = tag_kind t; start = at + 2; len = length t - 2 } ∷ places (at + length t) ts
+
+-- The tags from a place on.
+unfoldable pub tags_from : List ℕ → ℕ → List TagPlace
+tags_from extension at = places at (run_of tag (drop at extension)).entries

@@ -137,7 +137,7 @@ module _ (b : Relay) (p log buffer : List ℕ) (d : Decision)
       ∙ ap (λ (g : Wrote Receiver Received). by_messages (box_for b ns) p log buffer g
       (message_in (received_said p g.bytes g.answer))) (sym h.0)
 
-  -- None is handed on.
+  -- Nothing is handed on.
   pub kept-is : message_in (received_said p copied d.answer) ≡ [] → (r : ReceiveStep) (after : List ℕ)
       → KeepsBy b b.day d p buffer r after → ReceivesBox b p log buffer r log after
   kept-is q r after k = rw (k.0, k.1) λ ns. rw (box-by ns, q) (refl, refl, refl, refl, refl)

@@ -7,7 +7,6 @@ use mathlib.Core.Bool.{Bool, true, false, not, ◌||◌}
 use borrow.Author.Tests.{eq-eqb, ne_eqb, ltb-false}
 use lib.ListN.{length, length-map, length-take, take, replicate}
 use lib.Dec.{eqb, ltb}
-use Rattle.ftd.specs.Refusal.{number_of}
 use Rattle.ftd.specs.declared.refusal.Refusal.{Refusal}
 use Rattle.ftd.specs.declared.refusal.Refusal.TheVariants.{Opening, OtherDay}
 use Rattle.flow.specs.declared.sender.Sender.{Sender}
@@ -127,9 +126,6 @@ take-named (suc n) [] = refl
 take-named (suc n) (x ∷ l) = ap (λ (m : List ℕ). x.series ∷ m) (take-named n l)
 
 -- ─── Answer ───
-
-pub past_is : (a : Confirmed) (x : Refusal) (n : ℕ) → a ≡ Err x → n ≡ number_of x → ltb 15 n ≡ confirm_past a
-past_is a x n p q = rw (p, q) refl
 
 module _ (b : Relay) (ns : List ℕ) (end : Receiver) (last date : ℕ) (log : List ℕ) where
   abbrev opening : Left Sender Opened

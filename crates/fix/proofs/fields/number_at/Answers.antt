@@ -1,10 +1,10 @@
-use native.Mathlib.Omega.{arith}
-use Rattle.fix.proofs.fields.Turns.{number-none, number-some}
+use borrow.Author.Rules.{rules}
+use Rattle.fix.proofs.fields.Turns.{number-chained}
 use Rattle.fix.proofs.fields.number_at.Goals as goal
 
-pub returns-in-None : goal.returns-in-None
-returns-in-None c = (number-none _ _ _ c.first_field.ensures.0 c.in-None.is, omega arith)
-
-pub returns-in-Some : goal.returns-in-Some
-returns-in-Some c = number-some _ _ _ c.first_field.ensures.0 _ _ _ c.in-Some.is _ _
-    c.number_in.ensures.0 c.number_in.ensures.1 c.unwrap_or.ensures
+pub returns : goal.returns
+returns c =
+    number-chained c.args.run.now c.args.tag c.first_field.result c.first_field.ensures.0 _
+    (λ q. rw q at c.and_then.ensures)
+    (λ found q. let w = rw q at c.and_then.ensures in search rules)
+    _ c.unwrap_or.ensures
