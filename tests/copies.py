@@ -28,10 +28,10 @@ NUMBERS = {"u8", "u16", "u32", "u64", "usize", "i8", "i16", "i32", "i64", "isize
 TOKEN = re.compile(r'b"(?:[^"\\]|\\.)*"|b\'(?:[^\'\\]|\\.)\'|\'[A-Za-z_]\w*(?!\')|0[xX][0-9a-fA-F_]+|\d[\d_]*|[^\W\d]\w*|::|->|=>|\.\.=|\.\.|&&|\|\||[<>=!]=|\S')
 
 
-# Methods of std that look at a slice, an array, a number or an option: none makes an array of its own but `map`, which
-# makes one of as many elements as it is given.
+# Methods of std that look at a slice, an array, a number or an option: none makes an array of its own. `map` of an array
+# does, one of as many elements as it is given: Search.mapped.
 STD_METHODS = frozenset((
-    "contains", "enumerate", "is_empty", "is_some", "iter", "len", "map", "max", "min", "position", "take",
+    "contains", "enumerate", "is_empty", "is_some", "iter", "len", "max", "min", "position", "take",
     "unwrap_or", "wrapping_add",
 ))
 
@@ -344,10 +344,28 @@ class Search:
         if ts[i - 1] == "self" and owner:
             self.todo.append(f"{module}::{owner}::{name}")
             return
+        if name == "map" and name not in self.s.methods:
+            self.mapped(full, ts, i)
+            return
         known = self.s.methods.get(name)
         if not known:
             raise Unresolved(f"{full}: the method {name}")
         self.todo.extend(known)
+
+    def mapped(self, full, ts, i):
+        """`map` of an array that is a field: each array that a field of that name is has at most so many elements."""
+        field = ts[i - 1]
+        lengths = [
+            held[held.index(";", j):closing(held, j + 2) - 1][1:]
+            for _, _, held in self.s.types.values()
+            for j in range(len(held) - 2)
+            if held[j:j + 3] == [field, ":", "["]
+        ]
+        if ts[i - 2] != "." or not lengths or not all(len(n) == 1 and n[0].isdigit() for n in lengths):
+            raise Unresolved(f"{full}: the method map")
+        most = max(int(n[0]) for n in lengths)
+        if most > LIMIT:
+            self.found.append(f"{full}: an array of {most} elements made by map")
 
     def named(self, full, module, owner, path, after):
         target = self.s.resolve(module, owner, path)
@@ -411,6 +429,9 @@ PLANTED = [
     ("a parameter by value", "", "b: [u8; 65]", True),
     ("a call that leads nowhere", "elsewhere(x);", "", True),
     ("a method that is not there", "x.copy_from_slice(x);", "", True),
+    ("one that map makes of a lent one", "let c = b.map(|y| y); x[0] = c[1];", "b: &[u8; 65]", True),
+    ("one that map makes of a field", "let c = b.held.map(|y| y); x[0] = c[1];", "b: &Inner", True),
+    ("one of 8 that map makes of a field", "let c = b.kept.map(|y| y); x[0] = c[1];", "b: &Small", False),
     ("an array of 64 bytes", "let b: [u8; 64] = [0; 64]; x[0] = b[1];", "", False),
     ("an element of a static", "x[0] = LASTING[1];", "", False),
     ("a constant of 64", "x[0] = FEW[1];", "", False),
@@ -427,6 +448,7 @@ const SUMS: [u8; SIXTY + 5] = [0; SIXTY + 5];
 const FEW: [u8; 64] = [0; 64];
 pub struct Inner {{ held: [u8; 65], }}
 pub struct Held {{ one: Inner, }}
+pub struct Small {{ kept: [u16; 8], }}
 fn lent() -> usize {{ 0 }}
 fn use_it(h: usize) {{}}
 fn deep(x: &mut [u8]{', ' + parameter if parameter else ''}) {{ {code} }}

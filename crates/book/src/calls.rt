@@ -205,6 +205,8 @@ fn apply(book: Book, event: Event) -> Step
 fn walk(book: Book, tid: u32, content: &[u8]) -> Step
     ensures { result ≡ walked book (events_of book.code tid content.now) }
 {
+    // Stays: the code copied, ten bytes; lent from `book`, both books stay on the stack.
+    let code = book.code;
     let mut current = book;
     let mut at: usize = 0;
     loop {
@@ -216,7 +218,7 @@ fn walk(book: Book, tid: u32, content: &[u8]) -> Step
             };
         }
         let end = at + n;
-        let step = apply(current, event_of(&book.code, tid, &content[at..end]));
+        let step = apply(current, event_of(&code, tid, &content[at..end]));
         if step.answer.is_err() {
             return step;
         }
@@ -248,10 +250,15 @@ impl Book {
         if code.len() != 10 || !is_value(STRING, 0, code) {
             return refused(self, Refusal::Item);
         }
-        let mut book = Book::fresh();
-        book.code.copy_from_slice(code);
+        let mut bytes = [0; 10];
+        bytes.copy_from_slice(code);
         Step {
-            book,
+            book: Book {
+                code: bytes,
+                buying: no_levels(),
+                selling: no_levels(),
+                sums: no_sums(),
+            },
             answer: Ok(()),
         }
     }

@@ -58,11 +58,10 @@ fn print_mean(rt: &impl Print, book: Book) -> io::Result<()> {
 }
 
 fn print_outcome(rt: &impl Print, answer: Result<(), Refusal>) -> io::Result<()> {
-    let n = match answer {
-        Ok(()) => 0,
-        Err(r) => number(r),
+    let Err(r) = answer else {
+        return print(rt, b"0 ");
     };
-    rt.print(u64::from(n))?;
+    rt.print(u64::from(number(r)))?;
     print(rt, b" ")
 }
 

@@ -7,7 +7,7 @@ ghost use Rattle.exports.specs.Quotes.{buying_for, level_numbers, mean_numbers};
 ghost use Rattle.exports.specs.Quotes.Laws.{BookNumberLaws};
 
 use crate::written::refusal_of;
-use book::calls::Book;
+use book::calls::{Book, Step};
 use book::levels::{Level, Side};
 use book::sums::Sums;
 
@@ -104,10 +104,10 @@ pub extern "C" fn ftd_book_fresh() -> FtdBook
 pub extern "C" fn ftd_book_start(book: FtdBook, code: &[u8]) -> FtdBookStep
     ensures { result ≡ step_numbers (start_of (book_for book) code.now) }
 {
-    let step = Book::from(book).start(code);
+    let Step { book, answer } = Book::from(book).start(code);
     FtdBookStep {
-        book: step.book.into(),
-        refusal: refusal_of(step.answer),
+        book: book.into(),
+        refusal: refusal_of(answer),
     }
 }
 
@@ -116,10 +116,10 @@ pub extern "C" fn ftd_book_start(book: FtdBook, code: &[u8]) -> FtdBookStep
 pub extern "C" fn ftd_book_take(book: FtdBook, tid: u32, content: &[u8]) -> FtdBookStep
     ensures { result ≡ step_numbers (take_of (book_for book) tid content.now) }
 {
-    let step = Book::from(book).take(tid, content);
+    let Step { book, answer } = Book::from(book).take(tid, content);
     FtdBookStep {
-        book: step.book.into(),
-        refusal: refusal_of(step.answer),
+        book: book.into(),
+        refusal: refusal_of(answer),
     }
 }
 

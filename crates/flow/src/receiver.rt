@@ -271,8 +271,8 @@ impl Receiver {
     }
 
     // Where a series stands among the open ones: its first place.
-    pub(crate) fn find(self, series: u16) -> Option<usize>
-        ensures { FindsKept self series result }
+    pub(crate) fn find(&self, series: u16) -> Option<usize>
+        ensures { FindsKept self.now series result }
     {
         self.kept.place(series)
     }

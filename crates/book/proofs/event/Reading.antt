@@ -1,7 +1,7 @@
 -- What a field says, read at the places of its items. Assumes nothing.
 use Prim.Native.Nat.{ℕ, zero, suc, ◌+◌, ◌≤◌}
 use mathlib.Core.Path.{◌≡◌, refl, sym, ap, ◌∙◌}
-use mathlib.Core.List.{List}
+use mathlib.Core.List.{List, [], ◌∷◌}
 use mathlib.Core.Bool.{Bool, true, false, cond}
 use native.Mathlib.Omega.{arith}
 use borrow.Author.Tests.{ltb-true, le-leb, eq-eqb, ne_eqb}
@@ -30,6 +30,7 @@ use Rattle.book.specs.declared.event.Event.{Event}
 use Rattle.book.specs.declared.event.Event.TheVariants.{Nothing, Quotation, Match}
 use Rattle.book.specs.Types.{Price}
 use Rattle.std.specs.Prelude.{Some, None}
+use Rattle.std.specs.List.{zip, list_all}
 use Rattle.ftd.specs.Types.{some_item, MaybeSigned}
 use Rattle.ftd.specs.declared.signed.Signed.{Signed}
 
@@ -82,6 +83,16 @@ module _ (l : List ℕ) (wide : length l ≡ 12) (v : MaybeSigned) (q : v ≡ fl
     pub price-above : found.negative ≡ false → (Some price ≡ price_of l) × (nat_abs price ≤ 99999999999)
     unfolding price_of
     price-above n = (rw (same, ← q, e, n), rw same price-small)
+
+-- ─── Bytes ───
+
+-- Two lists of one length are the same where each byte is that beside it. (Only the wrong program contract_not_below of
+-- tests/wrong cites it.)
+pub same-pairs : (a b : List ℕ) → length a ≡ length b → list_all (λ p. eqb p.0 p.1) (zip a b) ≡ same_bytes a b
+same-pairs [] [] h = refl
+same-pairs [] (y ∷ b) h = absurd (omega arith)
+same-pairs (x ∷ a) [] h = absurd (omega arith)
+same-pairs (x ∷ a) (y ∷ b) h = grind (arith, same-pairs a b (omega arith))
 
 -- ─── A quotation and a match by their places ───
 

@@ -118,7 +118,7 @@ positive (pos n) t = ltb-true 0 n t
 positive (negsuc n) t = absurd (false≢true t)
 
 -- The mean of sums with a volume above zero.
-signed-fits : (s : ℤ) (n : ℕ) → SFits w64 s → n ≤ nat_abs s → SFits w64 (with_sign s n)
+pub signed-fits : (s : ℤ) (n : ℕ) → SFits w64 s → n ≤ nat_abs s → SFits w64 (with_sign s n)
 signed-fits (pos a) n f h = record { sfits = omega (arith, f.sfits) }
 signed-fits (negsuc a) zero f h = record { sfits = omega arith }
 signed-fits (negsuc a) (suc n) f h = record { sfits = omega (arith, f.sfits) }

@@ -184,10 +184,10 @@ module _ (run : List ℕ) (tag : ℕ) (f : MaybeFront) (e : f ≡ first_of run t
       number-text tag (fields_of run)
       ∙ rw e (number-lies run (first_text tag (fields_of run)) (first_of run tag) (text-lies run tag))
 
-  number-none : f ≡ None → 0 ≡ number_at tag (fields_of run)
+  pub number-none : f ≡ None → 0 ≡ number_at tag (fields_of run)
   number-none q = sym (rw q at first-number)
 
-  number-some : (found start len : ℕ) → f ≡ some_front found start len → (x : Number) (n : ℕ)
+  pub number-some : (found start len : ℕ) → f ≡ some_front found start len → (x : Number) (n : ℕ)
       → x ≡ number_in (take (start + len - start) (drop start run)) → or_else 0 x ≤ 999999999 → n ≡ unwrap_or x 0
       → (n ≡ number_at tag (fields_of run)) × (n ≤ 999999999)
   number-some found start len q x n u h v =

@@ -1,7 +1,7 @@
 -- The start of a login over the world: every login packet on the line is timed, after every list of events; so where a
 -- login is taken on day d with start k, at any later time at which the receiving end keeps d, k is at most last + 1.
 -- Assumes nothing.
-use Prim.Native.Nat.{ℕ, ◌≤◌}
+use Prim.Native.Nat.{ℕ, ◌+◌, ◌≤◌}
 use native.Mathlib.Omega.{arith}
 use mathlib.Core.Path.{◌≡◌, refl, sym, ap, ◌∙◌}
 use mathlib.Core.List.{List, [], ◌∷◌}
@@ -16,7 +16,7 @@ use Rattle.flow.specs.World
 use Rattle.flow.specs.World.{Event, World, start, step, run}
 use Rattle.flow.proofs.common.Lists.{Every, every_append, every_map, every-from}
 use Rattle.flow.proofs.packets.Requests.{request-end}
-use Rattle.flow.proofs.logins.Timely.{Reached, reached-onward, Request}
+use Rattle.flow.proofs.logins.Timely.{Reached, reached-onward, reached-here, Request}
 use Rattle.flow.proofs.source.Moves.{step-moves}
 use Rattle.flow.proofs.logins.Taken.{LoginTaken, start_at}
 use Rattle.flow.proofs.steps.Turns.{turn-onward}
@@ -198,3 +198,14 @@ reached-run s d k w h (e ∷ es) r =
     (reached-onward d k (day_of a s) (last_of a s) (day_of b s) (last_of b s)
     (turn-onward w.serving.day (is_connect e) a h.receiving.eight b _ _
     (step-turn w h.source.answers e).turn s) r)
+
+-- At any later time at which the receiving end keeps the login's day, the start is at most last + 1.
+pub start-within : {from : ℕ} (u : World) → Timely from u
+    → (e : Event) (s d : ℕ) (a : List ℕ) (t : LoginTaken u e s a)
+    → from ≤ t.place → (step u e).serving.day ≡ Some d → (fs : List Event)
+    → let w = run (step u e) fs in
+    day_of w.receiving.end s ≡ Some d → start_at t ≤ last_of w.receiving.end s + 1
+start-within u h e s d a t asked day fs q =
+    let r = reached-run s d (start_at t) (step u e) (timely-step u h e) fs (login-reached u h e s d a t asked day) in
+    let n = reached-here d (start_at t) _ (last_of (run (step u e) fs).receiving.end s) q r in
+    omega arith

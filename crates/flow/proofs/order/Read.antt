@@ -40,11 +40,11 @@ module _ (e : Sender) (log : List ℕ) (s n : ℕ) where
   last_none z = rw (eq-eqb n 0 z)
 
   module _ (z : n ≡ 0 → ⊥) (r : MaybePlace) (f : EntryIn (entry_of e log s n) log r) where
-    last-damaged : r ≡ None → false ≡ last_found e log s n
+    pub last-damaged : r ≡ None → false ≡ last_found e log s n
     unfolding last_found
     last-damaged q = let g : entry_of e log s n ≡ none = rw q at f in rw (ne_eqb n 0 z, g)
 
-    last-there : (found : EntryPlace) → r ≡ Some found → true ≡ last_found e log s n
+    pub last-there : (found : EntryPlace) → r ≡ Some found → true ≡ last_found e log s n
     unfolding last_found
     last-there found q =
         let g : EntryIn (entry_of e log s n) log ((Some found)) = rw q at f in

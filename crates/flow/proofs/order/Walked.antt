@@ -86,7 +86,7 @@ module _ (l : List ℕ) (s left at n : ℕ) (m : n ≡ front entry (drop at l)) 
 -- Where an entry lies, of a next one that is there.
 module _ (o : List Message) (s n : ℕ) (l : List ℕ) (r : MaybeEntry) (start size : ℕ) (c : NextIn o s n l r)
     (q : r ≡ some_entry start size) where
-  next-at : NextIn o s n l (some_entry start size)
+  pub next-at : NextIn o s n l (some_entry start size)
   next-at = rw q at c
 
 -- It was one of those left.

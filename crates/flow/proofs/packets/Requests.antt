@@ -8,7 +8,7 @@ use mathlib.Core.Bool.{true, false, not, ◌||◌}
 use borrow.Author.Tests.{ltb-false, not-false}
 use lib.ListN.{length, drop}
 use lib.Seq.{take-append_seam}
-use lib.Dec.{ltb, eqb}
+use lib.Dec.{T, ltb, eqb}
 use Rattle.ftd.specs.Login.{login_tid, login_header, login_bytes}
 use Rattle.ftd.specs.Fields.{shaped, count_of, packet_content}
 use Rattle.ftd.specs.Items.{wrong_width, wrong_item}
@@ -26,7 +26,7 @@ use Rattle.flow.specs.Types.{LoggedIn}
 use Rattle.flow.specs.declared.receiver.Receiver.{Receiver}
 use Rattle.flow.specs.Types.{Requested}
 use Rattle.flow.specs.Ends.{◌when◌else◌, Wrote, wrote, over, before, is_served, with_place, is_open, kept_of}
-use Rattle.flow.specs.Answers.{written, requested_said}
+use Rattle.flow.specs.Answers.{is_taken, written, requested_said}
 use Rattle.flow.specs.Serving.{wrong_run, start_of, wrong_start, login_with, login_of}
 use Rattle.flow.specs.Receiving.{next_wanted, request_of, request_bytes, request_login_of}
 use Rattle.flow.proofs.common.Rows.{by-when}
@@ -136,6 +136,12 @@ module _ (e : Receiver) (s : ℕ) (c out : List ℕ) where
   -- The end stays.
   pub request-end : Result.end ≡ e
   request-end = by-request (λ (w : Wrote Receiver Requested). w.end ≡ e) (λ r. refl) (λ a. refl)
+
+  -- Taken, its tests passed.
+  pub request-taken : T (is_taken (requested_said Result.answer)) → Asks e s c out
+  request-taken =
+      by-request (λ (w : Wrote Receiver Requested). T (is_taken (requested_said w.answer)) → Asks e s c out)
+      (λ r t. absurd t) (λ a t. a)
 
   -- What it puts on the line: nothing, or the login packet.
   pub by_written : (P : List (List ℕ) → Type 0) → P []

@@ -6,7 +6,7 @@ use mathlib.Core.List.{List, [], ◌∷◌, ◌++◌, map, append-nil}
 use mathlib.Core.Bool.{Bool, true, false}
 use borrow.Author.Tests.{eqb-true, eqb-false}
 use lib.ListN.{length, get_or, take, drop, take-append-drop, length-append, length-map, get_or-map}
-use lib.Seq.{take-suc, take_all}
+use lib.Seq.{take-suc, take_all, take-append_seam}
 use lib.Dec.{eqb}
 use Rattle.ftd.specs.Bytes.{joined}
 use Rattle.ftd.specs.Chain.{Piece, no_fields, pieces_of, chain_at}
@@ -43,6 +43,16 @@ module _ (c : List ℕ) where
 
   pub first-inside : (limit n : ℕ) → shaped c limit ≡ true → length (first_pieces c n) ≤ length c
   first-inside limit n h = omega (arith, rw length-append at (ap length (first_rest limit n h)))
+
+  -- Their number of bytes tells which they are.
+  pub first-same : (limit n k : ℕ) → shaped c limit ≡ true → length (first_pieces c n) ≡ length (first_pieces c k)
+      → first_pieces c n ≡ first_pieces c k
+  first-same limit n k h q = sym (front n) ∙ ap (λ (m : ℕ). take m c) q ∙ front k
+    where
+      front : (m : ℕ) → take (length (first_pieces c m)) c ≡ first_pieces c m
+      front m =
+          ap (take (length (first_pieces c m))) (sym (first_rest limit m h))
+          ∙ take-append_seam (first_pieces c m) (joined (drop m all))
 
 -- ─── Letters ───
 

@@ -1,7 +1,8 @@
 -- Histories of the serving side only grow. Assumes nothing.
-use Rattle.flow.specs.World.{ended_in, SenderSide}
+use mathlib.Core.List.{List}
+use Rattle.flow.specs.World.{Event, ended_in, SenderSide, World, run}
 use Rattle.flow.proofs.common.Extends.{Extends, extends-same, extends-append, extends-along}
-use Rattle.flow.proofs.source.Moves.{Move, stays, opens, publishes, logs-in, sends, sends-packet}
+use Rattle.flow.proofs.source.Moves.{Move, stays, opens, publishes, logs-in, sends, sends-packet, run-keeps}
 use Rattle.flow.proofs.common.Transmissions.{Onward, onward-same, onward-all, onward-ended, onward-append}
 use Rattle.flow.proofs.common.Transmissions.{onward-packet}
 
@@ -75,3 +76,8 @@ move-onward v u (logs-in s p content out h x c g t) = onward-ended s v.transmiss
 move-onward v u (sends s x a b c) =
     onward-append v.transmissions (ended_in s v.transmissions) _ (onward-ended s v.transmissions)
 move-onward v u (sends-packet s x a b c d) = onward-packet s _ _ v.transmissions
+
+pub run-grows : (w : World) (es : List Event) → Grown w.serving (run w es).serving
+run-grows w es =
+    run-keeps (Grown w.serving) (λ v u m g. grown-along w.serving v u g (move-grows v u m)) w es
+    (grown-same w.serving)

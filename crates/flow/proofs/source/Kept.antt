@@ -1,11 +1,12 @@
 -- Every call of the serving end keeps it right; and what that says in the words of the agreement. Assumes nothing.
-use Prim.Native.Nat.{ℕ, suc, ◌+◌}
+use Prim.Native.Nat.{ℕ, suc, ◌+◌, ◌≤◌}
 use native.Mathlib.Omega.{arith}
 use mathlib.Core.Path.{◌≡◌, ap, ◌∙◌, sym}
-use mathlib.Core.Bool.{true}
+use mathlib.Core.List.{[]}
+use mathlib.Core.Bool.{true, false}
 use lib.ListN.{length}
 use Rattle.ftd.specs.Types.{TradeDate}
-use Rattle.flow.specs.Ends.{up_to, is_served, published_of, place_of}
+use Rattle.flow.specs.Ends.{most_messages, up_to, is_served, published_of, place_of}
 use Rattle.flow.specs.World.{SenderSide}
 use Rattle.flow.specs.Agreement.{of}
 use Rattle.flow.proofs.common.Days.{up_to-rises}
@@ -55,3 +56,10 @@ module _ (v : SenderSide) (h : ServedSide v) where
   published-count s d q o =
       h.counted s o ∙ ap (λ (t : TradeDate). length (messages_of s (on_date t v.published))) q
       ∙ ap length (sym (of_is s d v.published))
+
+  -- Nothing is published on a day above the present one; on no day more than may be.
+  pub published-later : (s d : ℕ) → up_to d v.day ≡ false → of s d v.published ≡ []
+  published-later s d q = of_is s d v.published ∙ ap (messages_of s) (h.not-later d q)
+
+  pub published-few : (s d : ℕ) → length (of s d v.published) ≤ most_messages
+  published-few s d = rw (of_is s d v.published) (h.few s d)

@@ -8,11 +8,11 @@ use Rattle.book.specs.Event.{event_of}
 use Rattle.book.specs.Calls.{walked, events_of}
 use Rattle.book.proofs.calls.walk.Given as goal
 
-abbrev pub invariant-loop-book : goal.invariant-loop-book
-invariant-loop-book l =
-    (l.at ≤ length l.content) × (length l.book.code ≡ 10)
-    × (walked l.current (map (event_of l.book.code l.tid) (run_of field (drop l.at l.content)).entries)
-    ≡ walked l.initial.current (events_of l.book.code l.tid l.content))
+abbrev pub invariant-loop-code : goal.invariant-loop-code
+invariant-loop-code l =
+    (l.at ≤ length l.content) × (length l.code ≡ 10)
+    × (walked l.current (map (event_of l.code l.tid) (run_of field (drop l.at l.content)).entries)
+    ≡ walked l.initial.current (events_of l.code l.tid l.content))
 
-abbrev pub decreases-loop-book : goal.decreases-loop-book
-decreases-loop-book l = length l.content - l.at
+abbrev pub decreases-loop-code : goal.decreases-loop-code
+decreases-loop-code l = length l.content - l.at

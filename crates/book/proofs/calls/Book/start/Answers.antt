@@ -13,5 +13,5 @@ returns-then-code-ne10 c =
 
 pub returns : goal.returns
 returns c =
-    simp (c.copy_from_slice.ensures.after, c.fresh-book.ensures)
+    simp (c.copy_from_slice.ensures.after, c.no_sums.ensures, c.no_levels.ensures, c.no_levels-2.ensures)
     (start_right c.args.self c.args.code.now c.if-code-ne10.false _ c.is_value.ensures c.if-not-is_value.false)

@@ -1,17 +1,20 @@
+use mathlib.Core.Path.{◌≡◌, refl}
 use borrow.Author.Rules.{rules}
-use native.Mathlib.Omega.{arith}
-use mathlib.Core.Path.{◌≡◌, sym, ◌∙◌}
 use lib.ListN.{length}
+use Rattle.flow.proofs.common.Filled.{mapped-turn, mapped_end}
 use Rattle.flow.proofs.series.Places.{unmapped}
 use Rattle.exports.specs.Keeping.{kept_series_for}
-use Rattle.exports.proofs.Filled.{mapped}
 use Rattle.exports.proofs.keeping.CheckpointFromFtdCheckpoint.from.Goals as goal
+
+pub loop-i-init : goal.loop-i-init
+loop-i-init c = (refl, refl)
+
+pub loop-i-preserved : goal.loop-i-preserved
+loop-i-preserved c =
+    let n : length c.args.x.series ≡ 8 = search (rules, unmapped) in
+    rw c.date_for.ensures (mapped-turn 8 kept_series_for c.args.x.series n c.loop-i.all c.loop-i.i _ c.loop-i.invariant (search rules))
 
 pub returns : goal.returns
 returns c =
-    let eight : length c.args.x.series ≡ 8 = search (rules, unmapped) in
-    let long : length c.map.result ≡ 8 = c.map.ensures.items.long in
-    let each =
-    mapped kept_series_for c.args.x.series c.map.result (eight ∙ sym long)
-    (λ i d e h. let k = c.map.ensures.items.at i d e (omega arith) in search rules) in
-    rw each
+    let n : length c.args.x.series ≡ 8 = search (rules, unmapped) in
+    rw (mapped_end 8 kept_series_for c.args.x.series n c.loop-i.all c.loop-i.i c.loop-i.invariant (search rules))

@@ -23,5 +23,5 @@ finds x code (Some i) h p =
 
 pub returns : goal.returns
 returns c =
-    let four : length c.args.self.places ≡ 4 = search rules in
-    finds c.args.self c.args.name c.place.result four c.place.ensures
+    let four : length c.args.self.now.places ≡ 4 = search rules in
+    finds c.args.self.now c.args.name c.place.result four c.place.ensures

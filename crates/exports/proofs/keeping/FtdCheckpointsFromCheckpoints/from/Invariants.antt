@@ -1,0 +1,7 @@
+use mathlib.Core.List.{map}
+use Rattle.flow.proofs.common.Filled.{Filled}
+use Rattle.exports.specs.Keeping.{checkpoint_numbers}
+use Rattle.exports.proofs.keeping.FtdCheckpointsFromCheckpoints.from.Given as goal
+
+abbrev pub invariant-loop-i : goal.invariant-loop-i
+invariant-loop-i l = Filled 4 l.i (map checkpoint_numbers l.c.places) l.all
