@@ -77,7 +77,7 @@ fn brought_back(from: &Receiver, x: KeptSeries) -> KeptSeries
     }
 }
 
-// Stays: a loop; with an array made by `map` a return takes 2,078 instructions in place of 1,795.
+// Stays: a loop; with an array made by `map` a return takes 283 instructions more.
 // The end with what was kept of each of its series; login and chain of all are cleared.
 fn bring_back(end: Receiver, kept: Kept) -> Receiver
     ensures { result ≡ restored end kept }
